@@ -19,6 +19,7 @@ use Rattle.bounds.specs.declared.verdict.Boxes.{Boxes}
 use Rattle.bounds.specs.Boxes.{no_loops, no_spread, box_of, spread_box, stays, in_front, IsSpread}
 use Rattle.bounds.specs.Inference.{read_in, read_from, boxes_from, input_box, with_input, inputs_from}
 use Rattle.bounds.specs.Judging.{inputs_hold, shifts_hold, have_few_points}
+use Rattle.bounds.specs.Layout.{laid_out}
 use Rattle.bounds_laws.specs.Laws.{IsBoxed, AreBoxed, PureReadsOfInputsLie}
 use Rattle.bounds.specs.Verdict.{most_data, sized, boxes_of, judged, with_inputs, with_funcs, inferred}
 use Rattle.bounds_laws.proofs.Covering.{IsIn, HoldsAll}
@@ -47,13 +48,14 @@ module _ (pipeline : Pipeline) (schedule : Schedule) where
   pub record AreFound (boxes : Boxes) : Type 0 where
     pub funcs : boxes_from pipeline schedule (flags_of schedule.standings) 0 pipeline.funcs ≡ Some boxes.funcs
     pub inputs : inputs_from pipeline schedule (flags_of schedule.standings) boxes.funcs 0 pipeline.inputs ≡ Some boxes.inputs
+    pub layout : boxes.layout ≡ laid_out pipeline schedule boxes.funcs
 
   with_inputs_is : (funcs : List (Option SourceBox)) (found : Option (List (Option SourceBox))) (boxes : Boxes) → with_inputs pipeline schedule funcs found ≡ Ok boxes
-      → (found ≡ Some boxes.inputs) × (funcs ≡ boxes.funcs)
+      → (found ≡ Some boxes.inputs) × (funcs ≡ boxes.funcs) × (boxes.layout ≡ laid_out pipeline schedule funcs)
   with_inputs_is funcs None boxes e = absurd cc
   with_inputs_is funcs (Some inputs) boxes e =
       let is = judged_is funcs inputs boxes e in
-      (ap (λ (b : Boxes). Some b.inputs) is, ap (λ (b : Boxes). b.funcs) is)
+      (ap (λ (b : Boxes). Some b.inputs) is, ap (λ (b : Boxes). b.funcs) is, sym (ap (λ (b : Boxes). b.layout) is))
 
   with_funcs_is : (found : Option (List (Option SourceBox))) (boxes : Boxes) → boxes_from pipeline schedule (flags_of schedule.standings) 0 pipeline.funcs ≡ found
       → with_funcs pipeline schedule found ≡ Ok boxes → AreFound boxes
@@ -63,6 +65,7 @@ module _ (pipeline : Pipeline) (schedule : Schedule) where
       record {
         funcs = is ∙ ap (λ (l : List (Option SourceBox)). Some l) parts.1;
         inputs = ap (λ (l : List (Option SourceBox)). inputs_from pipeline schedule (flags_of schedule.standings) l 0 pipeline.inputs) (sym parts.1) ∙ parts.0;
+        layout = parts.2 ∙ ap (laid_out pipeline schedule) parts.1;
       }
 
   pub are_found : (boxes : Boxes) → inferred pipeline schedule ≡ Ok boxes → AreFound boxes

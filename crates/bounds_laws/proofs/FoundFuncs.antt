@@ -35,7 +35,7 @@ use Rattle.bounds_laws.proofs.Readers.{points_of, in_takes, from_takes}
 
 -- ---- what is wanted, and what is read of a Func itself, keeps to the words
 
-pixels_fit : (lasts : List ℕ) (count : ℕ) → IsFit lasts (pixels_range lasts count)
+pub pixels_fit : (lasts : List ℕ) (count : ℕ) → IsFit lasts (pixels_range lasts count)
 pixels_fit lasts count = fit_fits lasts no_base (record { low = origin; high = origin + (count - 1) }) (omega arith)
 
 wanted_by : (output : Output) (host : Option HostLoop) (test : Bool)

@@ -1,32 +1,23 @@
 -- What updates read of their own Func lies in its box, wherever the Func is computed.
-use Rattle.std.proofs.Common.{◌≡◌, ℕ, suc, ◌+◌, ◌-◌, ◌^◌, ◌<◌, Bool, true, false, not, List, [], ◌∷◌, Option, Some, None, refl, sym, ap, ◌∙◌, subst}
-use Rattle.std.specs.Prelude.{◌==◌, slice_get, if◌then◌else◌}
+use Rattle.std.proofs.Common.{◌≡◌, ℕ, ◌+◌, ◌-◌, ◌^◌, ◌<◌, Bool, true, not, List, [], ◌∷◌, Option, Some, None, refl, sym, ap, ◌∙◌, subst}
+use Rattle.std.specs.Prelude.{slice_get, if◌then◌else◌}
 use Rattle.std.specs.List.{AllByRecursion}
-use Rattle.std.proofs.lemmas.Bool.{and_parts}
 use Rattle.halide_pipeline.specs.declared.definitions.Func.{Func}
 use Rattle.halide_pipeline.specs.declared.definitions.Update.{Update}
-use Rattle.halide_pipeline.specs.declared.expressions.Expr.{Expr}
 use Rattle.halide_pipeline.specs.declared.expressions.Source.{Source}
 use Rattle.halide_pipeline.specs.declared.expressions.Source.TheVariants as sources
-use Rattle.halide_pipeline.specs.declared.expressions.Variable.{Variable}
-use Rattle.halide_pipeline.specs.declared.expressions.Variable.TheVariants as variables
-use Rattle.halide_pipeline.specs.Definitions.{dimensions, is_first_in_place, is_second_in_place}
+use Rattle.halide_pipeline.specs.Definitions.{is_first_in_place, is_second_in_place}
 use Rattle.halide_pipeline.specs.Pipelines.{Pipeline}
-use Rattle.halide_pipeline.specs.WellFormed.{IsWellFormed, IsUpdate, is_update_variable, keeps, keeps_index, is_read}
-use Rattle.halide_pipeline.proofs.Seeing.{all_both}
 use Rattle.halide_pipeline.specs.Points.{Point}
-use Rattle.bounds_inlining.specs.Inlining.{flagged}
 use Rattle.bounds_ranges.specs.declared.expressions.Asked.{Asked}
-use Rattle.bounds_ranges.specs.Bases.{no_base}
-use Rattle.bounds_ranges.specs.Expressions.{range_of}
 use Rattle.bounds_ranges.specs.Laws.{Below, Lies, AllLie}
-use Rattle.bounds_ranges.specs.Ranges.{origin, spot}
+use Rattle.bounds_ranges.specs.Ranges.{origin}
 use Rattle.bounds_ranges.proofs.Lying.{plain_lies}
 use Rattle.bounds_weights.specs.Weight.{flags_of}
 use Rattle.bounds.specs.declared.boxes.HostLoop.{HostLoop}
 use Rattle.bounds.specs.declared.boxes.SourceBox.{SourceBox}
 use Rattle.bounds.specs.declared.boxes.Spread.{Spread}
-use Rattle.bounds.specs.Asks.{second_range, update_variables, own_calls, left, second_left, right, update_asked, unplaced}
+use Rattle.bounds.specs.Asks.{update_asked, unplaced}
 use Rattle.bounds.specs.Boxes.{no_loops, lasts_of, with_read, gathered, IsSpread}
 use Rattle.bounds_laws.specs.HostLaws.{HostedOwnReadsLie}
 use Rattle.bounds.specs.Inference.{wanted, own_update, own_updates, read_from}
@@ -36,58 +27,9 @@ use Rattle.bounds_laws.proofs.Found.{no_below}
 use Rattle.bounds_laws.proofs.FoundFuncs.{wanted_fits}
 use Rattle.bounds_laws.proofs.OwnReads.{gathered_at, own_takes, partly_boxed, same_func}
 use Rattle.bounds_laws.proofs.Parts.{HoldsPart, part_more, all_keep, gathered_part}
-use Rattle.bounds_laws.proofs.PlainRanges.{IsPlain, ArePlain, fit_plain, literal_plain, update_plain, all_under}
+use Rattle.bounds_laws.proofs.HeldBases.{AreHeld, unplaced_held}
+use Rattle.bounds_laws.proofs.PlainRanges.{IsNone, none_closed, all_under}
 use Rattle.bounds_laws.proofs.UpdateReads.{update_lies}
-
--- ---- what is asked with arguments anywhere has no base
-
-abbrev Reads : Asked → Type 0
-Reads read = IsPlain read.x × IsPlain read.y
-
-second_plain : (update : Update) → IsPlain (second_range no_loops update.second)
-second_plain update = by_second update.second
-  where
-    by_second : (second : Option _) → IsPlain (second_range no_loops second)
-    by_second None = literal_plain no_loops 0
-    by_second (Some own) = fit_plain no_loops no_base (record { low = spot own.minimum; high = spot own.minimum + (own.extent - 1) }) refl
-
-variables_plain : (update : Update) (v : Variable) → IsPlain (range_of (update_variables unplaced update) v)
-variables_plain update variables.FirstArgument = fit_plain no_loops no_base (record { low = origin - 2 ^ 24; high = origin + 2 ^ 24 }) refl
-variables_plain update variables.SecondArgument = fit_plain no_loops no_base (record { low = origin - 2 ^ 24; high = origin + 2 ^ 24 }) refl
-variables_plain update variables.FirstReduction = fit_plain no_loops no_base (record { low = spot update.first.minimum; high = spot update.first.minimum + (update.first.extent - 1) }) refl
-variables_plain update variables.SecondReduction = second_plain update
-
-module _ (pipeline : Pipeline) (flags : List Bool) (rules : IsWellFormed pipeline) (place : ℕ) (func : Func) (func_is : slice_get pipeline.funcs place ≡ Some func) (at : ℕ) (update : Update)
-    (update_is : slice_get func.updates at ≡ Some update) where
-  formed_so : IsUpdate pipeline.inputs pipeline.funcs place (dimensions func) update
-  formed_so = (rules.funcs place func func_is).updates at update update_is
-
-  abbrev has : Variable → Bool
-  has = is_update_variable (dimensions func) update.second
-
-  left_plain : (e : Expr) → keeps (is_read pipeline.inputs pipeline.funcs place) has e ≡ true
-      → IsPlain (left pipeline.inputs pipeline.funcs flags place unplaced update e).range × ArePlain (left pipeline.inputs pipeline.funcs flags place unplaced update e).asked
-  unfolding left
-  left_plain e kept =
-      update_plain no_loops pipeline.inputs (flagged flags) pipeline.funcs rules.funcs place (own_calls place update) has (range_of (update_variables unplaced update)) (variables_plain update) e kept true
-
-  index_plain : (index : Option Expr) → keeps_index (is_read pipeline.inputs pipeline.funcs place) has (dimensions func) index ≡ true
-      → IsPlain (second_left pipeline.inputs pipeline.funcs flags place unplaced update index).range × ArePlain (second_left pipeline.inputs pipeline.funcs flags place unplaced update index).asked
-  index_plain None kept = (literal_plain no_loops 0, tt)
-  index_plain (Some index) kept = left_plain index (and_parts (dimensions func == 2) (keeps (is_read pipeline.inputs pipeline.funcs place) has index) kept).1
-
-  right_plain : ArePlain (right pipeline.inputs pipeline.funcs flags place unplaced update).asked
-  unfolding right
-  right_plain =
-      (update_plain no_loops pipeline.inputs (flagged flags) pipeline.funcs rules.funcs (suc place) (own_calls place update) has (range_of (update_variables unplaced update)) (variables_plain update) update.right formed_so.right false).1
-
-  asked_plain : ArePlain (update_asked pipeline.inputs pipeline.funcs flags place unplaced update)
-  unfolding update_asked
-  asked_plain =
-      let first = left_plain update.left_x formed_so.left_x in
-      let second = index_plain update.left_y formed_so.left_y in
-      all_both Reads (left pipeline.inputs pipeline.funcs flags place unplaced update update.left_x).asked _ first.1
-      (all_both Reads (second_left pipeline.inputs pipeline.funcs flags place unplaced update update.left_y).asked _ second.1 ((first.0, second.0), right_plain))
 
 -- ---- a Func at a loop gathers the same whatever loops its reader has
 
@@ -98,7 +40,7 @@ gathered_any host lasts other source first second spread (read ∷ others) =
     gathered_any host lasts other source first second (if same_source read.source source then with_read (Some host) lasts first second spread read else spread) others
 
 update_takes : (pipeline : Pipeline) (flags : List Bool) (place : ℕ) (points : List Point) (update : Update) (host : Option HostLoop) (values : List ℕ) → Below (values_for host values) (lasts_of host)
-    → ArePlain (update_asked pipeline.inputs pipeline.funcs flags place unplaced update)
+    → AreHeld IsNone (update_asked pipeline.inputs pipeline.funcs flags place unplaced update)
     → AllLie no_loops no_loops (update_asked pipeline.inputs pipeline.funcs flags place unplaced update) points
     → (spread : Spread) → IsSpread (lasts_of host) spread
     → HoldsPart (lasts_of host) (values_for host values) (not (is_first_in_place update)) (not (is_second_in_place update)) (sources.Func place) (own_update pipeline flags place host spread update) points
@@ -152,5 +94,5 @@ hosted_own_reads_lie pipeline schedule boxes rules is reader func sought func_is
         partly_boxed host (values_for host values) first second (sources.Func reader) all other found.box_is points
         (part_more (lasts_of host) (values_for host values) first second (sources.Func reader) own all (λ u v. all_keep host values below first second pipeline schedule flags_here (sources.Func reader) (reader + 1) found.behind own u v) points
         (own_takes pipeline flags_here reader host values below points first second found.func.updates at update updates_are refl refl
-        (λ spread fits. update_takes pipeline flags_here reader points update host values below (asked_plain pipeline flags_here rules reader func func_is at update update_is) asked_lie spread fits)
+        (λ spread fits. update_takes pipeline flags_here reader points update host values below (unplaced_held IsNone none_closed pipeline flags_here rules reader func func_is at update update_is) asked_lie spread fits)
         begun (wanted_fits pipeline.output reader host)))

@@ -41,7 +41,7 @@ hull_by lasts a b false both is fa fb = rw is (fit_fits lasts no_base (hull (wid
 pub hull_fits : (lasts : List ℕ) (a b : Range) → IsFit lasts a → IsFit lasts b → IsFit lasts (together lasts hull a b)
 hull_fits lasts a b fa fb = hull_by lasts a b (same_base a.base b.base) (aligned lasts a b) refl fa fb
 
-small_fit : (lasts : List ℕ) (a : Range) → IsFit lasts a → Small a.base lasts
+pub small_fit : (lasts : List ℕ) (a : Range) → IsFit lasts a → Small a.base lasts
 small_fit lasts a fits = record { more = omega (arith, fits.low, fits.ordered, fits.high); less = omega (arith, fits.low, fits.ordered, fits.high) }
 
 -- ---- what lies there

@@ -24,3 +24,12 @@ pub mod Closure
 pub mod BoxesHosted
 pub mod InViews
 pub mod LoopReads
+pub mod StandingWhere
+pub mod HeldBases
+pub mod Spans
+pub mod NormalBases
+pub mod Sides
+pub mod Least
+pub mod Asking
+pub mod Full
+pub mod Reached

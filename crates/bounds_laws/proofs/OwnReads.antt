@@ -47,6 +47,7 @@ module _ (pipeline : Pipeline) (schedule : Schedule) (boxes : Boxes) (is : infer
     pub func : Func
     pub func_is : slice_get pipeline.funcs place ≡ Some func
     pub behind : List (Option SourceBox)
+    pub later : (n : ℕ) → slice_get behind n ≡ slice_get boxes.funcs (place + 1 + n)
     pub box_is : other ≡ spread_box host (read_from pipeline schedule (flags_of schedule.standings) (place + 1) host (sources.Func place) behind (own_updates pipeline (flags_of schedule.standings) place host (wanted pipeline.output place host) func.updates))
 
   pub gathered_at : (other : Option SourceBox) → slice_get boxes.funcs place ≡ Some other → IsGathered other
@@ -57,6 +58,7 @@ module _ (pipeline : Pipeline) (schedule : Schedule) (boxes : Boxes) (is : infer
         func = at.func;
         func_is = at.func_is;
         behind = at.behind;
+        later = at.later;
         box_is = at.own_is
             ∙ ap (λ (n : ℕ). func_box pipeline schedule flags n at.func at.behind (slice_get schedule.standings n)) (omega arith)
             ∙ sought_is pipeline schedule flags boxes.funcs place at.func at.behind at.later sought there reached computed

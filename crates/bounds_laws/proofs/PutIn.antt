@@ -42,7 +42,7 @@ pair_there P (a ∷ xs) [] k x all found = absurd all
 pair_there P (a ∷ xs) (b ∷ ys) zero x all found = record { value = b; is = refl }
 pair_there P (a ∷ xs) (b ∷ ys) (suc k) x all found = pair_there P xs ys k x all.1 found
 
-pair_length : {A B : Type 0} (P : A → B → Type 0) (xs : List A) (ys : List B) → Pairwise P xs ys → length xs ≡ length ys
+pub pair_length : {A B : Type 0} (P : A → B → Type 0) (xs : List A) (ys : List B) → Pairwise P xs ys → length xs ≡ length ys
 pair_length P [] [] all = refl
 pair_length P [] (b ∷ ys) all = absurd all
 pair_length P (a ∷ xs) [] all = absurd all

@@ -1,0 +1,133 @@
+-- Boxes are the least that hold all ranges that are asked.
+--
+-- All ranges that are asked of a source, in one dimension, are a list; its box goes from the least of their lows to the greatest of
+-- their highs, in whatever order they stand. This project's own.
+use Rattle.std.specs.Prelude.{◌≡◌, ℕ, ◌+◌, ◌==◌, nat_le, Bool, true, false, if◌then◌else◌, List, [], ◌∷◌, ◌++◌, drop, map, slice_get, Option, Some, None, Ok}
+use Rattle.std.specs.List.{list_all, list_any}
+use Rattle.halide_pipeline.specs.declared.definitions.Func.{Func}
+use Rattle.halide_pipeline.specs.declared.definitions.Output.{Output}
+use Rattle.halide_pipeline.specs.declared.definitions.Update.{Update}
+use Rattle.halide_pipeline.specs.declared.expressions.Source.{Source}
+use Rattle.halide_pipeline.specs.declared.expressions.Source.TheVariants as sources
+use Rattle.halide_pipeline.specs.Definitions.{is_first_in_place, is_second_in_place}
+use Rattle.halide_pipeline.specs.Pipelines.{Pipeline}
+use Rattle.halide_pipeline.specs.WellFormed.{IsWellFormed}
+use Rattle.schedule.specs.declared.schedules.Schedule.{Schedule}
+use Rattle.schedule.specs.declared.standings.Standing.{Standing}
+use Rattle.schedule.specs.Accepted.{IsAccepted}
+use Rattle.bounds_ranges.specs.declared.expressions.Asked.{Asked}
+use Rattle.bounds_ranges.specs.declared.ranges.Ends.{Ends}
+use Rattle.bounds_ranges.specs.declared.ranges.Range.{Range}
+use Rattle.bounds_ranges.specs.Bases.{no_base, same_base}
+use Rattle.bounds_ranges.specs.Ranges.{ends_of, widened}
+use Rattle.bounds_weights.specs.Weight.{flags_of}
+use Rattle.bounds.specs.declared.boxes.HostLoop.{HostLoop}
+use Rattle.bounds.specs.declared.boxes.SourceBox.{SourceBox}
+use Rattle.bounds.specs.declared.verdict.Boxes.{Boxes}
+use Rattle.bounds.specs.Asks.{update_asked, func_asked, unplaced}
+use Rattle.bounds.specs.Boxes.{no_loops, lasts_of, taken}
+use Rattle.bounds.specs.Inference.{pixels_range}
+use Rattle.bounds.specs.Sources.{same_source}
+use Rattle.bounds.specs.Verdict.{inferred}
+use Rattle.bounds.specs.Views.{view_of}
+use Rattle.bounds_laws.specs.Laws.{host_in}
+
+-- ---- the least range that holds all of a list
+
+-- from the least of the lows to the greatest of the highs
+pub record IsSpan (own : Ends) (all : List Ends) : Type 0 where
+  pub none_lower : list_all (λ (ends : Ends). nat_le own.low ends.low) all ≡ true
+  pub none_higher : list_all (λ (ends : Ends). nat_le ends.high own.high) all ≡ true
+  pub lowest : list_any (λ (ends : Ends). ends.low == own.low) all ≡ true
+  pub highest : list_any (λ (ends : Ends). ends.high == own.high) all ≡ true
+
+-- all of one base
+abbrev pub have_one_base : List Range → Bool
+have_one_base [] = true
+have_one_base (first ∷ others) = list_all (λ (range : Range). same_base first.base range.base) others
+
+abbrev pub has_base_of : Range → List Range → Bool
+has_base_of own all = list_all (λ (range : Range). same_base own.base range.base) all
+
+-- The range holds all of these, and nothing more: over their base; or, where they have more than one, over all values of the loops.
+pub record IsLeast (lasts : List ℕ) (all : List Range) (own : Range) : Type 0 where
+  pub one_base : have_one_base all ≡ true → (has_base_of own all ≡ true) × IsSpan (ends_of own) (map ends_of all)
+  pub more_bases : have_one_base all ≡ false → (own.base ≡ no_base) × IsSpan (ends_of own) (map (widened lasts) all)
+
+-- ---- what is asked of a source in one dimension, the one that `side` has of a read
+
+module _ (side : Asked → Range) where
+  -- among these reads
+  abbrev pub asked_of : Option HostLoop → List ℕ → Source → List Asked → List Range
+  asked_of host lasts source [] = []
+  asked_of host lasts source (read ∷ others) =
+      if same_source read.source source then taken host lasts (side read) ∷ asked_of host lasts source others else asked_of host lasts source others
+
+  module _ (pipeline : Pipeline) (schedule : Schedule) where
+    -- by the updates of the Func itself, but those in which this dimension is in place
+    abbrev pub asked_by_updates : (Update → Bool) → ℕ → Option HostLoop → List Update → List Range
+    asked_by_updates is_in_place at host [] = []
+    asked_by_updates is_in_place at host (update ∷ others) =
+        (if is_in_place update then [] else asked_of host no_loops (sources.Func at) (update_asked pipeline.inputs pipeline.funcs (flags_of schedule.standings) at unplaced update))
+        ++ asked_by_updates is_in_place at host others
+
+    abbrev pub asked_by_func : ℕ → SourceBox → Option HostLoop → Source → Option Func → List Range
+    asked_by_func reader view host source None = []
+    asked_by_func reader view host source (Some func) =
+        asked_of host view.lasts source (func_asked pipeline.inputs pipeline.funcs (flags_of schedule.standings) reader view func)
+
+    abbrev pub asked_by : ℕ → Option HostLoop → Source → Option SourceBox → List Range
+    asked_by reader host source None = []
+    asked_by reader host source (Some own) =
+        asked_by_func reader (view_of (slice_get schedule.funcs reader) (slice_get schedule.standings reader) own host) host source (slice_get pipeline.funcs reader)
+
+    -- by the Funcs from a place on, which have these boxes
+    abbrev pub asked_from : ℕ → Option HostLoop → Source → List (Option SourceBox) → List Range
+    asked_from reader host source [] = []
+    asked_from reader host source (first ∷ others) = asked_by reader host source first ++ asked_from (reader + 1) host source others
+
+-- the output's picture, of so many pixels
+abbrev pub wanted_of : Output → ℕ → Option HostLoop → ℕ → List Range
+wanted_of output at host count = if at == output.func then pixels_range (lasts_of host) count ∷ [] else []
+
+-- of the Func at a place: as picture, by its own updates, by later Funcs
+abbrev pub columns_asked : Pipeline → Schedule → List (Option SourceBox) → ℕ → Option HostLoop → Func → List Range
+columns_asked pipeline schedule boxes at host func =
+    wanted_of pipeline.output at host pipeline.output.width
+    ++ (asked_by_updates (λ read. read.x) pipeline schedule is_first_in_place at host func.updates
+    ++ asked_from (λ read. read.x) pipeline schedule (at + 1) host (sources.Func at) (drop (at + 1) boxes))
+
+abbrev pub rows_asked : Pipeline → Schedule → List (Option SourceBox) → ℕ → Option HostLoop → Func → List Range
+rows_asked pipeline schedule boxes at host func =
+    wanted_of pipeline.output at host pipeline.output.height
+    ++ (asked_by_updates (λ read. read.y) pipeline schedule is_second_in_place at host func.updates
+    ++ asked_from (λ read. read.y) pipeline schedule (at + 1) host (sources.Func at) (drop (at + 1) boxes))
+
+-- ---- the boxes
+
+-- It is the least in both dimensions, over the loops of its host.
+pub record IsLeastBox (host : Option HostLoop) (columns rows : List Range) (own : SourceBox) : Type 0 where
+  pub lasts_are : own.lasts ≡ lasts_of host
+  pub columns_are : IsLeast (lasts_of host) columns own.x
+  pub rows_are : IsLeast (lasts_of host) rows own.y
+
+-- That of a Func is the least that holds what is asked of it.
+abbrev pub FuncBoxesAreLeast : Type 0
+FuncBoxesAreLeast = (pipeline : Pipeline) (schedule : Schedule) (boxes : Boxes) → IsWellFormed pipeline → IsAccepted pipeline schedule → inferred pipeline schedule ≡ Ok boxes
+    → (at : ℕ) (func : Func) (standing : Standing) (own : SourceBox)
+    → slice_get pipeline.funcs at ≡ Some func → slice_get schedule.standings at ≡ Some standing → slice_get boxes.funcs at ≡ Some (Some own)
+    → let host = host_in schedule boxes.funcs standing.place in
+    IsLeastBox host (columns_asked pipeline schedule boxes.funcs at host func) (rows_asked pipeline schedule boxes.funcs at host func) own
+
+-- So is that of an input.
+abbrev pub InputBoxesAreLeast : Type 0
+InputBoxesAreLeast = (pipeline : Pipeline) (schedule : Schedule) (boxes : Boxes) → IsWellFormed pipeline → inferred pipeline schedule ≡ Ok boxes
+    → (place : ℕ) (own : SourceBox) → slice_get boxes.inputs place ≡ Some (Some own)
+    → IsLeastBox None (asked_from (λ read. read.x) pipeline schedule 0 None (sources.Input place) boxes.funcs)
+    (asked_from (λ read. read.y) pipeline schedule 0 None (sources.Input place) boxes.funcs) own
+
+-- One that has no box isn't asked for.
+abbrev pub InputsWithoutBoxes : Type 0
+InputsWithoutBoxes = (pipeline : Pipeline) (schedule : Schedule) (boxes : Boxes) → inferred pipeline schedule ≡ Ok boxes
+    → (place : ℕ) → slice_get boxes.inputs place ≡ Some None
+    → asked_from (λ read. read.x) pipeline schedule 0 None (sources.Input place) boxes.funcs ≡ []
