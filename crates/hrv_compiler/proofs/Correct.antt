@@ -226,3 +226,9 @@ module _ (own : CompiledContents) (rules : IsHeld own) (pictures : List PictureC
 
   pub correct : Correct own.pipeline pictures own.boxes.layout.phases image
   correct harts some_harts few_harts = is-correct harts some_harts few_harts (shared harts some_harts few_harts)
+
+  -- each stage is a phase
+  pub stages-counted : length (stages own.pipeline own.schedule own.boxes) ≡ own.boxes.layout.phases
+  stages-counted =
+      let long = (shared 1 (omega arith) (omega arith)).stages_are in
+      omega (arith, long, counted, count)

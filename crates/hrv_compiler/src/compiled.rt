@@ -1,6 +1,6 @@
 //! Compiled programs and their images.
 
-ghost use Rattle.std.specs.Prelude.{◌≡◌, ◌*◌, ◌<◌, ◌≤◌, IfErr, IfOk, None, Ok, Some, slice_get};
+ghost use Rattle.std.specs.Prelude.{◌≡◌, ◌*◌, ◌<◌, ◌≤◌, IfErr, IfOk, None, Ok, Some, length, slice_get};
 ghost use Rattle.std.specs.Option.{option_copied};
 ghost use Rattle.bounds.specs.Boxes.{box_in};
 ghost use Rattle.bounds.specs.Verdict.{inferred};
@@ -18,6 +18,7 @@ ghost use Rattle.hrv_map.specs.Maps.{map_text};
 ghost use Rattle.hrv_compiler.specs.Images.{ArePictures, IsRefusedInput, image_of};
 ghost use Rattle.hrv_compiler.specs.Outputs.{Holds};
 ghost use Rattle.hrv_compiler.specs.Runs.{WritesWholeRuns};
+ghost use Rattle.vector_codegen_laws.specs.Stages.{stages};
 
 use crate::data::image_data;
 use bounds::boxes::extents_of;
@@ -104,9 +105,9 @@ impl Compiled {
     /// From everywhere some turns make all finish, and for each number of harts there is a count of rounds, in each of
     /// which every hart has a turn, such that after any turns so many rounds make all finish. No gate word falls, each
     /// hart writes each one once at most, and a hart that is given turns alone finishes or waits at a gate. Every
-    /// assignment of iterations to harts is reached by some list (`specs/Assigned.antt`). Where the innermost loop of a
-    /// Func at root without updates is vectorized, a turn that writes a point of the Func writes one run of that loop,
-    /// and nothing else (`specs/Runs.antt`).
+    /// assignment of iterations to harts is reached by some list (`specs/Assigned.antt`); the stages that these are of
+    /// are as many as phases. Where the innermost loop of a Func at root without updates is vectorized, a turn that
+    /// writes a point of the Func writes one run of that loop, and nothing else (`specs/Runs.antt`).
     ///
     /// # Errors
     ///
@@ -120,6 +121,8 @@ impl Compiled {
             image) }
         ensures assigned { IfOk result (λ image. IsAssigned self.now.pipeline self.now.schedule self.now.boxes
             pictures.now image) }
+        ensures stages { IfOk result (λ image. length (stages self.now.pipeline self.now.schedule self.now.boxes)
+            ≡ self.now.boxes.layout.phases) }
         ensures runs { IfOk result (λ image. WritesWholeRuns self.now image) }
         ensures err { IfErr result (IsRefusedInput (judged self.now.pipeline.inputs pictures.now)) }
     {

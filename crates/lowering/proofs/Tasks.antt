@@ -115,7 +115,7 @@ module _ (func : Func) (extents : Extents) (stage : Stage) (stage_is : IsStageOf
       owner_is first h.owner x y lf h.no_other ef ∙ sym (owner_is second h.owner x y ls h.no_other es)
 
   -- each point is owned
-  some_owner : loops.shifts_fit extents stage.splits ≡ true → (x y : ℕ) → is_slice_of func None extents x y ≡ true → ((number : ℕ) → number < iteration_count extents stage → owns extents stage number x y ≡ false) → ⊥
+  pub some_owner : loops.shifts_fit extents stage.splits ≡ true → (x y : ℕ) → is_slice_of func None extents x y ≡ true → ((number : ℕ) → number < iteration_count extents stage → owns extents stage number x y ≡ false) → ⊥
   some_owner fit x y there none =
       let contains = visited func extents x y there stage stage_is fit in
       let never : list_any (is_slice x y) (visits extents stage) ≡ false =

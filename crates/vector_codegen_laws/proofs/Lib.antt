@@ -13,3 +13,4 @@ pub mod Running
 pub mod Chain
 pub mod Between
 pub mod Sharing
+pub mod Whole

@@ -7,3 +7,4 @@ pub mod Held
 pub mod Stages
 pub mod Runs
 pub mod Sharing
+pub mod Whole

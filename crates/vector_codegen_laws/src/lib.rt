@@ -7,12 +7,16 @@
 //!   so that its code may touch it (`specs/Settings.antt`); what memory holds before and behind a task
 //!   (`specs/Held.antt`); that turns which write a vectorized Func's points write whole runs (`specs/RunBytes.antt`).
 //! - [`sharing_laws`]: phases whose code stands in the text share their work, and leave the pixels of Funcs at root.
+//! - [`stage_laws`]: which stages phases compute, and that those of pure definitions write all points
+//!   (`specs/Whole.antt`).
 #![tactic(auto)]
 
 pub mod memory_laws;
 pub mod sharing_laws;
+pub mod stage_laws;
 
 pub use crate::memory_laws::{
     memory_holds_funcs, points_are_there, tasks_are_laid, turns_write_runs,
 };
 pub use crate::sharing_laws::phases_are_shared;
+pub use crate::stage_laws::stages_are_whole;

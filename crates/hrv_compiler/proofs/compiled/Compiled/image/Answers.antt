@@ -9,7 +9,7 @@ use Rattle.hrv_compiler.specs.Correct.{Correct}
 use Rattle.hrv_compiler.specs.Data.{image_data}
 use Rattle.hrv_compiler.specs.Images.{image_of}
 use Rattle.hrv_compiler.specs.Runs.{WritesWholeRuns}
-use Rattle.hrv_compiler.proofs.Correct.{correct, is-assigned}
+use Rattle.hrv_compiler.proofs.Correct.{correct, is-assigned, stages-counted}
 use Rattle.hrv_compiler.proofs.Images.{is_ok, ok_is, parts_pass}
 use Rattle.hrv_compiler.proofs.Low.{inputs_fit, lies_low}
 use Rattle.hrv_compiler.proofs.Runs.{writes-whole-runs}
@@ -62,6 +62,14 @@ returns-clause-assigned c =
     (ap (λ (inputs : List Input). judged inputs c.args.pictures.now) (sym c.inputs.ensures.value) ∙ (sym c.judge.ensures ∙ c.in_default.is)) in
     subst (IsAssigned c.args.self.now.pipeline c.args.self.now.schedule c.args.self.now.boxes c.args.pictures.now) (sym (returns-clause-is c))
     (is-assigned c.args.self.now rules c.args.pictures.now none c.in_ok-data.ensures.rules)
+
+pub returns-clause-stages : goal.returns-clause-stages
+returns-clause-stages c =
+    let rules = subst IsHeld c.self.view_is c.self.invariant in
+    let none =
+    subst (λ (own : CompiledContents). judged own.pipeline.inputs c.args.pictures.now ≡ None) c.self.view_is
+    (ap (λ (inputs : List Input). judged inputs c.args.pictures.now) (sym c.inputs.ensures.value) ∙ (sym c.judge.ensures ∙ c.in_default.is)) in
+    stages-counted c.args.self.now rules c.args.pictures.now none c.in_ok-data.ensures.rules
 
 pub returns-clause-runs : goal.returns-clause-runs
 returns-clause-runs c =
