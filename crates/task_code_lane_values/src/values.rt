@@ -311,8 +311,8 @@ pub fn emit_lanes(
     Ok(())
 }
 
-/// Appends what leaves in group k of the stack how many bytes behind a buffer's first pixel each iteration's point lies,
-/// with the groups above it free.
+/// Appends what leaves in group k of the stack how many bytes behind a buffer's first pixel each iteration's point
+/// lies, with the groups above it free.
 ///
 /// # Errors
 ///

@@ -193,8 +193,8 @@ pub struct Tests {
 ///
 /// # Errors
 ///
-/// Memory ran out, or the sum of a test that hangs on the loop's lanes doesn't grow by 1 an iteration, or may be so large
-/// that it turns over.
+/// Memory ran out, or the sum of a test that hangs on the loop's lanes doesn't grow by 1 an iteration, or may be so
+/// large that it turns over.
 pub fn tests_of(
     alloc: Global,
     bounds: &[Bound],
