@@ -4,3 +4,4 @@ pub mod Named
 pub mod Placing
 pub mod Registers
 pub mod Slots
+pub mod inner

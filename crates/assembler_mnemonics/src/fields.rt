@@ -5,7 +5,9 @@ ghost use Rattle.rv_insn.specs.Encoding.{bit_of};
 ghost use Rattle.rv_insn.specs.Addressing.{offset_fields};
 ghost use Rattle.rv_insn.specs.Meaning.{fields_of};
 ghost use Rattle.rv_insn.specs.VectorMeaning.{vector_fields_of};
+ghost use Rattle.assembler_mnemonics.specs.Forms.{vector_form_of};
 ghost use Rattle.assembler_mnemonics.specs.Slots as spec;
+ghost use Rattle.assembler_mnemonics.specs.inner.Groups.{HasOther, IsConfiguration, IsElementAccess};
 
 use crate::forms::{Form, VectorForm};
 use rv_insn::{AddressMode, Addressing, Insn, Reg, VReg, VectorInsn};
@@ -152,84 +154,22 @@ impl Fields {
         ensures { result ≡ vector_fields_of insn.now }
     {
         match *insn {
-            VectorInsn::ArithmeticVv {
-                vd,
-                vs2,
-                vs1,
-                vm,
-                ..
+            VectorInsn::ArithmeticVv { vd, vs2, vm, .. }
+            | VectorInsn::ArithmeticVx { vd, vs2, vm, .. }
+            | VectorInsn::ArithmeticVi { vd, vs2, vm, .. }
+            | VectorInsn::ShiftVi { vd, vs2, vm, .. }
+            | VectorInsn::CompareVv { vd, vs2, vm, .. }
+            | VectorInsn::CompareVx { vd, vs2, vm, .. }
+            | VectorInsn::CompareVi { vd, vs2, vm, .. }
+            | VectorInsn::MultiplyVv { vd, vs2, vm, .. }
+            | VectorInsn::MultiplyVx { vd, vs2, vm, .. }
+            | VectorInsn::Reduce { vd, vs2, vm, .. } => {
+                Fields::four(vector(vd), vector(vs2), other_operand(insn), bit(vm))
             }
-            | VectorInsn::CompareVv {
-                vd,
-                vs2,
-                vs1,
-                vm,
-                ..
-            }
-            | VectorInsn::MultiplyVv {
-                vd,
-                vs2,
-                vs1,
-                vm,
-                ..
-            }
-            | VectorInsn::Reduce {
-                vd,
-                vs2,
-                vs1,
-                vm,
-                ..
-            } => Fields::four(vector(vd), vector(vs2), vector(vs1), bit(vm)),
-            VectorInsn::ArithmeticVx {
-                vd,
-                vs2,
-                rs1,
-                vm,
-                ..
-            }
-            | VectorInsn::CompareVx {
-                vd,
-                vs2,
-                rs1,
-                vm,
-                ..
-            }
-            | VectorInsn::MultiplyVx {
-                vd,
-                vs2,
-                rs1,
-                vm,
-                ..
-            } => Fields::four(vector(vd), vector(vs2), integer(rs1), bit(vm)),
-            VectorInsn::ArithmeticVi {
-                vd,
-                vs2,
-                imm,
-                vm,
-                ..
-            }
-            | VectorInsn::CompareVi {
-                vd,
-                vs2,
-                imm,
-                vm,
-                ..
-            } => Fields::four(vector(vd), vector(vs2), imm.value() as i64, bit(vm)),
-            VectorInsn::ShiftVi {
-                vd,
-                vs2,
-                amount,
-                vm,
-                ..
-            } => Fields::four(vector(vd), vector(vs2), amount.value() as i64, bit(vm)),
-            VectorInsn::MergeVv { vd, vs2, vs1 } => {
-                Fields::three(vector(vd), vector(vs2), vector(vs1))
-            }
-            VectorInsn::MergeVx { vd, vs2, rs1 } => {
-                Fields::three(vector(vd), vector(vs2), integer(rs1))
-            }
-            VectorInsn::MergeVi { vd, vs2, imm } => {
-                Fields::three(vector(vd), vector(vs2), imm.value() as i64)
+            VectorInsn::MergeVv { vd, vs2, .. }
+            | VectorInsn::MergeVx { vd, vs2, .. }
+            | VectorInsn::MergeVi { vd, vs2, .. } => {
+                Fields::three(vector(vd), vector(vs2), other_operand(insn))
             }
             VectorInsn::MoveVv { vd, vs1 } => Fields::two(vector(vd), vector(vs1)),
             VectorInsn::MoveVx { vd, rs1 } | VectorInsn::MoveFromScalar { vd, rs1 } => {
@@ -241,34 +181,77 @@ impl Fields {
             VectorInsn::ExtendBytes { vd, vs2, vm } => {
                 Fields::three(vector(vd), vector(vs2), bit(vm))
             }
-            VectorInsn::Vsetvli { rd, rs1, vtype } => {
-                Fields::three(integer(rd), integer(rs1), vtype.value() as i64)
-            }
-            VectorInsn::Vsetivli { rd, length, vtype } => {
-                Fields::three(integer(rd), length.value() as i64, vtype.value() as i64)
-            }
-            VectorInsn::Vsetvl { rd, rs1, rs2 } => {
-                Fields::three(integer(rd), integer(rs1), integer(rs2))
-            }
-            VectorInsn::LoadElements {
-                vd: v,
-                rs1,
-                addressing,
-                vm,
-                ..
-            }
-            | VectorInsn::StoreElements {
-                vs3: v,
-                rs1,
-                addressing,
-                vm,
-                ..
-            } => access_fields(v, rs1, addressing, vm),
+            VectorInsn::Vsetvli { .. } | VectorInsn::Vsetivli { .. } | VectorInsn::Vsetvl { .. } =>
+                { of_configuration(insn) }
+            VectorInsn::LoadElements { .. } | VectorInsn::StoreElements { .. } => of_access(insn),
         }
     }
 }
 
+// The other operand of an operation on elements or of a merge, beside vd and vs2.
+fn other_operand(insn: &VectorInsn) -> i64
+    requires { HasOther (vector_form_of insn.now) }
+    ensures { result ≡ spec.field_at (vector_fields_of insn.now) 2 }
+{
+    match *insn {
+        VectorInsn::ArithmeticVv { vs1, .. } | VectorInsn::CompareVv { vs1, .. } => vector(vs1),
+        VectorInsn::MultiplyVv { vs1, .. } | VectorInsn::Reduce { vs1, .. } => vector(vs1),
+        VectorInsn::MergeVv { vs1, .. } => vector(vs1),
+        VectorInsn::ArithmeticVx { rs1, .. } | VectorInsn::CompareVx { rs1, .. } => integer(rs1),
+        VectorInsn::MultiplyVx { rs1, .. } | VectorInsn::MergeVx { rs1, .. } => integer(rs1),
+        VectorInsn::ArithmeticVi { imm, .. } | VectorInsn::CompareVi { imm, .. } => {
+            imm.value() as i64
+        }
+        VectorInsn::MergeVi { imm, .. } => imm.value() as i64,
+        VectorInsn::ShiftVi { amount, .. } => amount.value() as i64,
+        _ => unreachable!(),
+    }
+}
+
+// The numbers in the fields of a configuration.
+fn of_configuration(insn: &VectorInsn) -> Fields
+    requires { IsConfiguration (vector_form_of insn.now) }
+    ensures { result ≡ vector_fields_of insn.now }
+{
+    match *insn {
+        VectorInsn::Vsetvli { rd, rs1, vtype } => {
+            Fields::three(integer(rd), integer(rs1), vtype.value() as i64)
+        }
+        VectorInsn::Vsetivli { rd, length, vtype } => {
+            Fields::three(integer(rd), length.value() as i64, vtype.value() as i64)
+        }
+        VectorInsn::Vsetvl { rd, rs1, rs2 } => {
+            Fields::three(integer(rd), integer(rs1), integer(rs2))
+        }
+        _ => unreachable!(),
+    }
+}
+
 // The numbers in the fields of a load or store of elements.
+fn of_access(insn: &VectorInsn) -> Fields
+    requires { IsElementAccess (vector_form_of insn.now) }
+    ensures { result ≡ vector_fields_of insn.now }
+{
+    match *insn {
+        VectorInsn::LoadElements {
+            vd: v,
+            rs1,
+            addressing,
+            vm,
+            ..
+        }
+        | VectorInsn::StoreElements {
+            vs3: v,
+            rs1,
+            addressing,
+            vm,
+            ..
+        } => access_fields(v, rs1, addressing, vm),
+        _ => unreachable!(),
+    }
+}
+
+// The same from the parts that loads and stores share.
 fn access_fields(v: VReg, rs1: Reg, addressing: Addressing, vm: bool) -> Fields
     ensures { result ≡ pos v ∷ pos rs1 ∷ (offset_fields addressing ++ (pos (bit_of vm) ∷ [])) }
 {

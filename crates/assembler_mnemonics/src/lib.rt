@@ -25,6 +25,8 @@ pub mod registers;
 mod search;
 mod shapes;
 pub mod slots;
+mod values;
+mod vector_building;
 mod vector_names;
 
 pub use crate::configurations::vtype_named;
