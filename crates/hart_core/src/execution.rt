@@ -118,12 +118,9 @@ impl Hart {
             }
             Meaning::Jal { rd, offset } => self.jump_and_link(rd, self.target(offset.bytes())),
             Meaning::Jalr { rd, rs1, imm } => self.jump_and_link(rd, self.address(rs1, imm) & !1),
-            Meaning::Beq { .. }
-            | Meaning::Bne { .. }
-            | Meaning::Blt { .. }
-            | Meaning::Bge { .. }
-            | Meaning::Bltu { .. }
-            | Meaning::Bgeu { .. } => self.execute_branch(meaning),
+            Meaning::Beq { .. } | Meaning::Bne { .. } => self.execute_branch(meaning),
+            Meaning::Blt { .. } | Meaning::Bge { .. } => self.execute_branch(meaning),
+            Meaning::Bltu { .. } | Meaning::Bgeu { .. } => self.execute_branch(meaning),
             Meaning::Lb { .. }
             | Meaning::Lh { .. }
             | Meaning::Lw { .. }
@@ -137,25 +134,16 @@ impl Hart {
             Meaning::Ecall => Ok(self.finish()),
             Meaning::Ebreak => Err(Trap::Breakpoint),
             Meaning::Vector(_) => unreachable!(),
-            Meaning::Addi { .. }
-            | Meaning::Slti { .. }
-            | Meaning::Sltiu { .. }
-            | Meaning::Xori { .. }
-            | Meaning::Ori { .. }
-            | Meaning::Andi { .. }
-            | Meaning::Slli { .. }
-            | Meaning::Srli { .. }
-            | Meaning::Srai { .. } => Ok(self.execute_with_immediate(meaning)),
-            Meaning::Add { .. }
-            | Meaning::Sub { .. }
-            | Meaning::Sll { .. }
-            | Meaning::Slt { .. }
-            | Meaning::Sltu { .. }
-            | Meaning::Xor { .. }
-            | Meaning::Srl { .. }
-            | Meaning::Sra { .. }
-            | Meaning::Or { .. }
-            | Meaning::And { .. } => Ok(self.execute_operation(meaning)),
+            Meaning::Addi { .. } | Meaning::Slti { .. } => Ok(self.execute_with_immediate(meaning)),
+            Meaning::Sltiu { .. } => Ok(self.execute_with_immediate(meaning)),
+            Meaning::Xori { .. } | Meaning::Ori { .. } => Ok(self.execute_with_immediate(meaning)),
+            Meaning::Andi { .. } | Meaning::Slli { .. } => Ok(self.execute_with_immediate(meaning)),
+            Meaning::Srli { .. } | Meaning::Srai { .. } => Ok(self.execute_with_immediate(meaning)),
+            Meaning::Add { .. } | Meaning::Sub { .. } => Ok(self.execute_operation(meaning)),
+            Meaning::Sll { .. } | Meaning::Slt { .. } => Ok(self.execute_operation(meaning)),
+            Meaning::Sltu { .. } | Meaning::Xor { .. } => Ok(self.execute_operation(meaning)),
+            Meaning::Srl { .. } | Meaning::Sra { .. } => Ok(self.execute_operation(meaning)),
+            Meaning::Or { .. } | Meaning::And { .. } => Ok(self.execute_operation(meaning)),
             _ => Ok(self.execute_product(meaning)),
         }
     }

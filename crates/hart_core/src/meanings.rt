@@ -1,7 +1,7 @@
 //! What words mean, as turns take it: the operation of a group is told apart once, where a word is decoded, and not in
 //! each turn.
 
-ghost use Rattle.std.specs.Prelude.{◌≡◌, IfOk, map};
+ghost use Rattle.std.specs.Prelude.{◌≡◌, IfOk, Some, map};
 ghost use Rattle.hart_core.specs.Meanings.{branch_of, load_of, store_of, immediate_of, shift_of, operation_of};
 ghost use Rattle.hart_core.specs.Meanings.{meaning_of, word_meaning};
 
@@ -404,9 +404,15 @@ impl Meaning {
     pub fn of(insn: Option<Insn>) -> Meaning
         ensures { result ≡ meaning_of insn }
     {
-        let Some(insn) = insn else {
-            return Meaning::Nothing;
-        };
+        match insn {
+            Some(insn) => Meaning::of_insn(insn),
+            None => Meaning::Nothing,
+        }
+    }
+
+    fn of_insn(insn: Insn) -> Meaning
+        ensures { result ≡ meaning_of (Some insn) }
+    {
         match insn {
             Insn::Lui { rd, imm } => Meaning::Lui { rd, imm },
             Insn::Auipc { rd, imm } => Meaning::Auipc { rd, imm },

@@ -119,18 +119,16 @@ fn opivi(word: u32) -> Option<Insn>
     ensures { result ≡ opivi_in (part word 26 6) (part word 25 1) (part word 20 5) word }
 {
     let funct6 = funct6(word);
+    let imm = vector_immediate(word);
     if funct6 == MERGE {
         return merge_or_move(
             word,
             VectorInsn::MergeVi {
                 vd: vd(word),
                 vs2: vs2(word),
-                imm: vector_immediate(word),
+                imm,
             },
-            VectorInsn::MoveVi {
-                vd: vd(word),
-                imm: vector_immediate(word),
-            },
+            VectorInsn::MoveVi { vd: vd(word), imm },
         );
     }
     if let Some(op) = arithmetic_vi_op(funct6) {
@@ -138,7 +136,7 @@ fn opivi(word: u32) -> Option<Insn>
             op,
             vd: vd(word),
             vs2: vs2(word),
-            imm: vector_immediate(word),
+            imm,
             vm: flag(word, 25),
         }));
     }
@@ -156,7 +154,7 @@ fn opivi(word: u32) -> Option<Insn>
         op,
         vd: vd(word),
         vs2: vs2(word),
-        imm: vector_immediate(word),
+        imm,
         vm: flag(word, 25),
     }))
 }
