@@ -2,6 +2,7 @@
 
 ghost use Rattle.std.specs.Prelude.{◌≡◌, ℤ, List, option_map};
 ghost use Rattle.assembler_mnemonics.specs.Registers.{integer_letter, vector_letter};
+ghost use Rattle.assembler_syntax.specs.declared.statements.Operand.TheVariants as operands;
 ghost use Rattle.assembler.specs.Judging as spec;
 ghost use Rattle.assembler.specs.Filling.{Fills, together as together_of};
 
@@ -147,60 +148,67 @@ fn fill_slot(
     ensures { Fills (spec.given (record { survey = survey.now; here = here }) slot operand.now) result fields.old
         fields.new }
 {
-    match slot {
-        Slot::Integer(field) => match operand {
-            Operand::Word(word) => put(fields, field, integer_of(word.as_slice())),
-            _ => Err(AsmFault::Syntax),
-        },
-        Slot::Vector(field) => match operand {
-            Operand::Word(word) => put(fields, field, vector_of(word.as_slice())),
-            _ => Err(AsmFault::Syntax),
-        },
-        Slot::MaskRegister => match operand {
-            Operand::Word(word) => unless(AsmFault::Register, word.as_slice() == b"v0".as_slice()),
-            _ => Err(AsmFault::Syntax),
-        },
-        Slot::Number {
-            field,
-            least,
-            greatest,
-        } => match operand {
-            Operand::Number(number) => put(fields, field, number_within(least, greatest, *number)),
-            _ => Err(AsmFault::Syntax),
-        },
-        Slot::Upper(field) => match operand {
-            Operand::Number(number) => put(fields, field, number_within(0, 1_048_575, *number)),
-            _ => Err(AsmFault::Syntax),
-        },
-        Slot::Based { offset, base } => match operand {
-            Operand::Based(number, word) => {
+    match operand {
+        Operand::Word(word) => fill_by_word(survey, here, slot, word.as_slice(), fields),
+        Operand::Number(number) => fill_by_number(slot, *number, fields),
+        Operand::Based(number, word) => match slot {
+            Slot::Based { offset, base } => {
                 put_based(fields, offset, base, *number, word.as_slice())
             }
             _ => Err(AsmFault::Syntax),
         },
-        Slot::Address(field) => match operand {
-            Operand::Bracketed(word) => put(fields, field, integer_of(word.as_slice())),
+        Operand::Bracketed(word) => match slot {
+            Slot::Address(field) => put(fields, field, integer_of(word.as_slice())),
             _ => Err(AsmFault::Syntax),
         },
-        Slot::Target { field, reach } => match operand {
-            Operand::Number(number) => {
-                let bytes = i128::from(*number);
-                put(fields, field, halves_of(reach, AsmFault::Syntax, bytes))
-            }
-            Operand::Word(word) => {
-                let halves = halves_to_label(survey, here, reach, word.as_slice());
-                put(fields, field, halves)
-            }
-            _ => Err(AsmFault::Syntax),
-        },
-        Slot::Configuration { field, greatest } => match operand {
-            Operand::Number(number) => put(fields, field, number_within(0, greatest, *number)),
-            _ => Err(AsmFault::Syntax),
-        },
-        Slot::Mask(field) => match operand {
-            Operand::Word(word) => put_mask(fields, field, word.as_slice()),
-            _ => Err(AsmFault::Syntax),
-        },
+    }
+}
+
+/// Puts what a word gives in its slot into the fields.
+#[tactic(auto, unfolding(crate::specs::Judging::given))]
+fn fill_by_word(
+    survey: &Survey,
+    here: Here,
+    slot: Slot,
+    word: &[u8],
+    fields: &mut Fields,
+) -> Result<(), AsmFault>
+    ensures { Fills (spec.given (record { survey = survey.now; here = here }) slot (operands.Word word.now)) result
+        fields.old fields.new }
+{
+    match slot {
+        Slot::Integer(field) => put(fields, field, integer_of(word)),
+        Slot::Vector(field) => put(fields, field, vector_of(word)),
+        Slot::MaskRegister => unless(AsmFault::Register, word == b"v0".as_slice()),
+        Slot::Target { field, reach } => {
+            put(fields, field, halves_to_label(survey, here, reach, word))
+        }
+        Slot::Mask(field) => put_mask(fields, field, word),
+        _ => Err(AsmFault::Syntax),
+    }
+}
+
+/// Puts what a number gives in its slot into the fields.
+#[tactic(auto, unfolding(crate::specs::Judging::given))]
+fn fill_by_number(slot: Slot, number: i64, fields: &mut Fields) -> Result<(), AsmFault>
+    ensures { (context : spec.Context) → Fills (spec.given context slot (operands.Number number)) result fields.old
+        fields.new }
+{
+    match slot {
+        Slot::Number {
+            field,
+            least,
+            greatest,
+        } => put(fields, field, number_within(least, greatest, number)),
+        Slot::Upper(field) => put(fields, field, number_within(0, 1_048_575, number)),
+        Slot::Target { field, reach } => {
+            let halves = halves_of(reach, AsmFault::Syntax, i128::from(number));
+            put(fields, field, halves)
+        }
+        Slot::Configuration { field, greatest } => {
+            put(fields, field, number_within(0, greatest, number))
+        }
+        _ => Err(AsmFault::Syntax),
     }
 }
 

@@ -49,7 +49,7 @@ pub struct Judged {
     pub tree: Option<Expr>,
 }
 
-/// Written out, so that a function that drops one has a call here, and not what dropping a tree takes.
+/// Written out, so that a check sees a call wherever one is dropped, and not the drops of its parts.
 impl Drop for Judged {
     fn drop(self) {
         let Judged {

@@ -13,7 +13,7 @@ pub const MOST_EXTENT: u32 = 65_536;
 pub const MOST_POINTS: u64 = 1_048_576;
 
 /// A reduction variable and its values: `extent` of them, one after the other from `minimum`.
-#[derive(Debug, Drop)]
+#[derive(Debug)]
 pub struct Reduction {
     /// An ASCII text of at most 32 bytes.
     pub name: Items<u8>,
@@ -23,9 +23,21 @@ pub struct Reduction {
     pub extent: u32,
 }
 
+/// Written out, so that a check sees a call wherever one is dropped, and not the drops of its parts.
+impl Drop for Reduction {
+    fn drop(self) {
+        let Reduction {
+            name,
+            minimum: _,
+            extent: _,
+        } = self;
+        drop(name);
+    }
+}
+
 /// A change to a Func: for each point of the reduction box in turn, the first variable innermost, the
 /// pixel at the left indexes becomes the right side.
-#[derive(Debug, Drop)]
+#[derive(Debug)]
 pub struct Update {
     /// The first index on the left.
     pub left_x: Expr,
@@ -34,6 +46,24 @@ pub struct Update {
     pub right: Expr,
     pub first: Reduction,
     pub second: Option<Reduction>,
+}
+
+/// Written out, so that a check sees a call wherever one is dropped, and not the drops of its parts.
+impl Drop for Update {
+    fn drop(self) {
+        let Update {
+            left_x,
+            left_y,
+            right,
+            first,
+            second,
+        } = self;
+        drop(left_x);
+        drop(left_y);
+        drop(right);
+        drop(first);
+        drop(second);
+    }
 }
 
 impl Update {
@@ -57,7 +87,7 @@ impl Update {
 }
 
 /// A Func: an expression over its arguments, and the updates of what it gives.
-#[derive(Debug, Drop)]
+#[derive(Debug)]
 pub struct Func {
     /// The first argument's name, an ASCII text of at most 32 bytes.
     pub first_argument: Items<u8>,
@@ -66,6 +96,22 @@ pub struct Func {
     pub pure: Expr,
     /// At most 4.
     pub updates: Items<Update>,
+}
+
+/// Written out, so that a check sees a call wherever one is dropped, and not the drops of its parts.
+impl Drop for Func {
+    fn drop(self) {
+        let Func {
+            first_argument,
+            second_argument,
+            pure,
+            updates,
+        } = self;
+        drop(first_argument);
+        drop(second_argument);
+        drop(pure);
+        drop(updates);
+    }
 }
 
 impl Func {

@@ -66,7 +66,7 @@ impl Operation {
 }
 
 /// An expression. `clamp` is its minimum and maximum, and `-a` is `0 - a`.
-#[derive(Debug, Drop)]
+#[derive(Debug)]
 pub enum Expr {
     /// A literal, 0 to 2147483647.
     Number(u32),
@@ -82,6 +82,31 @@ pub enum Expr {
     Call1(Source, Boxed<Expr>),
     /// A read of a source of two dimensions, at x and y.
     Call2(Source, Boxed<Expr>, Boxed<Expr>),
+}
+
+/// Written out, so that a check sees a call wherever one is dropped, and not the drops of its parts.
+impl Drop for Expr {
+    fn drop(self) {
+        match self {
+            Expr::Number(_) | Expr::Variable(_) => {}
+            Expr::Binary(_, a, b) => {
+                drop(a);
+                drop(b);
+            }
+            Expr::Divide(a, _) => drop(a),
+            Expr::Remainder(a, _) => drop(a),
+            Expr::Select(c, a, b) => {
+                drop(c);
+                drop(a);
+                drop(b);
+            }
+            Expr::Call1(_, x) => drop(x),
+            Expr::Call2(_, x, y) => {
+                drop(x);
+                drop(y);
+            }
+        }
+    }
 }
 
 impl Expr {

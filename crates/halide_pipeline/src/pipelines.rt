@@ -14,7 +14,6 @@ use std::marker::Model;
 /// What an algorithm text names. Each pipeline is well-formed (`specs/WellFormed.antt`): a call goes to an
 /// input or an earlier Func, the right side of an update may also call its own Func, and the limits hold.
 /// A contract sees a pipeline as its parts (`specs/Pipelines.antt`).
-#[derive(Drop)]
 pub struct Pipeline {
     names: Names,
     inputs: Items<Input>,
@@ -35,6 +34,21 @@ impl Model for Pipeline {
     ghost view = { λ p. record { names = p.names; inputs = p.inputs; funcs = p.funcs; output = p.output } };
 
     ghost invariant = { λ p. IsWellFormed (record { names = p.names; inputs = p.inputs; funcs = p.funcs; output = p.output }) };
+}
+
+/// Written out, so that a check sees a call wherever one is dropped, and not the drops of its parts.
+impl Drop for Pipeline {
+    fn drop(self) {
+        let Pipeline {
+            names,
+            inputs,
+            funcs,
+            output: _,
+        } = self;
+        drop(names);
+        drop(inputs);
+        drop(funcs);
+    }
 }
 
 impl Pipeline {

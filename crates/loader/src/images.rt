@@ -11,7 +11,6 @@ use std::marker::Model;
 /// What a machine starts from: the address at which every hart starts, the words of text, the bytes
 /// of data, and which part of the data, if any, is a picture. Every image keeps the rules of its
 /// format: a contract sees it as an `ImageContents` that is an `IsImage`.
-#[derive(Drop)]
 pub struct Image {
     entry: u32,
     words: Vec<u32>,
@@ -27,6 +26,20 @@ impl Model for Image {
     ghost view = { λ i. record { entry = i.entry; words = i.words.items; bytes = i.bytes.items; output = i.output } };
 
     ghost invariant = { λ i. IsImage (record { entry = i.entry; words = i.words.items; bytes = i.bytes.items; output = i.output }) };
+}
+
+/// Written out, so that a check sees a call wherever one is dropped, and not the drops of its parts.
+impl Drop for Image {
+    fn drop(self) {
+        let Image {
+            words,
+            bytes,
+            entry: _,
+            output: _,
+        } = self;
+        drop(words);
+        drop(bytes);
+    }
 }
 
 impl Image {

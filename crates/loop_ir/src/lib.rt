@@ -1,6 +1,7 @@
 //! Loop nests over buffers, and what they do.
 //!
-//! - [`expressions`]: expressions over the values of loops and what buffers hold (`specs/Expressions.antt`).
+//! - [`expressions`]: expressions over the values of loops and what buffers hold, and sums of counters times strides
+//!   (`specs/Expressions.antt`).
 //! - [`statements`]: stores, loops and tests; a phase is a statement that is run once for each of its tasks. How many
 //!   counters stand around a store: `specs/Depths.antt`; how many registers expressions need: `specs/Needs.antt`; how
 //!   many words of code a statement may ask for: `specs/Sizes.antt`. Whether one writes and loads only points that are
@@ -8,7 +9,6 @@
 //! - [`buffers`]: pixels of inputs and Funcs (`specs/Buffers.antt`).
 //! - [`running`]: **what a statement and a phase do to the buffers** (`specs/Running.antt`). Running one takes no
 //!   memory.
-//! - [`linear`]: sums of counters times strides, and what is made of them.
 //! - [`laws`]: what an expression loads decides its value, and a point stays where nothing is stored at it
 //!   (`specs/Stores.antt`).
 #![tactic(auto)]
@@ -16,6 +16,6 @@
 pub mod buffers;
 pub mod expressions;
 pub mod laws;
-pub mod linear;
+mod linear;
 pub mod running;
 pub mod statements;

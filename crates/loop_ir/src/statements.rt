@@ -12,13 +12,28 @@ pub enum LoopKind {
 }
 
 /// Writes a value at x and y of a Func's buffer, counted from its corner.
-#[derive(Debug, Drop)]
+#[derive(Debug)]
 pub struct Store {
     /// The Func's place in the pipeline.
     pub func: usize,
     pub x: Expr,
     pub y: Expr,
     pub value: Expr,
+}
+
+/// Written out, so that a check sees a call wherever one is dropped, and not the drops of its parts.
+impl Drop for Store {
+    fn drop(self) {
+        let Store {
+            x,
+            y,
+            value,
+            func: _,
+        } = self;
+        drop(x);
+        drop(y);
+        drop(value);
+    }
 }
 
 /// The value of a loop that is split, from those of its two loops: `outer * factor + inner`.
@@ -32,7 +47,7 @@ pub struct Whole {
 }
 
 /// A statement. No loop's count and no test hangs on what buffers hold.
-#[derive(Debug, Drop)]
+#[derive(Debug)]
 pub enum Stmt {
     Store(Store),
     /// The first, and then the second.
@@ -43,8 +58,23 @@ pub enum Stmt {
     Bind(Counter, Whole, u32, Boxed<Stmt>),
 }
 
+/// Written out, so that a check sees a call wherever one is dropped, and not the drops of its parts.
+impl Drop for Stmt {
+    fn drop(self) {
+        match self {
+            Stmt::Store(own) => drop(own),
+            Stmt::Sequence(first, second) => {
+                drop(first);
+                drop(second);
+            }
+            Stmt::For(_, _, _, body) => drop(body),
+            Stmt::Bind(_, _, _, body) => drop(body),
+        }
+    }
+}
+
 /// A statement that is run once for each of so many tasks.
-#[derive(Debug, Drop)]
+#[derive(Debug)]
 pub struct Phase {
     pub tasks: u32,
     /// What stands at the task's number, from 0, where anything does.
@@ -55,4 +85,20 @@ pub struct Phase {
     pub private: Items<usize>,
     /// Inputs whose pixels are bytes.
     pub bytes: Items<usize>,
+}
+
+/// Written out, so that a check sees a call wherever one is dropped, and not the drops of its parts.
+impl Drop for Phase {
+    fn drop(self) {
+        let Phase {
+            body,
+            private,
+            bytes,
+            tasks: _,
+            counter: _,
+        } = self;
+        drop(body);
+        drop(private);
+        drop(bytes);
+    }
 }

@@ -21,10 +21,19 @@ use loop_ir::expressions::{Expr, Linear};
 use std::alloc::{AllocError, Global};
 
 /// The point of a Func that stands first in its buffer.
-#[derive(Debug, Drop)]
+#[derive(Debug)]
 pub struct Corner {
     pub x: Linear,
     pub y: Linear,
+}
+
+/// Written out, so that a check sees a call wherever one is dropped, and not the drops of its parts.
+impl Drop for Corner {
+    fn drop(self) {
+        let Corner { x, y } = self;
+        drop(x);
+        drop(y);
+    }
 }
 
 /// The corner of a source's buffer; None for inputs, whose buffers begin at 0, 0.
@@ -53,18 +62,19 @@ pub fn counted_from(alloc: Global, coordinate: Expr, corner: &Linear) -> Result<
     ensures numbers { IfOk result (λ made. length corner.now.terms ≤ 5 → (n : ℕ) → coordinate ≡ Expr.Number n
         → (kept (size_of made) ≡ 0) × (size made ≤ 22)) }
 {
-    match coordinate {
+    match &coordinate {
         Expr::Number(number) => {
-            let made = Linear::of_number(alloc, number).minus(corner)?;
+            let made = Linear::of_number(alloc, *number).minus(corner)?;
             Ok(Expr::Linear(made))
         }
         Expr::Linear(own) => {
-            let made = own.minus(corner)?;
+            let sum = own.copy(alloc)?;
+            let made = sum.minus(corner)?;
             Ok(Expr::Linear(made))
         }
-        other => {
+        _ => {
             let begin = corner.copy(alloc)?;
-            let made = new_binary(alloc, Operation::Subtract, other, Expr::Linear(begin))?;
+            let made = new_binary(alloc, Operation::Subtract, coordinate, Expr::Linear(begin))?;
             Ok(made)
         }
     }

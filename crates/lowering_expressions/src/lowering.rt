@@ -30,12 +30,28 @@ use loop_ir::expressions::Linear;
 use std::alloc::{AllocError, Global};
 
 /// What stands for the variables of a definition.
-#[derive(Debug, Drop)]
+#[derive(Debug)]
 pub struct Arguments {
     pub first_argument: Linear,
     pub second_argument: Linear,
     pub first_reduction: Linear,
     pub second_reduction: Linear,
+}
+
+/// Written out, so that a check sees a call wherever one is dropped, and not the drops of its parts.
+impl Drop for Arguments {
+    fn drop(self) {
+        let Arguments {
+            first_argument,
+            second_argument,
+            first_reduction,
+            second_reduction,
+        } = self;
+        drop(first_argument);
+        drop(second_argument);
+        drop(first_reduction);
+        drop(second_reduction);
+    }
 }
 
 /// What stands for the variables of a definition, behind calls of inlined Funcs.
@@ -194,10 +210,21 @@ fn called(
 
 /// The sums that stand for the variables, as expressions that are made, lent and let go as one: side by side in one
 /// function they make its check long.
-#[derive(Drop)]
 struct Sums {
     arguments: Pair,
     reductions: Pair,
+}
+
+/// Written out, so that a check sees a call wherever one is dropped, and not the drops of its parts.
+impl Drop for Sums {
+    fn drop(self) {
+        let Sums {
+            arguments,
+            reductions,
+        } = self;
+        drop(arguments);
+        drop(reductions);
+    }
 }
 
 /// Copies the sums.

@@ -36,7 +36,6 @@ pub struct Stretch {
 
 /// One to eight harts over one memory. A contract sees text, data and the harts as a `State`. Nothing in it can grow,
 /// so that no turn takes memory.
-#[derive(Drop)]
 pub struct Machine {
     pub(crate) memory: Memory,
     pub(crate) harts: BoxedSlice<Hart>,
@@ -56,6 +55,20 @@ impl Model for Machine {
     ghost view = { λ m. record { text = m.memory.text; memory = m.memory.memory; harts = boxed_slice_items m.harts } };
 
     ghost invariant = { λ m. (boxed_slice_items m.meanings ≡ map word_meaning m.memory.text) × (length (boxed_slice_items m.meanings) ≤ most_words) };
+}
+
+/// Written out, so that a check sees a call wherever one is dropped, and not the drops of its parts.
+impl Drop for Machine {
+    fn drop(self) {
+        let Machine {
+            memory,
+            harts,
+            meanings,
+        } = self;
+        drop(memory);
+        drop(harts);
+        drop(meanings);
+    }
 }
 
 impl Machine {

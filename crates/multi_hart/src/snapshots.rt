@@ -9,7 +9,6 @@ use std::alloc::{AllocError, Global};
 use std::marker::Model;
 
 /// The data and the harts of a machine, as they were when it was made. A contract sees them as `Snapped`.
-#[derive(Drop)]
 pub struct Snapshot {
     bytes: Vec<u8>,
     harts: Vec<Hart>,
@@ -21,6 +20,15 @@ impl Model for Snapshot {
     ghost Value = { Snapped };
 
     ghost view = { λ s. record { memory = s.bytes.items; harts = s.harts.items } };
+}
+
+/// Written out, so that a check sees a call wherever one is dropped, and not the drops of its parts.
+impl Drop for Snapshot {
+    fn drop(self) {
+        let Snapshot { bytes, harts } = self;
+        drop(bytes);
+        drop(harts);
+    }
 }
 
 impl Snapshot {

@@ -199,11 +199,24 @@ fn tabulate_next(
 }
 
 /// What was made of the Funcs before the output is drawn.
-#[derive(Drop)]
 struct Made {
     tables: Vec<Table>,
     known: Vec<Known>,
     memo: Memo,
+}
+
+/// Written out, so that a check sees a call wherever one is dropped, and not the drops of its parts.
+impl Drop for Made {
+    fn drop(self) {
+        let Made {
+            tables,
+            known,
+            memo,
+        } = self;
+        drop(tables);
+        drop(known);
+        drop(memo);
+    }
 }
 
 /// The tables of the Funcs, one after the other, each where its pixels are wanted, what updates come to on the whole

@@ -99,12 +99,25 @@ impl Slice {
 
 /// Where an update of the Func at a place has run, all points of it: on slices, each next one of which is one further
 /// in the argument in place, and in boxes, where it has left these pixels.
-#[derive(Drop)]
 pub(crate) struct Known {
     pub own: usize,
     pub updates: usize,
     pub slices: Vec<Slice>,
     pub boxes: Vec<Table>,
+}
+
+/// Written out, so that a check sees a call wherever one is dropped, and not the drops of its parts.
+impl Drop for Known {
+    fn drop(self) {
+        let Known {
+            slices,
+            boxes,
+            own: _,
+            updates: _,
+        } = self;
+        drop(slices);
+        drop(boxes);
+    }
 }
 
 /// The Funcs and inputs, the tables of the first Funcs, what updates have come to, and pixels that no table has.

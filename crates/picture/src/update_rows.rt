@@ -19,26 +19,63 @@ use std::alloc::AllocError;
 const FEW: usize = 8;
 
 /// The points at which an update reads its own Func along a row.
-#[derive(Drop)]
 pub(crate) struct Indices {
     pub x: Row,
     pub y: Row,
 }
 
+/// Written out, so that a check sees a call wherever one is dropped, and not the drops of its parts.
+impl Drop for Indices {
+    fn drop(self) {
+        let Indices { x, y } = self;
+        drop(x);
+        drop(y);
+    }
+}
+
 /// The right side of an update along a row: what doesn't read the own Func, or an operation of that and one read.
-#[derive(Drop)]
 pub(crate) enum Right {
     Alone(Row),
     First(Operation, Indices, Row),
     Second(Operation, Row, Indices),
 }
 
+/// Written out, so that a check sees a call wherever one is dropped, and not the drops of its parts.
+impl Drop for Right {
+    fn drop(self) {
+        match self {
+            Right::Alone(row) => drop(row),
+            Right::First(_, indices, row) => {
+                drop(indices);
+                drop(row);
+            }
+            Right::Second(_, row, indices) => {
+                drop(row);
+                drop(indices);
+            }
+        }
+    }
+}
+
 /// An update along a row of its reduction box.
-#[derive(Drop)]
 pub(crate) struct UpdateRow {
     pub left_x: Row,
     pub left_y: Row,
     pub right: Right,
+}
+
+/// Written out, so that a check sees a call wherever one is dropped, and not the drops of its parts.
+impl Drop for UpdateRow {
+    fn drop(self) {
+        let UpdateRow {
+            left_x,
+            left_y,
+            right,
+        } = self;
+        drop(left_x);
+        drop(left_y);
+        drop(right);
+    }
 }
 
 impl Indices {

@@ -22,7 +22,6 @@ pub struct ComputeLine {
 }
 
 /// What is said of a Func.
-#[derive(Drop)]
 pub struct FuncPlan {
     /// Where it is to be computed; None where no line says so.
     pub compute: Option<ComputeLine>,
@@ -32,6 +31,21 @@ pub struct FuncPlan {
     pub pure: Stage,
     /// Those of its updates, in order.
     pub updates: Items<Stage>,
+}
+
+/// Written out, so that a check sees a call wherever one is dropped, and not the drops of its parts.
+impl Drop for FuncPlan {
+    fn drop(self) {
+        let FuncPlan {
+            compute,
+            pure,
+            updates,
+            is_directed: _,
+        } = self;
+        drop(compute);
+        drop(pure);
+        drop(updates);
+    }
 }
 
 /// What is said of each Func, in the pipeline's order. Contracts see the list.

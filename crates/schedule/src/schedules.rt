@@ -22,12 +22,20 @@ use sqlite_items::Items;
 use std::alloc::Global;
 
 /// What a schedule text means for a pipeline.
-#[derive(Drop)]
 pub struct Schedule {
     /// The loops of each Func's stages, in the pipeline's order.
     pub funcs: Plans,
     /// Whether the output reaches each Func, and where it is computed, in the same order.
     pub standings: Items<Standing>,
+}
+
+/// Written out, so that a check sees a call wherever one is dropped, and not the drops of its parts.
+impl Drop for Schedule {
+    fn drop(self) {
+        let Schedule { funcs, standings } = self;
+        drop(funcs);
+        drop(standings);
+    }
 }
 
 impl Schedule {

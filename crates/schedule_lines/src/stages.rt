@@ -79,12 +79,20 @@ pub struct Split {
 }
 
 /// The loops of a stage, and how they came about.
-#[derive(Drop)]
 pub struct Stage {
     /// At most 5, innermost first, each with a name of its own.
     pub loops: Items<Loop>,
     /// In the order of the text.
     pub splits: Items<Split>,
+}
+
+/// Written out, so that a check sees a call wherever one is dropped, and not the drops of its parts.
+impl Drop for Stage {
+    fn drop(self) {
+        let Stage { loops, splits } = self;
+        drop(loops);
+        drop(splits);
+    }
 }
 
 /// Whether two marks are the same.

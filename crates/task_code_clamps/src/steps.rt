@@ -16,11 +16,7 @@ fn with_more(alloc: Global, own: &Linear, more: u32) -> Result<Linear, AllocErro
     ensures { IfOk result (IsMore own.now more) }
 {
     let copied = own.copy(alloc)?;
-    let number = words::add(copied.number, more);
-    Ok(Linear {
-        number,
-        terms: copied.terms,
-    })
+    Ok(copied.plus_number(more))
 }
 
 /// A sum, and 1 more where it is below a number.

@@ -26,10 +26,19 @@ use task_code_scalar::places::{Place, Places};
 use task_code_values::expressions::sum_of;
 
 /// The column and the row of a point, where both are sums.
-#[derive(Debug, Drop)]
+#[derive(Debug)]
 struct Sums {
     x: Linear,
     y: Linear,
+}
+
+/// Written out, so that a check sees a call wherever one is dropped, and not the drops of its parts.
+impl Drop for Sums {
+    fn drop(self) {
+        let Sums { x, y } = self;
+        drop(x);
+        drop(y);
+    }
 }
 
 fn both_sums(alloc: Global, x: &Expr, y: &Expr) -> Result<Option<Sums>, AllocError>
@@ -329,7 +338,8 @@ pub fn emit_point_distances(
     k: u8,
 ) -> Result<(), CodeFault>
     requires { k < slots own.group }
-    ensures { OnOk result (MakesDistances code.old.items code.new.items places.now scope.now own k place.now x.now y.now) }
+    ensures { OnOk result (MakesDistances code.old.items code.new.items places.now scope.now own k place.now x.now
+        y.now) }
 {
     let next = above(own.group, k)?;
     emit_lanes(alloc, code, places, scope, own, x, k)?;

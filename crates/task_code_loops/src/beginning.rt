@@ -15,13 +15,27 @@ use task_code_scalar::CodeFault;
 
 /// A loop whose body may be appended: what registers hold in its iterations, the one of them that tells whether there
 /// is a next one, and what it is compared with.
-#[derive(Debug, Drop)]
+#[derive(Debug)]
 pub struct Begun {
     pub counter: Counter,
     pub count: u32,
     pub inner: Vec<Held>,
     pub register: u8,
     pub limit: Limit,
+}
+
+/// Written out, so that a check sees a call wherever one is dropped, and not the drops of its parts.
+impl Drop for Begun {
+    fn drop(self) {
+        let Begun {
+            inner,
+            counter: _,
+            count: _,
+            register: _,
+            limit: _,
+        } = self;
+        drop(inner);
+    }
 }
 
 /// Appends what stands in front of a loop of so many iterations: what holds these forms, as far as registers go with so

@@ -13,12 +13,24 @@ use std::alloc::{AllocError, Global};
 use task_code_loops::tests::variable;
 
 /// A name, and the expression whose value it has.
-#[derive(Debug, Drop)]
+#[derive(Debug)]
 pub struct Named {
     pub counter: Counter,
     pub e: Expr,
     /// How many nodes the expression has. Only parts of as many are compared with it: no two of them share a node.
     pub nodes: usize,
+}
+
+/// Written out, so that a check sees a call wherever one is dropped, and not the drops of its parts.
+impl Drop for Named {
+    fn drop(self) {
+        let Named {
+            e,
+            counter: _,
+            nodes: _,
+        } = self;
+        drop(e);
+    }
 }
 
 /// A name for an expression.

@@ -23,10 +23,19 @@ const MOST_NAMES: usize = 4;
 const LEFT: usize = 6;
 
 /// What registers hold behind code that gives names their values, and what is known there.
-#[derive(Debug, Drop)]
+#[derive(Debug)]
 pub struct Naming {
     pub scope: Vec<Held>,
     pub context: Context,
+}
+
+/// Written out, so that a check sees a call wherever one is dropped, and not the drops of its parts.
+impl Drop for Naming {
+    fn drop(self) {
+        let Naming { scope, context } = self;
+        drop(scope);
+        drop(context);
+    }
 }
 
 /// Code that leaves an expression's value in a register, if it is made of forms that registers hold.

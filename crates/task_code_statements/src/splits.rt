@@ -134,7 +134,7 @@ pub(crate) struct Entered {
     pub form: Form,
 }
 
-/// Written out, so that a function that drops one has a call here for each way out.
+/// Written out, so that a check sees a call wherever one is dropped, and not the drops of its parts.
 impl Drop for Entered {
     fn drop(self) {
         let Entered { inner: _, form: _ } = self;

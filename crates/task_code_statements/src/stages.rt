@@ -18,18 +18,33 @@ pub struct CodeStage {
 }
 
 /// The stages inside a phase, in the order of their code.
-#[derive(Drop)]
 pub struct Stages {
     /// The Func of the phase.
     pub own: usize,
     pub list: Vec<CodeStage>,
 }
 
+/// Written out, so that a check sees a call wherever one is dropped, and not the drops of its parts.
+impl Drop for Stages {
+    fn drop(self) {
+        let Stages { list, own: _ } = self;
+        drop(list);
+    }
+}
+
 /// Words, and which of them are the code of stages inside their phase.
-#[derive(Drop)]
 pub struct Code {
     pub words: Vec<u32>,
     pub stages: Stages,
+}
+
+/// Written out, so that a check sees a call wherever one is dropped, and not the drops of its parts.
+impl Drop for Code {
+    fn drop(self) {
+        let Code { words, stages } = self;
+        drop(words);
+        drop(stages);
+    }
 }
 
 /// The Func whose stage a statement is: nests of other Funcs stand in front of its own stores.

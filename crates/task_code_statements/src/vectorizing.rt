@@ -33,7 +33,7 @@ pub struct Guarded {
     pub guards: Vec<Guard>,
 }
 
-/// Written out, so that a function that drops one has a call here for each way out, and not what dropping trees takes.
+/// Written out, so that a check sees a call wherever one is dropped, and not the drops of its parts.
 impl Drop for Guarded {
     fn drop(self) {
         let Guarded { store, guards: _ } = self;

@@ -28,12 +28,22 @@ use task_code_scalar::instructions::{alu, alu_small, shift};
 use task_code_scalar::places::{Pixels, Place};
 
 /// An index of a point.
-#[derive(Debug, Drop)]
+#[derive(Debug)]
 pub enum Index {
     /// A sum of loop variables, of which an address can be made.
     Sum(Linear),
     /// The register that holds it.
     Register(u8),
+}
+
+/// Written out, so that a check sees a call wherever one is dropped, and not the drops of its parts.
+impl Drop for Index {
+    fn drop(self) {
+        match self {
+            Index::Sum(own) => drop(own),
+            Index::Register(_) => {}
+        }
+    }
 }
 
 /// 2 to this is the number of bytes of a word.

@@ -21,7 +21,7 @@ returns-in_ok-made-in-Number-clause-loads c = λ reads values test h. linear_pas
 pub returns-in_ok-made-in-Linear-clause-value : goal.returns-in_ok-made-in-Linear-clause-value
 returns-in_ok-made-in-Linear-clause-value c = λ reads values.
     linear_is reads values c.in_ok-made-in-Linear.made ∙ c.in_ok-made-in-Linear.ensures.value values
-    ∙ ap (λ (n : ℕ). word.subtract n (linear_value values c.args.corner.now)) (sym (linear_is reads values c.in-Linear.own) ∙ sym (ap (value reads values) c.in-Linear.is))
+    ∙ ap (λ (n : ℕ). word.subtract n (linear_value values c.args.corner.now)) (ap (linear_value values) c.in_ok-sum-in-Linear.ensures ∙ sym (linear_is reads values c.in-Linear.own) ∙ sym (ap (value reads values) c.in-Linear.is))
 
 pub returns-in_ok-made-in-Linear-clause-loads : goal.returns-in_ok-made-in-Linear-clause-loads
 returns-in_ok-made-in-Linear-clause-loads c = λ reads values test h. linear_passes reads values c.in_ok-made-in-Linear.made test
@@ -75,7 +75,8 @@ returns-in_ok-made-in-Linear-clause-sizes c = λ few.
     let i = linear_size (e.Linear c.in_ok-made-in-Linear.made) c.in_ok-made-in-Linear.made refl in
     let j = linear_size c.args.coordinate c.in-Linear.own c.in-Linear.is in
     let l = c.in_ok-made-in-Linear.ensures.few in
-    omega (arith, i, j, l, few)
+    let same = ap (λ (own : Linear). length own.terms) c.in_ok-sum-in-Linear.ensures in
+    omega (arith, i, j, l, same, few)
 
 pub returns-in_ok-made-in-Linear-clause-numbers : goal.returns-in_ok-made-in-Linear-clause-numbers
 returns-in_ok-made-in-Linear-clause-numbers c = λ few n is. absurd cc

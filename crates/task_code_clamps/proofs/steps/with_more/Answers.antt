@@ -1,5 +1,7 @@
-use Rattle.task_code_clamps.proofs.Stepping.{more-is}
+use Rattle.std.proofs.Common.{ℕ, ap, ◌∙◌}
+use Rattle.halide_pipeline.specs.Words as word
+use Rattle.loop_ir.specs.Expressions.{linear_value}
 use Rattle.task_code_clamps.proofs.steps.with_more.Goals as goal
 
 pub returns : goal.returns
-returns c = more-is c.args.own.now c.in_ok-copied.copied c.args.more c.add-number.result c.in_ok-copied.ensures c.add-number.ensures
+returns c = λ values. c.plus_number.ensures.value values ∙ ap (λ (n : ℕ). word.add n c.args.more) (ap (linear_value values) c.in_ok-copied.ensures)
