@@ -10,8 +10,20 @@ use crate::boxes::{NO_LOOPS, SourceBox};
 use bounds_ranges::bases::no_base;
 use bounds_ranges::expressions::{Asked, OwnCalls, Scope, Variables, ranged, ranged_update};
 use bounds_ranges::ranges::{Ends, LEAST, Lasts, ORIGIN, Range, fit, literal};
-use halide_pipeline::{Expr, Func, Input, Reduction, Source, Update};
+use halide_pipeline::{Expr, Func, Pipeline, Reduction, Source, Update};
 use std::alloc::AllocError;
+
+/// A Func as it reads: where it stands in its pipeline, and where its arguments lie.
+#[derive(Clone, Copy)]
+pub struct ReadingFunc<'a> {
+    pub pipeline: &'a Pipeline,
+    /// Which Funcs are inlined.
+    pub flags: &'a [bool],
+    /// The Func's place, from 0.
+    pub place: usize,
+    /// The box in which its arguments lie.
+    pub view: &'a SourceBox,
+}
 
 /// The end that stands for a word, as a signed number.
 fn spot(word: u32) -> u64
@@ -91,33 +103,31 @@ fn own_calls(place: usize, update: &Update) -> OwnCalls
 /// The range of a left index, behind what it reads.
 #[tactic(auto, unfolding(crate::specs::Asks::left))]
 fn ask_left(
-    inputs: &[Input],
-    funcs: &[Func],
-    flags: &[bool],
-    place: usize,
-    view: &SourceBox,
+    reader: &ReadingFunc<'_>,
     update: &Update,
     index: &Expr,
     asked: &mut Vec<Asked>,
 ) -> Result<Range, AllocError>
-    requires x { IsFit view.now.lasts view.now.x }
-    requires y { IsFit view.now.lasts view.now.y }
-    requires reads { AreFitReads view.now.lasts asked.old.items }
+    requires x { IsFit reader.now.view.now.lasts reader.now.view.now.x }
+    requires y { IsFit reader.now.view.now.lasts reader.now.view.now.y }
+    requires reads { AreFitReads reader.now.view.now.lasts asked.old.items }
     ensures range { IfOk result (λ r. r
-        ≡ (spec.left inputs.now funcs.now flags.now place view.now update.now index.now).range) }
-    ensures fits { IfOk result (λ r. IsFit view.now.lasts r) }
+        ≡ (spec.left reader.now.pipeline.now.inputs reader.now.pipeline.now.funcs reader.now.flags.now
+        reader.now.place reader.now.view.now update.now index.now).range) }
+    ensures fits { IfOk result (λ r. IsFit reader.now.view.now.lasts r) }
     ensures asked { OnOk result (asked.new.items ≡ asked.old.items
-        ++ (spec.left inputs.now funcs.now flags.now place view.now update.now index.now).asked) }
-    ensures reads { OnOk result (AreFitReads view.now.lasts asked.new.items) }
+        ++ (spec.left reader.now.pipeline.now.inputs reader.now.pipeline.now.funcs reader.now.flags.now
+        reader.now.place reader.now.view.now update.now index.now).asked) }
+    ensures reads { OnOk result (AreFitReads reader.now.view.now.lasts asked.new.items) }
 {
-    let variables = update_variables(view, update);
-    let own = own_calls(place, update);
+    let variables = update_variables(reader.view, update);
+    let own = own_calls(reader.place, update);
     let scope = Scope {
-        lasts: &view.lasts,
-        inputs,
-        funcs,
-        flags,
-        count: place,
+        lasts: &reader.view.lasts,
+        inputs: reader.pipeline.inputs(),
+        funcs: reader.pipeline.funcs(),
+        flags: reader.flags,
+        count: reader.place,
         variables: &variables,
     };
     let range = ranged_update(&scope, &own, true, index, asked)?;
@@ -126,28 +136,26 @@ fn ask_left(
 
 /// The same of a second left index; 0 where there is none.
 fn ask_second_left(
-    inputs: &[Input],
-    funcs: &[Func],
-    flags: &[bool],
-    place: usize,
-    view: &SourceBox,
+    reader: &ReadingFunc<'_>,
     update: &Update,
     asked: &mut Vec<Asked>,
 ) -> Result<Range, AllocError>
-    requires x { IsFit view.now.lasts view.now.x }
-    requires y { IsFit view.now.lasts view.now.y }
-    requires reads { AreFitReads view.now.lasts asked.old.items }
+    requires x { IsFit reader.now.view.now.lasts reader.now.view.now.x }
+    requires y { IsFit reader.now.view.now.lasts reader.now.view.now.y }
+    requires reads { AreFitReads reader.now.view.now.lasts asked.old.items }
     ensures range { IfOk result (λ r. r
-        ≡ (spec.second_left inputs.now funcs.now flags.now place view.now update.now update.now.left_y).range) }
-    ensures fits { IfOk result (λ r. IsFit view.now.lasts r) }
+        ≡ (spec.second_left reader.now.pipeline.now.inputs reader.now.pipeline.now.funcs reader.now.flags.now
+        reader.now.place reader.now.view.now update.now update.now.left_y).range) }
+    ensures fits { IfOk result (λ r. IsFit reader.now.view.now.lasts r) }
     ensures asked { OnOk result (asked.new.items ≡ asked.old.items
-        ++ (spec.second_left inputs.now funcs.now flags.now place view.now update.now update.now.left_y).asked) }
-    ensures reads { OnOk result (AreFitReads view.now.lasts asked.new.items) }
+        ++ (spec.second_left reader.now.pipeline.now.inputs reader.now.pipeline.now.funcs reader.now.flags.now
+        reader.now.place reader.now.view.now update.now update.now.left_y).asked) }
+    ensures reads { OnOk result (AreFitReads reader.now.view.now.lasts asked.new.items) }
 {
     match &update.left_y {
-        None => Ok(literal(&view.lasts, 0)),
+        None => Ok(literal(&reader.view.lasts, 0)),
         Some(index) => {
-            let range = ask_left(inputs, funcs, flags, place, view, update, index, asked)?;
+            let range = ask_left(reader, update, index, asked)?;
             Ok(range)
         }
     }
@@ -156,141 +164,112 @@ fn ask_second_left(
 /// Appends what the right side of an update reads.
 #[tactic(auto, unfolding(crate::specs::Asks::right))]
 fn ask_right(
-    inputs: &[Input],
-    funcs: &[Func],
-    flags: &[bool],
-    place: usize,
-    view: &SourceBox,
+    reader: &ReadingFunc<'_>,
     update: &Update,
     asked: &mut Vec<Asked>,
 ) -> Result<(), AllocError>
-    requires few { place < 2 ^ 63 }
-    requires x { IsFit view.now.lasts view.now.x }
-    requires y { IsFit view.now.lasts view.now.y }
-    requires reads { AreFitReads view.now.lasts asked.old.items }
+    requires few { reader.now.place < 2 ^ 63 }
+    requires x { IsFit reader.now.view.now.lasts reader.now.view.now.x }
+    requires y { IsFit reader.now.view.now.lasts reader.now.view.now.y }
+    requires reads { AreFitReads reader.now.view.now.lasts asked.old.items }
     ensures asked { OnOk result (asked.new.items ≡ asked.old.items
-        ++ (spec.right inputs.now funcs.now flags.now place view.now update.now).asked) }
-    ensures reads { OnOk result (AreFitReads view.now.lasts asked.new.items) }
+        ++ (spec.right reader.now.pipeline.now.inputs reader.now.pipeline.now.funcs reader.now.flags.now
+        reader.now.place reader.now.view.now update.now).asked) }
+    ensures reads { OnOk result (AreFitReads reader.now.view.now.lasts asked.new.items) }
 {
-    let variables = update_variables(view, update);
-    let own = own_calls(place, update);
+    let variables = update_variables(reader.view, update);
+    let own = own_calls(reader.place, update);
     let scope = Scope {
-        lasts: &view.lasts,
-        inputs,
-        funcs,
-        flags,
-        count: place + 1,
+        lasts: &reader.view.lasts,
+        inputs: reader.pipeline.inputs(),
+        funcs: reader.pipeline.funcs(),
+        flags: reader.flags,
+        count: reader.place + 1,
         variables: &variables,
     };
     ranged_update(&scope, &own, false, &update.right, asked)?;
     Ok(())
 }
 
-/// Appends what an update of the Func at a place reads, and its left side as a read of the Func.
+/// Appends what an update of the Func reads, and its left side as a read of the Func.
 #[tactic(auto, unfolding(crate::specs::Asks::update_asked), using(bounds_ranges::proofs::Walking::fit_behind))]
 pub fn ask_update(
-    inputs: &[Input],
-    funcs: &[Func],
-    flags: &[bool],
-    place: usize,
-    view: &SourceBox,
+    reader: &ReadingFunc<'_>,
     update: &Update,
     asked: &mut Vec<Asked>,
 ) -> Result<(), AllocError>
-    requires few { place < 2 ^ 63 }
-    requires x { IsFit view.now.lasts view.now.x }
-    requires y { IsFit view.now.lasts view.now.y }
-    requires reads { AreFitReads view.now.lasts asked.old.items }
-    ensures asked { OnOk result (asked.new.items ≡ asked.old.items ++ spec.update_asked inputs.now funcs.now flags.now
-        place view.now update.now) }
-    ensures reads { OnOk result (AreFitReads view.now.lasts asked.new.items) }
+    requires few { reader.now.place < 2 ^ 63 }
+    requires x { IsFit reader.now.view.now.lasts reader.now.view.now.x }
+    requires y { IsFit reader.now.view.now.lasts reader.now.view.now.y }
+    requires reads { AreFitReads reader.now.view.now.lasts asked.old.items }
+    ensures asked { OnOk result (asked.new.items ≡ asked.old.items
+        ++ spec.update_asked reader.now.pipeline.now.inputs reader.now.pipeline.now.funcs reader.now.flags.now
+        reader.now.place reader.now.view.now update.now) }
+    ensures reads { OnOk result (AreFitReads reader.now.view.now.lasts asked.new.items) }
 {
-    let x = ask_left(
-        inputs,
-        funcs,
-        flags,
-        place,
-        view,
-        update,
-        &update.left_x,
-        asked,
-    )?;
-    let y = ask_second_left(inputs, funcs, flags, place, view, update, asked)?;
+    let x = ask_left(reader, update, &update.left_x, asked)?;
+    let y = ask_second_left(reader, update, asked)?;
     asked.push(Asked {
-        source: Source::Func(place),
+        source: Source::Func(reader.place),
         x,
         y,
     })?;
-    ask_right(inputs, funcs, flags, place, view, update, asked)?;
+    ask_right(reader, update, asked)?;
     Ok(())
 }
 
 /// The same of updates.
 fn ask_updates(
-    inputs: &[Input],
-    funcs: &[Func],
-    flags: &[bool],
-    place: usize,
-    view: &SourceBox,
+    reader: &ReadingFunc<'_>,
     updates: &[Update],
     asked: &mut Vec<Asked>,
 ) -> Result<(), AllocError>
-    requires few { place < 2 ^ 63 }
-    requires x { IsFit view.now.lasts view.now.x }
-    requires y { IsFit view.now.lasts view.now.y }
-    requires reads { AreFitReads view.now.lasts asked.old.items }
-    ensures asked { OnOk result (asked.new.items ≡ asked.old.items ++ spec.updates_asked inputs.now funcs.now flags.now
-        place view.now updates.now) }
-    ensures reads { OnOk result (AreFitReads view.now.lasts asked.new.items) }
+    requires few { reader.now.place < 2 ^ 63 }
+    requires x { IsFit reader.now.view.now.lasts reader.now.view.now.x }
+    requires y { IsFit reader.now.view.now.lasts reader.now.view.now.y }
+    requires reads { AreFitReads reader.now.view.now.lasts asked.old.items }
+    ensures asked { OnOk result (asked.new.items ≡ asked.old.items
+        ++ spec.updates_asked reader.now.pipeline.now.inputs reader.now.pipeline.now.funcs reader.now.flags.now
+        reader.now.place reader.now.view.now updates.now) }
+    ensures reads { OnOk result (AreFitReads reader.now.view.now.lasts asked.new.items) }
 {
     match updates {
         [] => Ok(()),
         [update, others @ ..] => {
-            ask_update(inputs, funcs, flags, place, view, update, asked)?;
-            ask_updates(inputs, funcs, flags, place, view, others, asked)?;
+            ask_update(reader, update, asked)?;
+            ask_updates(reader, others, asked)?;
             Ok(())
         }
     }
 }
 
-/// Appends all that the Func at a place reads, whose arguments lie in this box.
+/// Appends all that the Func reads; `func` has its definitions.
 #[tactic(auto, unfolding(crate::specs::Asks::func_asked))]
 pub fn ask_func(
-    inputs: &[Input],
-    funcs: &[Func],
-    flags: &[bool],
-    place: usize,
-    view: &SourceBox,
+    reader: &ReadingFunc<'_>,
     func: &Func,
     asked: &mut Vec<Asked>,
 ) -> Result<(), AllocError>
-    requires few { place < 2 ^ 63 }
-    requires x { IsFit view.now.lasts view.now.x }
-    requires y { IsFit view.now.lasts view.now.y }
-    requires reads { AreFitReads view.now.lasts asked.old.items }
-    ensures asked { OnOk result (asked.new.items ≡ asked.old.items ++ spec.func_asked inputs.now funcs.now flags.now
-        place view.now func.now) }
-    ensures reads { OnOk result (AreFitReads view.now.lasts asked.new.items) }
+    requires few { reader.now.place < 2 ^ 63 }
+    requires x { IsFit reader.now.view.now.lasts reader.now.view.now.x }
+    requires y { IsFit reader.now.view.now.lasts reader.now.view.now.y }
+    requires reads { AreFitReads reader.now.view.now.lasts asked.old.items }
+    ensures asked { OnOk result (asked.new.items ≡ asked.old.items
+        ++ spec.func_asked reader.now.pipeline.now.inputs reader.now.pipeline.now.funcs reader.now.flags.now
+        reader.now.place reader.now.view.now func.now) }
+    ensures reads { OnOk result (AreFitReads reader.now.view.now.lasts asked.new.items) }
 {
-    let variables = pure_variables(view);
+    let variables = pure_variables(reader.view);
     let scope = Scope {
-        lasts: &view.lasts,
-        inputs,
-        funcs,
-        flags,
-        count: place,
+        lasts: &reader.view.lasts,
+        inputs: reader.pipeline.inputs(),
+        funcs: reader.pipeline.funcs(),
+        flags: reader.flags,
+        count: reader.place,
         variables: &variables,
     };
     ranged(&scope, &func.pure, asked)?;
-    ask_updates(
-        inputs,
-        funcs,
-        flags,
-        place,
-        view,
-        func.updates.as_slice(),
-        asked,
-    )?;
+    ask_updates(reader, func.updates.as_slice(), asked)?;
     Ok(())
 }
 

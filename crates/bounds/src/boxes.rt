@@ -37,6 +37,14 @@ pub struct HostLoop {
     pub lasts: Lasts,
 }
 
+/// The source whose box is inferred.
+#[derive(Clone, Copy)]
+pub struct InferredSource<'a> {
+    pub source: Source,
+    /// The loop at which it is computed, if it is a Func at one.
+    pub host: &'a Option<HostLoop>,
+}
+
 /// The ranges so far in which a source is read.
 #[derive(Clone, Copy, Debug)]
 pub struct Spread {
@@ -175,27 +183,27 @@ fn with_read(
     }
 }
 
-/// The ranges so far with all reads of a source among these, of whose dimensions these count.
+/// The ranges so far with all reads of the source among these, of whose dimensions these count.
 #[tactic(auto, unfolding(bounds_ranges::specs::Expressions::AreFitReads))]
 pub fn gathered(
-    host: &Option<HostLoop>,
+    sought: &InferredSource<'_>,
     lasts: &Lasts,
-    source: Source,
     first: bool,
     second: bool,
     spread: Spread,
     asked: &[Asked],
 ) -> Spread
-    requires spread { spec.IsSpread (spec.lasts_of host.now) spread }
+    requires spread { spec.IsSpread (spec.lasts_of sought.now.host.now) spread }
     requires asked { AreFitReads lasts.now asked.now }
-    ensures value { result ≡ spec.gathered host.now lasts.now source first second spread asked.now }
-    ensures fits { spec.IsSpread (spec.lasts_of host.now) result }
+    ensures value { result ≡ spec.gathered sought.now.host.now lasts.now sought.now.source first second spread
+        asked.now }
+    ensures fits { spec.IsSpread (spec.lasts_of sought.now.host.now) result }
 {
     let mut found = spread;
     let mut rest = asked;
     'reads: while let [read, others @ ..] = rest {
-        if same_source(read.source, source) {
-            found = with_read(host, lasts, first, second, found, read);
+        if same_source(read.source, sought.source) {
+            found = with_read(sought.host, lasts, first, second, found, read);
         }
         rest = others;
     }

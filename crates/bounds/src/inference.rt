@@ -6,8 +6,8 @@ ghost use Rattle.bounds.specs.Inference as spec;
 ghost use Rattle.bounds.specs.Views.{AreSmall};
 ghost use Rattle.bounds_ranges.specs.Ranges.{IsFit};
 
-use crate::boxes::{HostLoop, NO_SPREAD, SourceBox, Spread, lasts_of, spread_box};
-use crate::readings::{own_updates, read_from};
+use crate::boxes::{HostLoop, InferredSource, NO_SPREAD, SourceBox, Spread, lasts_of, spread_box};
+use crate::readings::{Scheduled, own_updates, read_from};
 use crate::source_boxes::{SourceBoxes, in_front};
 use crate::views::host_loop;
 use bounds_ranges::bases::no_base;
@@ -89,57 +89,46 @@ fn host_of(
 /// The box of a Func that is computed.
 fn computed_box(
     alloc: Global,
-    pipeline: &Pipeline,
-    schedule: &Schedule,
-    flags: &[bool],
+    scheduled: &Scheduled<'_>,
     at: usize,
     func: &Func,
     behind: &[Option<SourceBox>],
     host: &Option<HostLoop>,
 ) -> Result<Option<SourceBox>, AllocError>
     requires few { at + 1 + length behind.now < 2 ^ 63 }
-    requires small { AreSmall schedule.now }
+    requires small { AreSmall scheduled.now.schedule.now }
     requires boxes { AreBoxes behind.now }
-    ensures value { IfOk result (λ s. s ≡ spec.computed_box pipeline.now schedule.now flags.now at func.now behind.now
-        host.now) }
+    ensures value { IfOk result (λ s. s ≡ spec.computed_box scheduled.now.pipeline.now scheduled.now.schedule.now
+        scheduled.now.flags.now at func.now behind.now host.now) }
     ensures fits { IfOk result (λ own. IsFitBox own) }
 {
     let updates = func.updates.as_slice();
-    let spread = wanted(pipeline, at, host);
-    let spread = own_updates(alloc, pipeline, flags, at, host, spread, updates)?;
-    let source = Source::Func(at);
-    let spread = read_from(
-        alloc,
-        pipeline,
-        schedule,
-        flags,
-        at + 1,
+    let spread = wanted(scheduled.pipeline, at, host);
+    let spread = own_updates(alloc, scheduled, at, host, spread, updates)?;
+    let sought = InferredSource {
+        source: Source::Func(at),
         host,
-        source,
-        behind,
-        spread,
-    )?;
+    };
+    let spread = read_from(alloc, scheduled, at + 1, &sought, behind, spread)?;
     Ok(spread_box(host, spread))
 }
 
 /// The box of the Func at a place, if it is computed.
 fn func_box(
     alloc: Global,
-    pipeline: &Pipeline,
-    schedule: &Schedule,
-    flags: &[bool],
+    scheduled: &Scheduled<'_>,
     at: usize,
     func: &Func,
     behind: &[Option<SourceBox>],
 ) -> Result<Option<SourceBox>, AllocError>
     requires few { at + 1 + length behind.now < 2 ^ 63 }
-    requires small { AreSmall schedule.now }
+    requires small { AreSmall scheduled.now.schedule.now }
     requires boxes { AreBoxes behind.now }
-    ensures value { IfOk result (λ s. s ≡ spec.func_box pipeline.now schedule.now flags.now at func.now behind.now
-        (slice_get schedule.now.standings at)) }
+    ensures value { IfOk result (λ s. s ≡ spec.func_box scheduled.now.pipeline.now scheduled.now.schedule.now
+        scheduled.now.flags.now at func.now behind.now (slice_get scheduled.now.schedule.now.standings at)) }
     ensures fits { IfOk result (λ own. IsFitBox own) }
 {
-    let Some(own) = schedule.standing(at) else {
+    let Some(own) = scheduled.schedule.standing(at) else {
         return Ok(None);
     };
     if !own.is_reached {
@@ -147,42 +136,33 @@ fn func_box(
     }
     let host = match own.place {
         Place::Root => None,
-        Place::At(place) => host_of(alloc, schedule, at + 1, behind, place)?,
+        Place::At(place) => host_of(alloc, scheduled.schedule, at + 1, behind, place)?,
         Place::Inlined | Place::Nowhere => return Ok(None),
     };
-    let own = computed_box(alloc, pipeline, schedule, flags, at, func, behind, &host)?;
+    let own = computed_box(alloc, scheduled, at, func, behind, &host)?;
     Ok(own)
 }
 
 /// The boxes of the Funcs from a place on; None where one leaves -2^24 to 2^24.
 pub fn boxes_from(
     alloc: Global,
-    pipeline: &Pipeline,
-    schedule: &Schedule,
-    flags: &[bool],
+    scheduled: &Scheduled<'_>,
     at: usize,
     funcs: &[Func],
 ) -> Result<Option<SourceBoxes>, AllocError>
     requires few { at + length funcs.now < 2 ^ 63 }
-    requires small { AreSmall schedule.now }
-    ensures value { IfOk result (λ s. s ≡ spec.boxes_from pipeline.now schedule.now flags.now at funcs.now) }
+    requires small { AreSmall scheduled.now.schedule.now }
+    ensures value { IfOk result (λ s. s ≡ spec.boxes_from scheduled.now.pipeline.now scheduled.now.schedule.now
+        scheduled.now.flags.now at funcs.now) }
     ensures count { IfOk result (λ s. spec.HasCount (length funcs.now) s) }
 {
     match funcs {
         [] => Ok(Some(SourceBoxes::new(alloc))),
         [func, others @ ..] => {
-            let Some(behind) = boxes_from(alloc, pipeline, schedule, flags, at + 1, others)? else {
+            let Some(behind) = boxes_from(alloc, scheduled, at + 1, others)? else {
                 return Ok(None);
             };
-            let own = func_box(
-                alloc,
-                pipeline,
-                schedule,
-                flags,
-                at,
-                func,
-                behind.as_slice(),
-            )?;
+            let own = func_box(alloc, scheduled, at, func, behind.as_slice())?;
             let boxes = in_front(own, behind)?;
             Ok(boxes)
         }
@@ -192,50 +172,48 @@ pub fn boxes_from(
 /// The box of the input at a place.
 fn input_box(
     alloc: Global,
-    pipeline: &Pipeline,
-    schedule: &Schedule,
-    flags: &[bool],
+    scheduled: &Scheduled<'_>,
     boxes: &[Option<SourceBox>],
     place: usize,
 ) -> Result<Option<SourceBox>, AllocError>
     requires few { length boxes.now < 2 ^ 63 }
-    requires small { AreSmall schedule.now }
+    requires small { AreSmall scheduled.now.schedule.now }
     requires boxes { AreBoxes boxes.now }
-    ensures value { IfOk result (λ s. s ≡ spec.input_box pipeline.now schedule.now flags.now boxes.now place) }
+    ensures value { IfOk result (λ s. s ≡ spec.input_box scheduled.now.pipeline.now scheduled.now.schedule.now
+        scheduled.now.flags.now boxes.now place) }
     ensures fits { IfOk result (λ own. IsFitBox own) }
 {
-    let source = Source::Input(place);
-    let spread = read_from(
-        alloc, pipeline, schedule, flags, 0, &None, source, boxes, NO_SPREAD,
-    )?;
-    Ok(spread_box(&None, spread))
+    let sought = InferredSource {
+        source: Source::Input(place),
+        host: &None,
+    };
+    let spread = read_from(alloc, scheduled, 0, &sought, boxes, NO_SPREAD)?;
+    Ok(spread_box(sought.host, spread))
 }
 
 /// The boxes of the inputs from a place on; None where one leaves -2^24 to 2^24.
 pub fn inputs_from(
     alloc: Global,
-    pipeline: &Pipeline,
-    schedule: &Schedule,
-    flags: &[bool],
+    scheduled: &Scheduled<'_>,
     boxes: &[Option<SourceBox>],
     place: usize,
     inputs: &[Input],
 ) -> Result<Option<SourceBoxes>, AllocError>
     requires few { length boxes.now < 2 ^ 63 }
     requires places { place + length inputs.now < 2 ^ 63 }
-    requires small { AreSmall schedule.now }
+    requires small { AreSmall scheduled.now.schedule.now }
     requires boxes { AreBoxes boxes.now }
-    ensures value { IfOk result (λ s. s ≡ spec.inputs_from pipeline.now schedule.now flags.now boxes.now place
-        inputs.now) }
+    ensures value { IfOk result (λ s. s ≡ spec.inputs_from scheduled.now.pipeline.now scheduled.now.schedule.now
+        scheduled.now.flags.now boxes.now place inputs.now) }
 {
     match inputs {
         [] => Ok(Some(SourceBoxes::new(alloc))),
         [_, others @ ..] => {
-            let behind = inputs_from(alloc, pipeline, schedule, flags, boxes, place + 1, others)?;
+            let behind = inputs_from(alloc, scheduled, boxes, place + 1, others)?;
             let Some(behind) = behind else {
                 return Ok(None);
             };
-            let own = input_box(alloc, pipeline, schedule, flags, boxes, place)?;
+            let own = input_box(alloc, scheduled, boxes, place)?;
             let boxes = in_front(own, behind)?;
             Ok(boxes)
         }

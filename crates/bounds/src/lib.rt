@@ -5,8 +5,8 @@
 //!   has what is judged of boxes, [`faults`] why there are none.
 //! - [`boxes`]: the box of a source, as the hull of the ranges in which it is read (`specs/Boxes.antt`).
 //! - [`views`]: between which numbers a Func's arguments lie where it reads a source (`specs/Views.antt`).
-//! - [`asks`]: what a Func reads that is computed (`specs/Asks.antt`).
-//! - [`readings`], [`inference`], [`source_boxes`]: the boxes of all sources, from the output back
+//! - `asks`: what a Func reads that is computed (`specs/Asks.antt`).
+//! - `readings`, `inference`, [`source_boxes`]: the boxes of all sources, from the output back
 //!   (`specs/Inference.antt`).
 //! - [`layout`]: where inputs, boxes and frames lie (`specs/Layout.antt`).
 //! - [`tasks`]: how many tasks each phase has (`specs/Tasks.antt`).
@@ -18,14 +18,14 @@
 //! That what is read lies in its box is proved in the crate `bounds_laws`.
 #![tactic(auto)]
 
-pub mod asks;
+mod asks;
 pub mod boxes;
 pub mod faults;
-pub mod inference;
+mod inference;
 pub mod judging;
 pub mod laws;
 pub mod layout;
-pub mod readings;
+mod readings;
 pub mod source_boxes;
 pub mod sources;
 pub mod tasks;

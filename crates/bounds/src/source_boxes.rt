@@ -9,7 +9,6 @@ use std::alloc::{AllocError, Global};
 use std::marker::Model;
 
 /// A box for each of several sources, None where it has none. Each stays from -2^24 to 2^24. Contracts see the list.
-#[derive(Drop)]
 pub struct SourceBoxes {
     boxes: Vec<Option<SourceBox>>,
 }
@@ -24,6 +23,14 @@ impl Model for SourceBoxes {
     ghost view = { λ s. s.boxes.items };
 
     ghost invariant = { λ s. AreBoxes s.boxes.items };
+}
+
+/// Written out, so that a check sees a call wherever one is dropped, and not the drops of its parts.
+impl Drop for SourceBoxes {
+    fn drop(self) {
+        let SourceBoxes { boxes } = self;
+        drop(boxes);
+    }
 }
 
 impl SourceBoxes {
@@ -49,7 +56,7 @@ impl SourceBoxes {
         requires { spec.IsBoxOrNone own }
         ensures { IfOk result (λ boxes. boxes ≡ own ∷ self) }
     {
-        let mut boxes = self.boxes;
+        let SourceBoxes { mut boxes } = self;
         boxes.insert(0, own)?;
         Ok(SourceBoxes { boxes })
     }

@@ -10,6 +10,7 @@ use crate::faults::BoundsFault;
 use crate::inference::{boxes_from, inputs_from};
 use crate::judging::{have_few_points, inputs_hold, shifts_hold};
 use crate::layout::{Layout, MOST_DATA, laid_out};
+use crate::readings::Scheduled;
 use crate::source_boxes::SourceBoxes;
 use bounds_weights::weighing::inlined_flags;
 use halide_pipeline::Pipeline;
@@ -17,13 +18,26 @@ use schedule::Schedule;
 use std::alloc::Global;
 
 /// The boxes of all sources, and where they lie in the data of a compiled image.
-#[derive(Drop)]
 pub struct Boxes {
     /// Of each input, None where it isn't read.
     pub inputs: SourceBoxes,
     /// Of each Func, None where the output doesn't reach it and where it is inlined.
     pub funcs: SourceBoxes,
     pub layout: Layout,
+}
+
+/// Written out, so that a check sees a call wherever one is dropped, and not the drops of its parts.
+impl Drop for Boxes {
+    fn drop(self) {
+        let Boxes {
+            inputs,
+            funcs,
+            layout,
+        } = self;
+        drop(inputs);
+        drop(funcs);
+        drop(layout);
+    }
 }
 
 /// The boxes, unless one of them or the data are too large.
@@ -81,21 +95,16 @@ pub fn infer(pipeline: &Pipeline, schedule: &Schedule, alloc: Global) -> Result<
     ensures { spec.Infers result (spec.inferred pipeline.now schedule.now) }
 {
     let flags = inlined_flags(alloc, schedule.standings.as_slice())?;
-    let flags = flags.as_slice();
-    let Some(funcs) = boxes_from(alloc, pipeline, schedule, flags, 0, pipeline.funcs())? else {
+    let scheduled = Scheduled {
+        pipeline,
+        schedule,
+        flags: flags.as_slice(),
+    };
+    let Some(funcs) = boxes_from(alloc, &scheduled, 0, pipeline.funcs())? else {
         return Err(BoundsFault::FarBox);
     };
     let boxes = funcs.as_slice();
-    let Some(inputs) = inputs_from(
-        alloc,
-        pipeline,
-        schedule,
-        flags,
-        boxes,
-        0,
-        pipeline.inputs(),
-    )?
-    else {
+    let Some(inputs) = inputs_from(alloc, &scheduled, boxes, 0, pipeline.inputs())? else {
         return Err(BoundsFault::FarBox);
     };
     judged(pipeline, schedule, funcs, inputs, alloc)
