@@ -4,87 +4,76 @@ ghost use Rattle.std.specs.Prelude.{◌≡◌, ◌≤◌, ◌*◌, List, IfOk, O
 ghost use Rattle.schedule.specs.Accepted.{IsAccepted};
 ghost use Rattle.bounds.specs.Verdict.{inferred};
 ghost use Rattle.loop_ir.specs.declared.statements.Phase.{Phase as MadePhase};
+ghost use Rattle.lowering.specs.Bounded.{IsBounded};
 ghost use Rattle.lowering.specs.Lowered as spec;
 ghost use Rattle.lowering.specs.PurePhases.{IsAtRoot};
 ghost use Rattle.lowering.specs.Registers.{TakeFew};
 ghost use Rattle.lowering.specs.Sizes.{words_of};
 ghost use Rattle.bounds_weights.specs.Weight.{weight};
 
+use crate::computed::{Bounded, ComputedFunc};
 use crate::hosting::box_at;
 use crate::pure_phases::{is_at_root, pure_phase};
 use crate::updates::{UpdateOf, update_phase};
-use bounds::{Boxes, SourceBox};
-use halide_pipeline::{Func, Pipeline};
+use bounds::Boxes;
+use halide_pipeline::Pipeline;
 use loop_ir::statements::Phase;
-use schedule::{FuncPlan, Schedule};
+use schedule::Schedule;
 use std::alloc::{AllocError, Global};
 
 /// The phase of the stage with this number of a Func that is computed at root, if it has that stage.
 fn stage_phase(
     alloc: Global,
-    pipeline: &Pipeline,
-    schedule: &Schedule,
-    boxes: &Boxes,
-    place: usize,
-    func: &Func,
-    plan: &FuncPlan,
-    own: &SourceBox,
+    bounded: &Bounded<'_>,
+    computed: &ComputedFunc<'_>,
     number: usize,
 ) -> Result<Option<Phase>, AllocError>
-    requires accepted { IsAccepted pipeline.now schedule.now }
-    requires boxes { inferred pipeline.now schedule.now ≡ Ok boxes.now }
-    requires at { IsAtRoot pipeline.now schedule.now boxes.now place func.now plan.now own.now }
-    ensures { IfOk result (spec.IsStagePhaseIfThere pipeline.now schedule.now boxes.now place func.now plan.now own.now
+    requires bounded { IsBounded bounded.now }
+    requires at { IsAtRoot bounded.now.pipeline.now bounded.now.schedule.now bounded.now.boxes.now computed.now.place
+        computed.now.func.now computed.now.plan.now computed.now.own.now }
+    ensures { IfOk result (spec.IsStagePhaseIfThere bounded.now.pipeline.now bounded.now.schedule.now
+        bounded.now.boxes.now computed.now.place computed.now.func.now computed.now.plan.now computed.now.own.now
         number) }
 {
     let Some(at) = number.checked_sub(1) else {
-        let phase = pure_phase(alloc, pipeline, schedule, boxes, place, func, plan, own)?;
+        let phase = pure_phase(alloc, bounded, computed)?;
         return Ok(Some(phase));
     };
-    let Some(update) = func.updates.get(at) else {
+    let Some(update) = computed.func.updates.get(at) else {
         return Ok(None);
     };
-    let Some(stage) = plan.updates.get(at) else {
+    let Some(stage) = computed.plan.updates.get(at) else {
         return Ok(None);
     };
     let of = UpdateOf {
-        func,
-        plan,
-        own,
+        computed: *computed,
         at,
         update,
         stage,
     };
-    let phase = update_phase(alloc, pipeline, schedule, boxes, place, &of)?;
+    let phase = update_phase(alloc, bounded, &of)?;
     Ok(Some(phase))
 }
 
 /// Puts the phase of a stage of a Func that is computed at root behind those of the stages before it.
 fn with_stage(
     alloc: Global,
-    pipeline: &Pipeline,
-    schedule: &Schedule,
-    boxes: &Boxes,
-    place: usize,
-    func: &Func,
-    plan: &FuncPlan,
-    own: &SourceBox,
+    bounded: &Bounded<'_>,
+    computed: &ComputedFunc<'_>,
     number: usize,
     before: Vec<Phase>,
 ) -> Result<Vec<Phase>, AllocError>
-    requires accepted { IsAccepted pipeline.now schedule.now }
-    requires boxes { inferred pipeline.now schedule.now ≡ Ok boxes.now }
-    requires at { IsAtRoot pipeline.now schedule.now boxes.now place func.now plan.now own.now }
-    requires number { number ≤ length func.now.updates }
+    requires bounded { IsBounded bounded.now }
+    requires at { IsAtRoot bounded.now.pipeline.now bounded.now.schedule.now bounded.now.boxes.now computed.now.place
+        computed.now.func.now computed.now.plan.now computed.now.own.now }
+    requires number { number ≤ length computed.now.func.now.updates }
     ensures { IfOk result (λ made. (others : List MadePhase)
-        → spec.ArePhasesOf pipeline.now schedule.now boxes.now place func.now plan.now own.now others number
-        before.items
-        → spec.ArePhasesOf pipeline.now schedule.now boxes.now place func.now plan.now own.now others (suc number)
-        made.items) }
+        → spec.ArePhasesOf bounded.now.pipeline.now bounded.now.schedule.now bounded.now.boxes.now computed.now.place
+        computed.now.func.now computed.now.plan.now computed.now.own.now others number before.items
+        → spec.ArePhasesOf bounded.now.pipeline.now bounded.now.schedule.now bounded.now.boxes.now computed.now.place
+        computed.now.func.now computed.now.plan.now computed.now.own.now others (suc number) made.items) }
 {
-    let found = stage_phase(
-        alloc, pipeline, schedule, boxes, place, func, plan, own, number,
-    )?;
+    let found = stage_phase(alloc, bounded, computed, number)?;
     let Some(phase) = found else {
         return Ok(before);
     };
@@ -96,88 +85,77 @@ fn with_stage(
 /// Puts the phases of the stages of a Func that is computed at root, up to the one with this number, behind others.
 fn with_stages(
     alloc: Global,
-    pipeline: &Pipeline,
-    schedule: &Schedule,
-    boxes: &Boxes,
-    place: usize,
-    func: &Func,
-    plan: &FuncPlan,
-    own: &SourceBox,
+    bounded: &Bounded<'_>,
+    computed: &ComputedFunc<'_>,
     last: usize,
     others: Vec<Phase>,
 ) -> Result<Vec<Phase>, AllocError>
-    requires accepted { IsAccepted pipeline.now schedule.now }
-    requires boxes { inferred pipeline.now schedule.now ≡ Ok boxes.now }
-    requires at { IsAtRoot pipeline.now schedule.now boxes.now place func.now plan.now own.now }
-    requires last { last ≤ length func.now.updates }
-    ensures { IfOk result (λ phases. spec.ArePhasesOf pipeline.now schedule.now boxes.now place func.now plan.now
-        own.now others.items (suc last) phases.items) }
+    requires bounded { IsBounded bounded.now }
+    requires at { IsAtRoot bounded.now.pipeline.now bounded.now.schedule.now bounded.now.boxes.now computed.now.place
+        computed.now.func.now computed.now.plan.now computed.now.own.now }
+    requires last { last ≤ length computed.now.func.now.updates }
+    ensures { IfOk result (λ phases. spec.ArePhasesOf bounded.now.pipeline.now bounded.now.schedule.now
+        bounded.now.boxes.now computed.now.place computed.now.func.now computed.now.plan.now computed.now.own.now
+        others.items (suc last) phases.items) }
 {
     let before = match last.checked_sub(1) {
         None => others,
-        Some(before) => with_stages(
-            alloc, pipeline, schedule, boxes, place, func, plan, own, before, others,
-        )?,
+        Some(before) => with_stages(alloc, bounded, computed, before, others)?,
     };
-    let phases = with_stage(
-        alloc, pipeline, schedule, boxes, place, func, plan, own, last, before,
-    )?;
+    let phases = with_stage(alloc, bounded, computed, last, before)?;
     Ok(phases)
 }
 
 /// Puts the phases of the Func at a place behind those of the Funcs before it.
 fn with_func(
     alloc: Global,
-    pipeline: &Pipeline,
-    schedule: &Schedule,
-    boxes: &Boxes,
+    bounded: &Bounded<'_>,
     place: usize,
     others: Vec<Phase>,
 ) -> Result<Vec<Phase>, AllocError>
-    requires accepted { IsAccepted pipeline.now schedule.now }
-    requires boxes { inferred pipeline.now schedule.now ≡ Ok boxes.now }
-    requires others { spec.AreLowered pipeline.now schedule.now boxes.now place others.items }
-    ensures { IfOk result (λ phases. spec.AreLowered pipeline.now schedule.now boxes.now (suc place) phases.items) }
+    requires bounded { IsBounded bounded.now }
+    requires others { spec.AreLowered bounded.now.pipeline.now bounded.now.schedule.now bounded.now.boxes.now place
+        others.items }
+    ensures { IfOk result (λ phases. spec.AreLowered bounded.now.pipeline.now bounded.now.schedule.now
+        bounded.now.boxes.now (suc place) phases.items) }
 {
-    let Some(standing) = schedule.standing(place) else {
+    let Some(standing) = bounded.schedule.standing(place) else {
         return Ok(others);
     };
     if !is_at_root(standing) {
         return Ok(others);
     }
-    let Some(func) = pipeline.func(place) else {
+    let Some(func) = bounded.pipeline.func(place) else {
         return Ok(others);
     };
-    let Some(plan) = schedule.funcs.get(place) else {
+    let Some(plan) = bounded.schedule.funcs.get(place) else {
         return Ok(others);
     };
-    let Some(own) = box_at(boxes.funcs.as_slice(), place) else {
+    let Some(own) = box_at(bounded.boxes.funcs.as_slice(), place) else {
         return Ok(others);
     };
     let last = func.updates.len();
-    let phases = with_stages(
-        alloc, pipeline, schedule, boxes, place, func, plan, own, last, others,
-    )?;
+    let computed = ComputedFunc {
+        place,
+        func,
+        plan,
+        own,
+    };
+    let phases = with_stages(alloc, bounded, &computed, last, others)?;
     Ok(phases)
 }
 
 /// The phases of the first so many Funcs.
-fn lower_first(
-    alloc: Global,
-    pipeline: &Pipeline,
-    schedule: &Schedule,
-    boxes: &Boxes,
-    count: usize,
-) -> Result<Vec<Phase>, AllocError>
-    requires accepted { IsAccepted pipeline.now schedule.now }
-    requires boxes { inferred pipeline.now schedule.now ≡ Ok boxes.now }
-    ensures { IfOk result (λ phases. spec.AreLowered pipeline.now schedule.now boxes.now count phases.items) }
+fn lower_first(alloc: Global, bounded: &Bounded<'_>, count: usize) -> Result<Vec<Phase>, AllocError>
+    requires bounded { IsBounded bounded.now }
+    ensures { IfOk result (λ phases. spec.AreLowered bounded.now.pipeline.now bounded.now.schedule.now
+        bounded.now.boxes.now count phases.items) }
 {
     if count == 0 {
         return Ok(Vec::new(alloc));
     }
-    let before = lower_first(alloc, pipeline, schedule, boxes, count - 1)?;
-    let phases = with_func(alloc, pipeline, schedule, boxes, count - 1, before)?;
+    let before = lower_first(alloc, bounded, count - 1)?;
+    let phases = with_func(alloc, bounded, count - 1, before)?;
     Ok(phases)
 }
 
@@ -208,6 +186,11 @@ pub fn lower(
     ensures output { IfOk result (λ phases. spec.LeaveOutput pipeline.now schedule.now boxes.now phases.items) }
 {
     let count = pipeline.funcs().len();
-    let phases = lower_first(alloc, pipeline, schedule, boxes, count)?;
+    let bounded = Bounded {
+        pipeline,
+        schedule,
+        boxes,
+    };
+    let phases = lower_first(alloc, &bounded, count)?;
     Ok(phases)
 }

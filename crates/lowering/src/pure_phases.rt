@@ -1,14 +1,13 @@
 //! Phases of pure definitions.
 
-ghost use Rattle.std.specs.Prelude.{◌≡◌, ◌+◌, ◌<◌, ◌≤◌, ◌^◌, ◌++◌, IfOk, Ok, OnOk, length};
-ghost use Rattle.schedule.specs.Accepted.{IsAccepted};
+ghost use Rattle.std.specs.Prelude.{◌≡◌, ◌+◌, ◌<◌, ◌≤◌, ◌^◌, ◌++◌, IfOk, OnOk, length};
 ghost use Rattle.schedule_loops.specs.Counts.{AreSplits};
 ghost use Rattle.schedule_loops.specs.Iterations as iterations;
-ghost use Rattle.bounds.specs.Verdict.{inferred};
 ghost use Rattle.bounds.specs.Views as views;
 ghost use Rattle.loop_ir.specs.Depths.{task_depth};
 ghost use Rattle.loop_ir.specs.Needs.{greatest_need};
 ghost use Rattle.lowering_nests.specs.Nests.{AreFew};
+ghost use Rattle.lowering.specs.Bounded.{IsBounded};
 ghost use Rattle.lowering.specs.HostedFuncs.{hosted_from};
 ghost use Rattle.lowering.specs.Planes.{owns};
 ghost use Rattle.lowering.specs.PurePhases as spec;
@@ -20,14 +19,14 @@ ghost use Rattle.lowering.specs.Stages.{DoesStage};
 ghost use Rattle.lowering.specs.Stored.{StoresItsOwn};
 ghost use Rattle.lowering.specs.Touching.{TouchesItsOwn};
 
-use crate::hosting::{body_of, box_at, hosted_places};
+use crate::computed::{Bounded, ComputedFunc};
+use crate::hosting::{body_of, hosted_places};
 use crate::nests::store_of;
 use bounds::boxes::extents_of;
-use bounds::{Boxes, SourceBox};
-use halide_pipeline::{Func, Input, Pipeline};
+use halide_pipeline::Input;
 use loop_ir::expressions::Counter;
 use loop_ir::statements::Phase;
-use schedule::{FuncPlan, Place, Schedule, Standing};
+use schedule::{Place, Standing};
 use schedule_lines::Stage;
 use schedule_loops::{Extents, LoopSizes};
 use sqlite_items::Items;
@@ -93,45 +92,45 @@ pub(crate) fn task_count(alloc: Global, stage: &Stage, extents: Extents) -> Resu
 /// Memory ran out.
 pub fn pure_phase(
     alloc: Global,
-    pipeline: &Pipeline,
-    schedule: &Schedule,
-    boxes: &Boxes,
-    place: usize,
-    func: &Func,
-    plan: &FuncPlan,
-    own: &SourceBox,
+    bounded: &Bounded<'_>,
+    computed: &ComputedFunc<'_>,
 ) -> Result<Phase, AllocError>
-    requires accepted { IsAccepted pipeline.now schedule.now }
-    requires boxes { inferred pipeline.now schedule.now ≡ Ok boxes.now }
-    requires at { spec.IsAtRoot pipeline.now schedule.now boxes.now place func.now plan.now own.now }
-    ensures tasks { IfOk result (λ phase. phase.tasks ≡ iterations.iteration_count (views.extents_of own.now)
-        plan.now.pure) }
-    ensures private { IfOk result (λ phase. phase.private ≡ hosted_from place 0 schedule.now.standings) }
-    ensures bytes { IfOk result (λ phase. phase.bytes ≡ spec.byte_places 0 pipeline.now.inputs) }
-    ensures does { IfOk result (spec.DoesPure pipeline.now schedule.now boxes.now place func.now plan.now own.now) }
-    ensures stage { IfOk result (DoesStage pipeline.now schedule.now boxes.now place func.now 0
-        (owns (views.extents_of own.now) plan.now.pure)) }
-    ensures touches { IfOk result (TouchesItsOwn pipeline.now schedule.now boxes.now place
-        (owns (views.extents_of own.now) plan.now.pure)) }
+    requires bounded { IsBounded bounded.now }
+    requires at { spec.IsAtRoot bounded.now.pipeline.now bounded.now.schedule.now bounded.now.boxes.now
+        computed.now.place computed.now.func.now computed.now.plan.now computed.now.own.now }
+    ensures tasks { IfOk result (λ phase. phase.tasks ≡ iterations.iteration_count
+        (views.extents_of computed.now.own.now) computed.now.plan.now.pure) }
+    ensures private { IfOk result (λ phase. phase.private ≡ hosted_from computed.now.place 0
+        bounded.now.schedule.now.standings) }
+    ensures bytes { IfOk result (λ phase. phase.bytes ≡ spec.byte_places 0 bounded.now.pipeline.now.inputs) }
+    ensures does { IfOk result (spec.DoesPure bounded.now.pipeline.now bounded.now.schedule.now bounded.now.boxes.now
+        computed.now.place computed.now.func.now computed.now.plan.now computed.now.own.now) }
+    ensures stage { IfOk result (DoesStage bounded.now.pipeline.now bounded.now.schedule.now bounded.now.boxes.now
+        computed.now.place computed.now.func.now 0 (owns (views.extents_of computed.now.own.now)
+        computed.now.plan.now.pure)) }
+    ensures touches { IfOk result (TouchesItsOwn bounded.now.pipeline.now bounded.now.schedule.now bounded.now.boxes.now
+        computed.now.place (owns (views.extents_of computed.now.own.now) computed.now.plan.now.pure)) }
     ensures few { IfOk result (λ phase. task_depth phase ≤ 14) }
-    ensures needs { IfOk result (λ phase. greatest_need phase.body ≤ most_need pipeline.now schedule.now) }
-    ensures light { IfOk result (IsLight pipeline.now schedule.now place func.now plan.now 0) }
+    ensures needs { IfOk result (λ phase. greatest_need phase.body ≤ most_need bounded.now.pipeline.now
+        bounded.now.schedule.now) }
+    ensures light { IfOk result (IsLight bounded.now.pipeline.now bounded.now.schedule.now computed.now.place
+        computed.now.func.now computed.now.plan.now 0) }
     ensures few_tasks { IfOk result (λ phase. phase.tasks ≤ 2 ^ 31) }
     ensures rounds { IfOk result RoundsMayBeAtOnce }
-    ensures in_runs { IfOk result (StoresInRuns place (views.extents_of own.now) plan.now.pure) }
-    ensures stores { IfOk result (StoresItsOwn boxes.now place (owns (views.extents_of own.now) plan.now.pure)) }
+    ensures in_runs { IfOk result (StoresInRuns computed.now.place (views.extents_of computed.now.own.now)
+        computed.now.plan.now.pure) }
+    ensures stores { IfOk result (StoresItsOwn bounded.now.boxes.now computed.now.place
+        (owns (views.extents_of computed.now.own.now) computed.now.plan.now.pure)) }
 {
-    let stage = &plan.pure;
-    let extents = extents_of(own);
+    let stage = &computed.plan.pure;
+    let extents = extents_of(computed.own);
     let root = Place::Root;
-    let store = store_of(alloc, pipeline, schedule, boxes, root, place, func, own)?;
-    let body = body_of(
-        alloc, pipeline, schedule, boxes, place, stage, extents, store,
-    )?;
+    let store = store_of(alloc, bounded, root, computed)?;
+    let body = body_of(alloc, bounded, computed.place, stage, extents, store)?;
     let tasks = task_count(alloc, stage, extents)?;
-    let bytes = byte_inputs(alloc, pipeline.inputs())?;
-    let counter = task_counter(place, stage);
-    let private = hosted_places(alloc, place, schedule.standings.as_slice())?;
+    let bytes = byte_inputs(alloc, bounded.pipeline.inputs())?;
+    let counter = task_counter(computed.place, stage);
+    let private = hosted_places(alloc, computed.place, bounded.schedule.standings.as_slice())?;
     Ok(Phase {
         tasks,
         counter,

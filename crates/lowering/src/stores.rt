@@ -25,6 +25,18 @@ use lowering_expressions::{Arguments, Corner, lowered};
 use schedule_lines::LoopId;
 use std::alloc::{AllocError, Global};
 
+/// A Func whose definitions are lowered, and what its calls need.
+#[derive(Clone, Copy)]
+pub struct LoweredFunc<'a> {
+    pub funcs: &'a [Func],
+    /// Which Funcs are inlined.
+    pub flags: &'a [bool],
+    /// The corner of each Func's box.
+    pub corners: &'a [Corner],
+    /// The Func's place, from 0.
+    pub place: usize,
+}
+
 /// Where the loop over a whole variable of the Func at a place stands.
 pub(crate) fn whole_of(
     alloc: Global,
@@ -75,7 +87,7 @@ fn arguments_of(alloc: Global, place: usize, corner: &Corner) -> Result<Argument
     })
 }
 
-/// The store of a pure definition of the Func at a place, whose box has this corner, where the loops over whole
+/// The store of a pure definition of a Func, whose box has this corner, where the loops over whole
 /// variables stand.
 ///
 /// # Errors
@@ -83,32 +95,38 @@ fn arguments_of(alloc: Global, place: usize, corner: &Corner) -> Result<Argument
 /// Memory ran out.
 pub fn pure_store(
     alloc: Global,
-    funcs: &[Func],
-    flags: &[bool],
-    corners: &[Corner],
-    place: usize,
+    reader: &LoweredFunc<'_>,
     corner: &Corner,
     pure: &Expr,
 ) -> Result<Stmt, AllocError>
-    ensures stores { IfOk result (λ made. StoresPure corners.now (flagged flags.now) funcs.now place corner.now pure.now
-        made) }
-    ensures hits { IfOk result (HitsPure place) }
-    ensures misses { IfOk result (MissesPure place) }
-    ensures about { IfOk result (λ made. is_about place made ≡ true) }
+    ensures stores { IfOk result (λ made. StoresPure reader.now.corners.now (flagged reader.now.flags.now)
+        reader.now.funcs.now reader.now.place corner.now pure.now made) }
+    ensures hits { IfOk result (HitsPure reader.now.place) }
+    ensures misses { IfOk result (MissesPure reader.now.place) }
+    ensures about { IfOk result (λ made. is_about reader.now.place made ≡ true) }
     ensures leaf { IfOk result IsLeaf }
-    ensures sound { IfOk result (λ made. IsSoundPure corners.now (flagged flags.now) funcs.now place corner.now pure.now
-        made) }
+    ensures sound { IfOk result (λ made. IsSoundPure reader.now.corners.now (flagged reader.now.flags.now)
+        reader.now.funcs.now reader.now.place corner.now pure.now made) }
     ensures depth { IfOk result (λ made. depth made ≡ 0) }
-    ensures needs { IfOk result (λ made. greatest_need made ≤ max 1 (taken flags.now funcs.now place pure.now)) }
-    ensures sizes { IfOk result (λ made. AreShort corners.now → IsShort corner.now
-        → whole_size made + 12 ≤ 64 * counted flags.now funcs.now place pure.now) }
+    ensures needs { IfOk result (λ made. greatest_need made ≤ max 1 (taken reader.now.flags.now reader.now.funcs.now
+        reader.now.place pure.now)) }
+    ensures sizes { IfOk result (λ made. AreShort reader.now.corners.now → IsShort corner.now
+        → whole_size made + 12 ≤ 64 * counted reader.now.flags.now reader.now.funcs.now reader.now.place pure.now) }
 {
-    let arguments = arguments_of(alloc, place, corner)?;
-    let value = lowered(alloc, funcs, flags, place, corners, &arguments, pure)?;
-    let x = whole_of(alloc, place, Variable::FirstArgument)?;
-    let y = whole_of(alloc, place, Variable::SecondArgument)?;
+    let arguments = arguments_of(alloc, reader.place, corner)?;
+    let value = lowered(
+        alloc,
+        reader.funcs,
+        reader.flags,
+        reader.place,
+        reader.corners,
+        &arguments,
+        pure,
+    )?;
+    let x = whole_of(alloc, reader.place, Variable::FirstArgument)?;
+    let y = whole_of(alloc, reader.place, Variable::SecondArgument)?;
     Ok(Stmt::Store(Store {
-        func: place,
+        func: reader.place,
         x: terms::Expr::Linear(x),
         y: terms::Expr::Linear(y),
         value,

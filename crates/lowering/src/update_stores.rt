@@ -20,8 +20,8 @@ ghost use Rattle.lowering.specs.Sizes.{IsGivenIndex, update_counted};
 ghost use Rattle.lowering.specs.Updates as spec;
 ghost use Rattle.lowering_nests.specs.Rounds.{IsLeaf};
 
-use crate::stores::whole_of;
-use halide_pipeline::{Expr, Func, Reduction, Update, Variable};
+use crate::stores::{LoweredFunc, whole_of};
+use halide_pipeline::{Expr, Reduction, Update, Variable};
 use loop_ir::expressions as terms;
 use loop_ir::expressions::Linear;
 use loop_ir::statements::{Stmt, Store};
@@ -85,35 +85,42 @@ fn arguments_of(
 /// What a second index comes to, 0 where none is written.
 fn second_index(
     alloc: Global,
-    funcs: &[Func],
-    flags: &[bool],
-    place: usize,
-    corners: &[Corner],
+    reader: &LoweredFunc<'_>,
     arguments: &Arguments,
     index: &Option<Expr>,
 ) -> Result<terms::Expr, AllocError>
     ensures value { IfOk result (λ made. (reads : Reads) (values : Values) → value reads values made
-        ≡ spec.index_of (inlined (valuing (placed corners.now values reads)) (flagged flags.now) funcs.now place
-        (variable_in (environment values arguments.now))) index.now) }
+        ≡ spec.index_of (inlined (valuing (placed reader.now.corners.now values reads)) (flagged reader.now.flags.now)
+        reader.now.funcs.now reader.now.place (variable_in (environment values arguments.now))) index.now) }
     ensures loads { IfOk result (λ made. (reads : Reads) (values : Values) (test : Point → Bool)
-        → Hold (λ point. test (place_in corners.now values point))
-        (spec.points_of_index (λ e. (inlined (seeing (placed corners.now values reads)) (flagged flags.now) funcs.now
-        place (seen_variable (environment values arguments.now)) e).points) index.now)
+        → Hold (λ point. test (place_in reader.now.corners.now values point))
+        (spec.points_of_index (λ e. (inlined (seeing (placed reader.now.corners.now values reads))
+        (flagged reader.now.flags.now) reader.now.funcs.now reader.now.place (seen_variable
+        (environment values arguments.now)) e).points) index.now)
         → Hold test (loads reads values made)) }
-    ensures needs { IfOk result (λ made. need made ≤ second_taken flags.now funcs.now place index.now) }
-    ensures sizes { IfOk result (λ made. AreShort corners.now → AreShortArguments arguments.now
-        → IsGivenIndex flags.now funcs.now place index.now made) }
+    ensures needs { IfOk result (λ made. need made ≤ second_taken reader.now.flags.now reader.now.funcs.now
+        reader.now.place index.now) }
+    ensures sizes { IfOk result (λ made. AreShort reader.now.corners.now → AreShortArguments arguments.now
+        → IsGivenIndex reader.now.flags.now reader.now.funcs.now reader.now.place index.now made) }
 {
     match index {
         None => Ok(terms::Expr::Number(0)),
         Some(index) => {
-            let made = lowered(alloc, funcs, flags, place, corners, arguments, index)?;
+            let made = lowered(
+                alloc,
+                reader.funcs,
+                reader.flags,
+                reader.place,
+                reader.corners,
+                arguments,
+                index,
+            )?;
             Ok(made)
         }
     }
 }
 
-/// The store of an update of the Func at a place, where the loops over whole variables stand: at the point that its
+/// The store of an update of a Func, where the loops over whole variables stand: at the point that its
 /// left side names, counted from the Func's corner.
 ///
 /// # Errors
@@ -121,59 +128,50 @@ fn second_index(
 /// Memory ran out.
 pub fn update_store(
     alloc: Global,
-    funcs: &[Func],
-    flags: &[bool],
-    corners: &[Corner],
-    place: usize,
+    reader: &LoweredFunc<'_>,
     corner: &Corner,
     update: &Update,
 ) -> Result<Stmt, AllocError>
-    requires { place + 1 < 2 ^ 64 }
-    ensures stores { IfOk result (λ made. spec.StoresUpdate corners.now (flagged flags.now) funcs.now place corner.now
-        update.now made) }
-    ensures hits { IfOk result (λ made. spec.HitsUpdate corners.now (flagged flags.now) funcs.now place corner.now
-        update.now made) }
+    requires { reader.now.place + 1 < 2 ^ 64 }
+    ensures stores { IfOk result (λ made. spec.StoresUpdate reader.now.corners.now (flagged reader.now.flags.now)
+        reader.now.funcs.now reader.now.place corner.now update.now made) }
+    ensures hits { IfOk result (λ made. spec.HitsUpdate reader.now.corners.now (flagged reader.now.flags.now)
+        reader.now.funcs.now reader.now.place corner.now update.now made) }
     ensures leaf { IfOk result IsLeaf }
-    ensures about { IfOk result (λ made. is_about place made ≡ true) }
-    ensures sound { IfOk result (λ made. spec.IsSoundUpdate corners.now (flagged flags.now) funcs.now place corner.now
-        update.now made) }
+    ensures about { IfOk result (λ made. is_about reader.now.place made ≡ true) }
+    ensures sound { IfOk result (λ made. spec.IsSoundUpdate reader.now.corners.now (flagged reader.now.flags.now)
+        reader.now.funcs.now reader.now.place corner.now update.now made) }
     ensures depth { IfOk result (λ made. depth made ≡ 0) }
-    ensures needs { IfOk result (λ made. greatest_need made ≤ update_taken flags.now funcs.now place update.now) }
-    ensures sizes { IfOk result (λ made. AreShort corners.now → IsShort corner.now
-        → whole_size made + 12 ≤ 64 * update_counted flags.now funcs.now place update.now) }
+    ensures needs { IfOk result (λ made. greatest_need made ≤ update_taken reader.now.flags.now reader.now.funcs.now
+        reader.now.place update.now) }
+    ensures sizes { IfOk result (λ made. AreShort reader.now.corners.now → IsShort corner.now
+        → whole_size made + 12 ≤ 64 * update_counted reader.now.flags.now reader.now.funcs.now reader.now.place
+        update.now) }
 {
-    let arguments = arguments_of(alloc, place, corner, update)?;
+    let arguments = arguments_of(alloc, reader.place, corner, update)?;
     let column = lowered(
         alloc,
-        funcs,
-        flags,
-        place,
-        corners,
+        reader.funcs,
+        reader.flags,
+        reader.place,
+        reader.corners,
         &arguments,
         &update.left_x,
     )?;
-    let row = second_index(
-        alloc,
-        funcs,
-        flags,
-        place,
-        corners,
-        &arguments,
-        &update.left_y,
-    )?;
+    let row = second_index(alloc, reader, &arguments, &update.left_y)?;
     let value = lowered(
         alloc,
-        funcs,
-        flags,
-        place + 1,
-        corners,
+        reader.funcs,
+        reader.flags,
+        reader.place + 1,
+        reader.corners,
         &arguments,
         &update.right,
     )?;
     let x = counted_from(alloc, column, &corner.x)?;
     let y = counted_from(alloc, row, &corner.y)?;
     Ok(Stmt::Store(Store {
-        func: place,
+        func: reader.place,
         x,
         y,
         value,

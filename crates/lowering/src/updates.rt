@@ -1,16 +1,14 @@
 //! Phases of updates, and their loops where the Func is computed at a loop.
 
-ghost use Rattle.std.specs.Prelude.{◌≡◌, ◌+◌, ◌<◌, ◌≤◌, ◌^◌, List, [], IfOk, Ok, Some, length, slice_get, suc, true};
+ghost use Rattle.std.specs.Prelude.{◌≡◌, ◌+◌, ◌<◌, ◌≤◌, ◌^◌, List, [], IfOk, Some, length, slice_get, suc, true};
 ghost use Rattle.std.specs.Prelude.{◌*◌};
 ghost use Rattle.halide_pipeline.specs.Pixel as meaning;
-ghost use Rattle.schedule.specs.Accepted.{IsAccepted};
 ghost use Rattle.schedule_loops.specs.Counts.{AreSplits, counts};
 ghost use Rattle.schedule_loops.specs.Iterations as iterations;
 ghost use Rattle.schedule_loops.specs.Reach.{wholes};
 ghost use Rattle.bounds_inlining.specs.Inlining.{flagged};
 ghost use Rattle.bounds_weights.specs.Weight.{flags_of, stage_weight, update_nodes};
 ghost use Rattle.bounds.specs.Boxes.{IsBox};
-ghost use Rattle.bounds.specs.Verdict.{inferred};
 ghost use Rattle.loop_ir.specs.Depths.{depth, task_depth};
 ghost use Rattle.loop_ir.specs.Needs.{greatest_need};
 ghost use Rattle.loop_ir.specs.Runs.{is_about};
@@ -20,6 +18,7 @@ ghost use Rattle.lowering_nests.specs.Nests.{AreFew, Repeats};
 ghost use Rattle.lowering_nests.specs.Rounds.{IsLeaf, MayBeAtOnce, MayBeUnder};
 ghost use Rattle.lowering_nests.specs.Sizes.{nest_size};
 ghost use Rattle.schedule_lines.specs.declared.stages.Loop.{Loop};
+ghost use Rattle.lowering.specs.Bounded.{IsBounded};
 ghost use Rattle.lowering.specs.Hosting.{StoresInIt};
 ghost use Rattle.lowering.specs.PurePhases as pure;
 ghost use Rattle.lowering.specs.Registers.{most_need, update_taken};
@@ -30,29 +29,29 @@ ghost use Rattle.lowering.specs.Stored.{StoresWhatItNames};
 ghost use Rattle.lowering.specs.Touching.{TouchesItsOwn};
 ghost use Rattle.lowering.specs.Updates as spec;
 
+use crate::computed::{Bounded, ComputedFunc};
 use crate::corners::{corner_of, corners_of};
 use crate::hosting::inside_parallel;
 use crate::pure_phases::{byte_inputs, task_count, task_counter};
+use crate::stores::LoweredFunc;
 use crate::update_stores::update_store;
+use bounds::SourceBox;
 use bounds::boxes::extents_of;
-use bounds::{Boxes, SourceBox};
 use bounds_weights::weighing::inlined_flags;
-use halide_pipeline::{Func, Pipeline, Reduction, Update};
+use halide_pipeline::{Reduction, Update};
 use loop_ir::statements::{Phase, Stmt};
 use lowering_expressions::Corner;
 use lowering_nests::nests::with_nest;
-use schedule::{FuncPlan, Place, Schedule};
+use schedule::Place;
 use schedule_lines::Stage;
 use schedule_loops::Extents;
 use sqlite_items::Items;
 use std::alloc::{AllocError, Global};
 
-/// An update of a Func that is computed, with the Func's box and the update's loops.
+/// An update of a Func that is computed, with the update's loops.
 #[derive(Clone, Copy)]
 pub struct UpdateOf<'a> {
-    pub func: &'a Func,
-    pub plan: &'a FuncPlan,
-    pub own: &'a SourceBox,
+    pub computed: ComputedFunc<'a>,
     /// Its number, from 0.
     pub at: usize,
     pub update: &'a Update,
@@ -83,78 +82,62 @@ fn update_extents(own: &SourceBox, update: &Update) -> Extents
     }
 }
 
-/// The store of an update of the Func at a place, where the schedule's inlined Funcs are put in place.
+/// The store of an update of a Func, where the schedule's inlined Funcs are put in place.
 fn store_at(
     alloc: Global,
-    pipeline: &Pipeline,
-    schedule: &Schedule,
+    bounded: &Bounded<'_>,
     corners: &[Corner],
-    place: usize,
     corner: &Corner,
-    update: &Update,
+    of: &UpdateOf<'_>,
 ) -> Result<Stmt, AllocError>
-    requires { place + 1 < 2 ^ 64 }
-    ensures stores { IfOk result (λ made. spec.StoresUpdate corners.now (flagged (flags_of schedule.now.standings))
-        pipeline.now.funcs place corner.now update.now made) }
+    requires { of.now.computed.place + 1 < 2 ^ 64 }
+    ensures stores { IfOk result (λ made. spec.StoresUpdate corners.now (flagged
+        (flags_of bounded.now.schedule.now.standings)) bounded.now.pipeline.now.funcs of.now.computed.place corner.now
+        of.now.update.now made) }
     ensures leaf { IfOk result IsLeaf }
-    ensures about { IfOk result (λ made. is_about place made ≡ true) }
-    ensures hits { IfOk result (λ made. spec.HitsUpdate corners.now (flagged (flags_of schedule.now.standings))
-        pipeline.now.funcs place corner.now update.now made) }
-    ensures sound { IfOk result (λ made. spec.IsSoundUpdate corners.now (flagged (flags_of schedule.now.standings))
-        pipeline.now.funcs place corner.now update.now made) }
+    ensures about { IfOk result (λ made. is_about of.now.computed.place made ≡ true) }
+    ensures hits { IfOk result (λ made. spec.HitsUpdate corners.now (flagged
+        (flags_of bounded.now.schedule.now.standings)) bounded.now.pipeline.now.funcs of.now.computed.place corner.now
+        of.now.update.now made) }
+    ensures sound { IfOk result (λ made. spec.IsSoundUpdate corners.now (flagged
+        (flags_of bounded.now.schedule.now.standings)) bounded.now.pipeline.now.funcs of.now.computed.place corner.now
+        of.now.update.now made) }
     ensures depth { IfOk result (λ made. depth made ≡ 0) }
-    ensures needs { IfOk result (λ made. greatest_need made ≤ update_taken (flags_of schedule.now.standings)
-        pipeline.now.funcs place update.now) }
+    ensures needs { IfOk result (λ made. greatest_need made ≤ update_taken (flags_of bounded.now.schedule.now.standings)
+        bounded.now.pipeline.now.funcs of.now.computed.place of.now.update.now) }
     ensures sizes { IfOk result (λ made. AreShort corners.now → IsShort corner.now
-        → whole_size made + 12 ≤ 64 * update_counted (flags_of schedule.now.standings) pipeline.now.funcs place
-        update.now) }
+        → whole_size made + 12 ≤ 64 * update_counted (flags_of bounded.now.schedule.now.standings)
+        bounded.now.pipeline.now.funcs of.now.computed.place of.now.update.now) }
 {
-    let flags = inlined_flags(alloc, schedule.standings.as_slice())?;
-    let made = update_store(
-        alloc,
-        pipeline.funcs(),
-        flags.as_slice(),
+    let flags = inlined_flags(alloc, bounded.schedule.standings.as_slice())?;
+    let reader = LoweredFunc {
+        funcs: bounded.pipeline.funcs(),
+        flags: flags.as_slice(),
         corners,
-        place,
-        corner,
-        update,
-    )?;
+        place: of.computed.place,
+    };
+    let made = update_store(alloc, &reader, corner, of.update)?;
     Ok(made)
 }
 
-/// The store of an update of the Func at a place that is computed at root.
-fn root_store(
-    alloc: Global,
-    pipeline: &Pipeline,
-    schedule: &Schedule,
-    boxes: &Boxes,
-    place: usize,
-    own: &SourceBox,
-    update: &Update,
-) -> Result<Stmt, AllocError>
-    requires { place + 1 < 2 ^ 64 }
+/// The store of an update of a Func that is computed at root.
+fn root_store(alloc: Global, bounded: &Bounded<'_>, of: &UpdateOf<'_>) -> Result<Stmt, AllocError>
+    requires { of.now.computed.place + 1 < 2 ^ 64 }
     ensures leaf { IfOk result IsLeaf }
-    ensures stores { IfOk result (λ made. spec.IsUpdateStoreOf pipeline.now schedule.now boxes.now place own.now
-        update.now made) }
+    ensures stores { IfOk result (λ made. spec.IsUpdateStoreOf bounded.now.pipeline.now bounded.now.schedule.now
+        bounded.now.boxes.now of.now.computed.place of.now.computed.own.now of.now.update.now made) }
     ensures depth { IfOk result (λ made. depth made ≡ 0) }
-    ensures needs { IfOk result (λ made. greatest_need made ≤ update_taken (flags_of schedule.now.standings)
-        pipeline.now.funcs place update.now) }
-    ensures sizes { IfOk result (λ made. whole_size made + 12 ≤ 64 * update_counted (flags_of schedule.now.standings)
-        pipeline.now.funcs place update.now) }
+    ensures needs { IfOk result (λ made. greatest_need made ≤ update_taken (flags_of bounded.now.schedule.now.standings)
+        bounded.now.pipeline.now.funcs of.now.computed.place of.now.update.now) }
+    ensures sizes { IfOk result (λ made. whole_size made + 12 ≤ 64 * update_counted
+        (flags_of bounded.now.schedule.now.standings) bounded.now.pipeline.now.funcs of.now.computed.place
+        of.now.update.now) }
 {
-    let plans = schedule.funcs.as_slice();
-    let standings = schedule.standings.as_slice();
-    let corners = corners_of(alloc, plans, boxes.funcs.as_slice(), standings)?;
-    let corner = corner_of(alloc, plans, Place::Root, own)?;
-    let made = store_at(
-        alloc,
-        pipeline,
-        schedule,
-        corners.as_slice(),
-        place,
-        &corner,
-        update,
-    )?;
+    let plans = bounded.schedule.funcs.as_slice();
+    let standings = bounded.schedule.standings.as_slice();
+    let corners = corners_of(alloc, plans, bounded.boxes.funcs.as_slice(), standings)?;
+    let corner = corner_of(alloc, plans, Place::Root, of.computed.own)?;
+    let made = store_at(alloc, bounded, corners.as_slice(), &corner, of)?;
     Ok(made)
 }
 
@@ -219,8 +202,8 @@ fn nest_of(
     Ok(made)
 }
 
-/// The phase of an update of the Func at a place that is computed at root: each task makes what the loops inside the
-/// parallel one visit.
+/// The phase of an update of a Func that is computed at root: each task makes what the loops inside the parallel one
+/// visit.
 ///
 /// From buffers that hold what stands after the stages before it, its tasks leave what stands after it
 /// (`specs/Stages.antt`). A task owns the points of the box in the slices that it visits (`specs/Updates.antt`), and
@@ -231,41 +214,41 @@ fn nest_of(
 /// Memory ran out.
 pub fn update_phase(
     alloc: Global,
-    pipeline: &Pipeline,
-    schedule: &Schedule,
-    boxes: &Boxes,
-    place: usize,
+    bounded: &Bounded<'_>,
     of: &UpdateOf<'_>,
 ) -> Result<Phase, AllocError>
-    requires accepted { IsAccepted pipeline.now schedule.now }
-    requires boxes { inferred pipeline.now schedule.now ≡ Ok boxes.now }
-    requires root { pure.IsAtRoot pipeline.now schedule.now boxes.now place of.now.func.now of.now.plan.now
-        of.now.own.now }
-    requires at { spec.IsUpdateAt schedule.now place of.now.func.now of.now.plan.now of.now.at of.now.update.now
-        of.now.stage.now }
+    requires bounded { IsBounded bounded.now }
+    requires root { pure.IsAtRoot bounded.now.pipeline.now bounded.now.schedule.now bounded.now.boxes.now
+        of.now.computed.place of.now.computed.func.now of.now.computed.plan.now of.now.computed.own.now }
+    requires at { spec.IsUpdateAt bounded.now.schedule.now of.now.computed.place of.now.computed.func.now
+        of.now.computed.plan.now of.now.at of.now.update.now of.now.stage.now }
     ensures tasks { IfOk result (λ phase. phase.tasks
-        ≡ iterations.iteration_count (spec.update_extents of.now.own.now of.now.update.now) of.now.stage.now) }
+        ≡ iterations.iteration_count (spec.update_extents of.now.computed.own.now of.now.update.now) of.now.stage.now) }
     ensures private { IfOk result (λ phase. phase.private ≡ []) }
-    ensures bytes { IfOk result (λ phase. phase.bytes ≡ pure.byte_places 0 pipeline.now.inputs) }
-    ensures does { IfOk result (DoesStage pipeline.now schedule.now boxes.now place of.now.func.now (suc of.now.at)
-        (spec.owns_update of.now.own.now of.now.update.now of.now.stage.now)) }
-    ensures touches { IfOk result (TouchesItsOwn pipeline.now schedule.now boxes.now place
-        (spec.owns_update of.now.own.now of.now.update.now of.now.stage.now)) }
+    ensures bytes { IfOk result (λ phase. phase.bytes ≡ pure.byte_places 0 bounded.now.pipeline.now.inputs) }
+    ensures does { IfOk result (DoesStage bounded.now.pipeline.now bounded.now.schedule.now bounded.now.boxes.now
+        of.now.computed.place of.now.computed.func.now (suc of.now.at) (spec.owns_update of.now.computed.own.now
+        of.now.update.now of.now.stage.now)) }
+    ensures touches { IfOk result (TouchesItsOwn bounded.now.pipeline.now bounded.now.schedule.now bounded.now.boxes.now
+        of.now.computed.place (spec.owns_update of.now.computed.own.now of.now.update.now of.now.stage.now)) }
     ensures few { IfOk result (λ phase. task_depth phase ≤ 14) }
-    ensures needs { IfOk result (λ phase. greatest_need phase.body ≤ most_need pipeline.now schedule.now) }
+    ensures needs { IfOk result (λ phase. greatest_need phase.body ≤ most_need bounded.now.pipeline.now
+        bounded.now.schedule.now) }
     ensures sizes { IfOk result (λ phase. whole_size phase.body + 24 ≤ 64 * stage_weight
-        (update_nodes (flags_of schedule.now.standings) pipeline.now.funcs of.now.update.now) of.now.stage.now) }
+        (update_nodes (flags_of bounded.now.schedule.now.standings) bounded.now.pipeline.now.funcs of.now.update.now)
+        of.now.stage.now) }
     ensures few_tasks { IfOk result (λ phase. phase.tasks ≤ 2 ^ 31) }
     ensures rounds { IfOk result RoundsMayBeAtOnce }
-    ensures stores { IfOk result (StoresWhatItNames pipeline.now schedule.now boxes.now place of.now.func.now of.now.at
-        of.now.own.now of.now.update.now of.now.stage.now) }
+    ensures stores { IfOk result (StoresWhatItNames bounded.now.pipeline.now bounded.now.schedule.now
+        bounded.now.boxes.now of.now.computed.place of.now.computed.func.now of.now.at of.now.computed.own.now
+        of.now.update.now of.now.stage.now) }
 {
-    let bytes = byte_inputs(alloc, pipeline.inputs())?;
-    let extents = update_extents(of.own, of.update);
-    let store = root_store(alloc, pipeline, schedule, boxes, place, of.own, of.update)?;
-    let body = body_of(alloc, place, of.stage, extents, store)?;
+    let bytes = byte_inputs(alloc, bounded.pipeline.inputs())?;
+    let extents = update_extents(of.computed.own, of.update);
+    let store = root_store(alloc, bounded, of)?;
+    let body = body_of(alloc, of.computed.place, of.stage, extents, store)?;
     let tasks = task_count(alloc, of.stage, extents)?;
-    let counter = task_counter(place, of.stage);
+    let counter = task_counter(of.computed.place, of.stage);
     let private = Items::new(alloc);
     Ok(Phase {
         tasks,
@@ -276,8 +259,8 @@ pub fn update_phase(
     })
 }
 
-/// All loops of an update of the Func at a place around its store, where the Func is computed at a loop of another one:
-/// reads are counted from the corners, and its own points from its corner.
+/// All loops of an update of a Func around its store, where the Func is computed at a loop of another one: reads are
+/// counted from the corners, and its own points from its corner.
 ///
 /// From buffers that hold what stands before it in the Func's box, it leaves there what stands after it, wherever loops
 /// of the other Func take the box (`specs/Updates.antt`).
@@ -287,38 +270,36 @@ pub fn update_phase(
 /// Memory ran out.
 pub fn update_nest(
     alloc: Global,
-    pipeline: &Pipeline,
-    schedule: &Schedule,
-    boxes: &Boxes,
+    bounded: &Bounded<'_>,
     corners: &[Corner],
-    place: usize,
     corner: &Corner,
     of: &UpdateOf<'_>,
 ) -> Result<Stmt, AllocError>
-    requires accepted { IsAccepted pipeline.now schedule.now }
-    requires boxes { inferred pipeline.now schedule.now ≡ Ok boxes.now }
-    requires computed { spec.IsComputedIn pipeline.now schedule.now boxes.now place of.now.func.now of.now.plan.now
-        of.now.own.now }
-    requires at { spec.IsUpdateAt schedule.now place of.now.func.now of.now.plan.now of.now.at of.now.update.now
-        of.now.stage.now }
-    requires corner { slice_get corners.now place ≡ Some corner.now }
-    ensures does { IfOk result (spec.DoesUpdate pipeline.now schedule.now boxes.now corners.now place of.now.func.now
-        corner.now of.now.own.now of.now.at of.now.update.now) }
-    ensures alone { IfOk result (StoresInIt place) }
-    ensures sound { IfOk result (spec.AreSoundLoops pipeline.now schedule.now boxes.now corners.now place corner.now
-        of.now.own.now of.now.update.now) }
+    requires bounded { IsBounded bounded.now }
+    requires computed { spec.IsComputedIn bounded.now.pipeline.now bounded.now.schedule.now bounded.now.boxes.now
+        of.now.computed.place of.now.computed.func.now of.now.computed.plan.now of.now.computed.own.now }
+    requires at { spec.IsUpdateAt bounded.now.schedule.now of.now.computed.place of.now.computed.func.now
+        of.now.computed.plan.now of.now.at of.now.update.now of.now.stage.now }
+    requires corner { slice_get corners.now of.now.computed.place ≡ Some corner.now }
+    ensures does { IfOk result (spec.DoesUpdate bounded.now.pipeline.now bounded.now.schedule.now bounded.now.boxes.now
+        corners.now of.now.computed.place of.now.computed.func.now corner.now of.now.computed.own.now of.now.at
+        of.now.update.now) }
+    ensures alone { IfOk result (StoresInIt of.now.computed.place) }
+    ensures sound { IfOk result (spec.AreSoundLoops bounded.now.pipeline.now bounded.now.schedule.now
+        bounded.now.boxes.now corners.now of.now.computed.place corner.now of.now.computed.own.now of.now.update.now) }
     ensures few { IfOk result (λ made. depth made ≤ 9) }
     ensures at_once { IfOk result MayAlwaysBeAtOnce }
-    ensures about { IfOk result (λ made. is_about place made ≡ true) }
-    ensures needs { IfOk result (λ made. greatest_need made ≤ most_need pipeline.now schedule.now) }
+    ensures about { IfOk result (λ made. is_about of.now.computed.place made ≡ true) }
+    ensures needs { IfOk result (λ made. greatest_need made ≤ most_need bounded.now.pipeline.now
+        bounded.now.schedule.now) }
     ensures sizes { IfOk result (λ made. AreShort corners.now
-        → whole_size made ≤ 64 * stage_weight (update_nodes (flags_of schedule.now.standings) pipeline.now.funcs
-        of.now.update.now) of.now.stage.now) }
+        → whole_size made ≤ 64 * stage_weight (update_nodes (flags_of bounded.now.schedule.now.standings)
+        bounded.now.pipeline.now.funcs of.now.update.now) of.now.stage.now) }
 {
     // What every pipeline keeps is known once its parts are read.
-    let _funcs = pipeline.funcs();
-    let store = store_at(alloc, pipeline, schedule, corners, place, corner, of.update)?;
-    let extents = update_extents(of.own, of.update);
-    let made = nest_of(alloc, place, of.stage, extents, store)?;
+    let _funcs = bounded.pipeline.funcs();
+    let store = store_at(alloc, bounded, corners, corner, of)?;
+    let extents = update_extents(of.computed.own, of.update);
+    let made = nest_of(alloc, of.computed.place, of.stage, extents, store)?;
     Ok(made)
 }

@@ -7,16 +7,16 @@ use Rattle.lowering.proofs.hosting.stage_nests.Goals as goal
 
 pub returns : goal.returns
 returns c = record {
-  func = c.args.func.now;
-  plan = c.args.plan.now;
-  own = c.args.own.now;
+  func = c.args.computed.now.func.now;
+  plan = c.args.computed.now.plan.now;
+  own = c.args.computed.now.own.now;
   parts = c.requires.parts;
-  does = subst (λ (n : ℕ). DoesNests c.args.pipeline.now c.args.schedule.now c.args.boxes.now c.args.at c.args.place c.args.func.now c.args.own.now n c.in_ok-made.made) c.len-count.ensures c.in_ok-made.ensures.does;
+  does = subst (λ (n : ℕ). DoesNests c.args.bounded.now.pipeline.now c.args.bounded.now.schedule.now c.args.bounded.now.boxes.now c.args.at c.args.computed.now.place c.args.computed.now.func.now c.args.computed.now.own.now n c.in_ok-made.made) c.len-count.ensures c.in_ok-made.ensures.does;
   alone = c.in_ok-made.ensures.alone;
   sound = c.in_ok-made.ensures.sound;
   few = c.in_ok-made.ensures.few;
   needs = c.in_ok-made.ensures.needs;
-  small = subst (λ (n : ℕ). whole_size c.in_ok-made.made ≤ 64 * shares (flags_of c.args.schedule.now.standings) c.args.pipeline.now.funcs c.args.func.now c.args.plan.now n) c.len-count.ensures c.in_ok-made.ensures.sizes;
+  small = subst (λ (n : ℕ). whole_size c.in_ok-made.made ≤ 64 * shares (flags_of c.args.bounded.now.schedule.now.standings) c.args.bounded.now.pipeline.now.funcs c.args.computed.now.func.now c.args.computed.now.plan.now n) c.len-count.ensures c.in_ok-made.ensures.sizes;
   at_once = c.in_ok-made.ensures.at_once;
   about = c.in_ok-made.ensures.about;
 }
