@@ -81,7 +81,8 @@ abbrev pub NeedsAreOfTrees : Type 0
 NeedsAreOfTrees = (is_inlined : ℕ → Bool) (funcs : List Func) (count : ℕ) (e : Expr)
     → inlined needing is_inlined funcs count (λ v. 1) e ≡ need (put_in is_inlined funcs count e).expr
 
--- The tree's value is that through inlined Funcs.
+-- The tree's value is that through inlined Funcs; where inputs and computed Funcs answer by their pixels that is the expression's
+-- (Laws.antt: InliningKeepsValues, InliningKeepsUpdates).
 abbrev pub TreesHaveValues : Type 0
 TreesHaveValues = (reads : Reads) (is_inlined : ℕ → Bool) (funcs : List Func) (count : ℕ) (environment : Environment) (e : Expr)
     → value reads environment (put_in is_inlined funcs count e).expr ≡ inlined (values reads) is_inlined funcs count (variable environment) e

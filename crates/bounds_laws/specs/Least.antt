@@ -1,7 +1,8 @@
 -- Boxes are the least that hold all ranges that are asked.
 --
 -- All ranges that are asked of a source, in one dimension, are a list; its box goes from the least of their lows to the greatest of
--- their highs, in whatever order they stand. This project's own.
+-- their highs, in whatever order they stand, widened first over all values of the loops where they differ in base; for an input or a
+-- Func at root each is widened (`taken`). This project's own.
 use Rattle.std.specs.Prelude.{◌≡◌, ℕ, ◌+◌, ◌==◌, nat_le, Bool, true, false, if◌then◌else◌, List, [], ◌∷◌, ◌++◌, drop, map, slice_get, Option, Some, None, Ok}
 use Rattle.std.specs.List.{list_all, list_any}
 use Rattle.halide_pipeline.specs.declared.definitions.Func.{Func}

@@ -1,5 +1,6 @@
--- A Func whose line names a loop is computed there exactly where all that read it do so within the loop. It is computed nowhere where one
--- doesn't, or where its line names no loop that may have it; and then the schedule is refused.
+-- A Func whose line names a loop is computed there exactly where all that read it do so within the loop. Else, or where its line names
+-- no loop that may have it, it is computed nowhere; where the output reaches it, the schedule is then refused
+-- (`schedule/specs/Legal.antt`).
 -- This project's own.
 use Rattle.std.specs.Prelude.{◌≡◌, ◌<◌, ◌⊎◌, ℕ, true, List, slice_get, Option, Some, None}
 use Rattle.halide_pipeline.specs.Pipelines.{Pipeline}

@@ -20,8 +20,9 @@ pub fn readers_stand_within()
     ensures { ReadersStandWithin }
 {}
 
-/// A Func for which a line names a loop is computed at it exactly where each later Func that is reached and calls it
-/// makes its reads within that loop; and else nowhere, as one whose line names no loop that may have it.
+/// A Func other than the output, for which a line names a loop that may have it, is computed at it exactly where each
+/// later Func that is reached and calls it makes its reads within that loop; and else nowhere, as one whose line names
+/// no loop that may have it.
 pub fn stands_where_readers_do()
     ensures loops { StandsWhereReadersDo }
     ensures nowhere { StandsNowhereElse }

@@ -1,4 +1,5 @@
-//! Boxes hold what is read: laws of `bounds`, each the contract of a function that does nothing.
+//! Which Funcs have boxes; boxes hold all that is read, and no more than is asked; where readers stand: laws of
+//! `bounds`, each the contract of a function that does nothing.
 //!
 //! - [`box_laws`]: which Funcs have boxes, and that boxes are the least that hold all ranges that are asked
 //!   (`specs/Reached.antt`, `specs/Least.antt`).

@@ -1,4 +1,5 @@
--- The line of a fault of marked loops, or of where Funcs are computed, is the least that breaks the rule.
+-- The line of a fault of marked loops, or of where Funcs are computed, is the least that breaks the rule. The fault of
+-- inlined Funcs is judged last and names no line: 0.
 -- This project's own.
 use Rattle.std.specs.Prelude.{◌≡◌, ◌≤◌, ◌⊎◌, ℕ, suc, ◌==◌, true, List, [], ◌∷◌, length, slice_get, Option, Some, None}
 use Rattle.std.specs.List.{AllByRecursion}

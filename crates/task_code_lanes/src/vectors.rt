@@ -414,7 +414,7 @@ pub fn load_at(code: &mut Vec<u32>, d: u8, r: u8) -> Result<(), AllocError>
     Ok(())
 }
 
-/// Appends a store of words one behind the other.
+/// Appends a store of words one behind the other (`vse32.v`).
 pub fn store_row(code: &mut Vec<u32>, s: u8, r: u8) -> Result<(), AllocError>
     requires { (s < 32) × (r < 32) }
     ensures { OnOk result (Emits code.old.items code.new.items

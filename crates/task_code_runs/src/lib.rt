@@ -2,6 +2,7 @@
 //! not which instructions it has.
 //!
 //! - [`runs`]: appends what does such a loop (`specs/Runs.antt`).
+//! - `pointers`: registers that point where the lanes of a run begin (`specs/inner/Making.antt`).
 #![tactic(auto)]
 
 mod configuring;

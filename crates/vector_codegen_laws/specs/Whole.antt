@@ -1,5 +1,5 @@
--- The stages that are listed are those of the Funcs at root that the output reaches. Each has an iteration, and those of a pure definition
--- write all points of its Func's box.
+-- The stages that are listed are those of the Funcs at root that the output reaches. Each has an iteration, and the iterations of a pure
+-- definition write all points of its Func's box.
 -- This project's own.
 use Rattle.std.specs.Prelude.{◌≡◌, ◌<◌, ◌&&◌, ℕ, zero, suc, true, if◌then◌else◌, List, [], ◌++◌, length, slice_get, Option, Some, None, Ok}
 use Rattle.halide_pipeline.specs.declared.definitions.Func.{Func}
