@@ -1,5 +1,5 @@
 -- Kept places, whichever are let go and wherever a machine is put back to.
-use Rattle.std.proofs.Common.{◌≡◌, ◌∙◌, ◌+◌, ◌/◌, ◌<◌, ◌≤◌, ℕ, zero, suc, Bool, false, refl, sym, ap, subst, arith, List, [], ◌∷◌, ◌++◌, length, take, All, Option, Some, None, remove}
+use Rattle.std.proofs.Common.{◌≡◌, ◌∙◌, ◌+◌, ◌/◌, ◌%◌, ◌<◌, ◌≤◌, ℕ, zero, suc, Bool, false, refl, sym, ap, subst, arith, List, [], ◌∷◌, ◌++◌, length, take, All, Option, Some, None, remove}
 use Rattle.std.specs.Prelude.{option_map, slice_get, slice_index, slice_index_or}
 use Rattle.std.proofs.lemmas.List.{ext_get_or}
 use Rattle.std.proofs.lemmas.List.Elements.{All-cons, All-nil, All-weaker}
@@ -40,6 +40,7 @@ kept-same image log f g [] same are = tt
 kept-same image log f g (copy ∷ copies) same are = (
   record {
     within = are.0.within;
+    every = are.0.every;
     pages = are.0.pages;
     harts = are.0.harts;
     holds = holds_same _ (over copy.pages.items f) (over copy.pages.items g) (over_congruent copy.pages.items f g same) are.0.holds;
@@ -78,6 +79,7 @@ one-more image log kept new copy memory same more flags fits is here = record {
 pub still-kept : (image : ImageContents) (log : LogState) (f g : ℕ → ℕ) (copy : KeptPlace) → ((i : ℕ) → f i ≡ g i) → IsKept image log f copy → IsKept image log g copy
 still-kept image log f g copy same is = record {
   within = is.within;
+  every = is.every;
   pages = is.pages;
   harts = is.harts;
   holds = holds_same _ (over copy.pages.items f) (over copy.pages.items g) (over_congruent copy.pages.items f g same) is.holds;
@@ -247,13 +249,14 @@ fits-marked image log kept new memory memory' same places fits marks = record {
 -- ---- what is kept of a machine that stands at a place
 
 pub copy-kept : (image : ImageContents) (log : LogState) (kept : Kept) (place : ℕ) (machine : State) (copy : KeptPlace) → KeptFits image log kept machine.memory → machine ≡ there image log place → place ≤ length log.turns
-    → IsCopy place machine kept.written.items copy → IsKept image log (last_kept image kept) copy
-copy-kept image log kept place machine copy fits here within is =
+    → place % 4096 ≡ 0 → IsCopy place machine kept.written.items copy → IsKept image log (last_kept image kept) copy
+copy-kept image log kept place machine copy fits here within every is =
     let at : there image log place ≡ there image log copy.place = ap (there image log) (sym is.place_is) in
     let state : machine ≡ there image log copy.place = here ∙ at in
     let shape = shape-there image log copy.place in
     record {
       within = subst (λ (p : ℕ). p ≤ length log.turns) (sym is.place_is) within;
+      every = subst (λ (p : ℕ). p % 4096 ≡ 0) (sym is.place_is) every;
       pages = subst (λ (n : ℕ). ArePages n copy) (ap (λ (s : State). length s.memory) state ∙ shape.bytes) is.pages;
       harts = is.harts ∙ ap (λ (s : State). s.harts) state;
       holds = subst (λ (s : State). Holds s.memory (over copy.pages.items (last_kept image kept))) state (is.holds (last_kept image kept) fits.last);
@@ -367,3 +370,10 @@ kept-within image log kept at place memory fits is =
     let found = get-place kept.places.items at place is in
     let both = kept-at image log (first_of image kept) kept.places.items at found.0 fits.places found.1 in
     subst (λ (p : ℕ). p ≤ length log.turns) found.2 both.0.within
+
+pub kept-every : (image : ImageContents) (log : LogState) (kept : Kept) (at place : ℕ) (memory : List ℕ) → KeptFits image log kept memory
+    → option_map (λ (c : KeptPlace). c.place) (slice_get kept.places.items at) ≡ Some place → place % 4096 ≡ 0
+kept-every image log kept at place memory fits is =
+    let found = get-place kept.places.items at place is in
+    let both = kept-at image log (first_of image kept) kept.places.items at found.0 fits.places found.1 in
+    subst (λ (p : ℕ). p % 4096 ≡ 0) found.2 both.0.every

@@ -1,3 +1,4 @@
+pub mod Counts
 pub mod Marks
 pub mod Places
 pub mod Refusals

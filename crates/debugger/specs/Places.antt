@@ -1,5 +1,5 @@
--- What a debugging session holds, and the state at a place of its log: every answer of a session is read from
--- the state at its place. This project's own.
+-- What a debugging session holds, and the state at a place of its log: every answer of a session but `steps` is read
+-- from the state at its place. This project's own.
 use Rattle.std.specs.Prelude.{ℕ, List, [], take}
 use Rattle.multi_hart.specs.Run.{State, run}
 use Rattle.turn_log.specs.TurnLog.{LogState}
@@ -14,6 +14,12 @@ pub record SessionState : Type 0 where
   -- the addresses of text words that are breaks, and of data words that are watched, in the order in which they were set
   pub breaks : List ℕ
   pub watches : List ℕ
+
+-- What a contract sees of a session: its image, log, place and marks, and how many turns of running harts it made one by one since it
+-- was opened. No other answer hangs on that count.
+pub record CountedSession : Type 0 where
+  pub state : SessionState
+  pub steps : ℕ
 
 -- the state after so many turns of the log, from the image's machine on
 abbrev pub state_at : SessionState → ℕ → State

@@ -40,7 +40,6 @@ pub(crate) struct KeptPlace {
 }
 
 /// The last places that were kept.
-#[derive(Drop)]
 pub(crate) struct Kept {
     /// For each page of data its last copy among those that were let go.
     pub below: Vec<Option<PageCopy>>,
@@ -48,6 +47,20 @@ pub(crate) struct Kept {
     pub places: Vec<KeptPlace>,
     /// The pages of data in which a machine may be another than it was at the last of them.
     pub written: Vec<bool>,
+}
+
+/// Written out, so that a check sees a call wherever one is dropped, and not the drops of its parts.
+impl Drop for Kept {
+    fn drop(self) {
+        let Kept {
+            below,
+            places,
+            written,
+        } = self;
+        drop(below);
+        drop(places);
+        drop(written);
+    }
 }
 
 /// No place is kept, over so many bytes of data.

@@ -3,7 +3,8 @@
 //! A [`Session`] stands at a place, which is how many of the log's turns were made, and answers from
 //! the state there (`specs/Places.antt`). It goes forwards and backwards, by turns, to a place, or to the next
 //! or previous place at which a mark stops (`specs/Stops.antt`): a break at an address of text, or a watch of
-//! a word of data (`specs/Marks.antt`). A refused call leaves the session as it was.
+//! a word of data (`specs/Marks.antt`). A refused call leaves the session where it was, with its
+//! marks; turns that it made stay counted (`specs/Counts.antt`).
 //!
 //! - [`sessions`]: the session, and going from place to place.
 //! - [`readers`]: what can be read of the state at its place.

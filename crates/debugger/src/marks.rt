@@ -16,12 +16,13 @@ impl Session {
     /// Sets a break at the address of a text word. Refused where it is none, else where 64 marks are set
     /// and this isn't one of them. A break that is set stays so.
     pub fn set_break(&mut self, pc: u32) -> Result<(), Refusal>
-        ensures ok { OnOk result (with_break self.old pc ≡ Ok self.new) }
-        ensures err { IfErr result (λ refusal. UnlessMemory refusal (with_break self.old pc ≡ Err refusal)) }
+        ensures ok { OnOk result (with_break self.old.state pc ≡ Ok self.new.state) }
+        ensures err { IfErr result (λ refusal. UnlessMemory refusal (with_break self.old.state pc ≡ Err refusal)) }
         ensures unchanged { OnErr result (self.new ≡ self.old) }
+        ensures steps { self.new.steps ≡ self.old.steps }
         // Memory is wanted for a mark that is to be added alone.
-        ensures needed { result ≡ Err Refusal.OutOfMemory → with_break self.old pc
-            ≡ Ok (record self.old { breaks = self.old.breaks ++ pc ∷ [] }) }
+        ensures needed { result ≡ Err Refusal.OutOfMemory → with_break self.old.state pc
+            ≡ Ok (record self.old.state { breaks = self.old.state.breaks ++ pc ∷ [] }) }
     {
         if !is_text_word(self.image.words().len(), pc) {
             return Err(Refusal::Address);
@@ -39,12 +40,13 @@ impl Session {
     /// Sets a watch of an aligned word, of which all four bytes are data. Refused where it is none, else
     /// where 64 marks are set and this isn't one of them. A watch that is set stays so.
     pub fn set_watch(&mut self, address: u32) -> Result<(), Refusal>
-        ensures ok { OnOk result (with_watch self.old address ≡ Ok self.new) }
-        ensures err { IfErr result (λ refusal. UnlessMemory refusal (with_watch self.old address ≡ Err refusal)) }
+        ensures ok { OnOk result (with_watch self.old.state address ≡ Ok self.new.state) }
+        ensures err { IfErr result (λ refusal. UnlessMemory refusal (with_watch self.old.state address ≡ Err refusal)) }
         ensures unchanged { OnErr result (self.new ≡ self.old) }
+        ensures steps { self.new.steps ≡ self.old.steps }
         // Memory is wanted for a mark that is to be added alone.
-        ensures needed { result ≡ Err Refusal.OutOfMemory → with_watch self.old address
-            ≡ Ok (record self.old { watches = self.old.watches ++ address ∷ [] }) }
+        ensures needed { result ≡ Err Refusal.OutOfMemory → with_watch self.old.state address
+            ≡ Ok (record self.old.state { watches = self.old.state.watches ++ address ∷ [] }) }
     {
         if !is_data_word(self.image.data().len(), address) {
             return Err(Refusal::Address);

@@ -8,6 +8,7 @@ ghost use Rattle.turn_log.specs.RunAt.{run_at};
 ghost use Rattle.turn_log.specs.TurnLog.{IsLog};
 ghost use Rattle.debugger_pages.specs.Pages.{Marks};
 ghost use Rattle.debugger_stores.specs.Stored.{store_in};
+ghost use Rattle.debugger.specs.Counts.{steps_from};
 ghost use Rattle.debugger.specs.inner.Passing.{First, Fits, IsPassed, Latest};
 ghost use Rattle.debugger.specs.inner.Steps.{steps_of};
 ghost use Rattle.debugger.specs.Places.{SessionState, state_at};
@@ -97,6 +98,8 @@ pub(crate) fn pass(
         → machine.new ≡ state_at session (way.place + result.turns) }
     ensures steps { (hart count : ℕ) → run_at log.now.turns way.place ≡ Some (hart, count)
         → result.steps ≡ steps_of machine.old hart result.turns }
+    ensures counted { (session : SessionState) → Fits session log.now breaks.now watches.now machine.old way.place
+        → result.steps ≡ steps_from session way.place result.turns }
     ensures some { 1 ≤ result.turns }
     ensures within { way.place + result.turns ≤ way.limit }
     ensures shape { KeepsShape machine.old machine.new }

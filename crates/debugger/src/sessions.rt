@@ -1,6 +1,7 @@
 //! Sessions, and going from place to place.
 
 ghost use Rattle.std.specs.Prelude.{◌≡◌, ◌≢◌, ◌+◌, ◌-◌, ◌<◌, ◌≤◌, length, Err, OnOk, OnErr, IfOk, IfErr};
+ghost use Rattle.debugger.specs.Counts.{Walked};
 ghost use Rattle.debugger.specs.Places.{opened, moved};
 ghost use Rattle.debugger.specs.Refusals.{UnlessMemory};
 
@@ -15,9 +16,8 @@ use std::alloc::{AllocError, Global};
 use std::marker::Model;
 use turn_log::TurnLog;
 
-/// An image, a log of turns, a place in the log, and the marks that are set. A contract sees it as a
-/// `SessionState`.
-#[derive(Drop)]
+/// An image, a log of turns, a place in the log, the marks that are set, and a count of the turns that were made. A
+/// contract sees it as a `CountedSession`.
 pub struct Session {
     pub(crate) image: Image,
     pub(crate) log: TurnLog,
@@ -32,24 +32,52 @@ pub struct Session {
     pub(crate) opening: Vec<Hart>,
     /// The last states that were kept on the way.
     pub(crate) kept: Kept,
+    /// How many turns of running harts were made one by one.
     pub(crate) steps: u64,
 }
 
 impl Model for Session {
-    ghost use Rattle.debugger.specs.Places.{SessionState};
+    ghost use Rattle.debugger.specs.Places.{CountedSession};
     ghost use Rattle.debugger.specs.inner.Held.{Held};
 
-    ghost Value = { SessionState };
+    ghost Value = { CountedSession };
 
-    ghost view = { λ s. record { image = s.image; log = s.log; place = s.place; breaks = s.breaks.items; watches = s.watches.items } };
+    ghost view = { λ s. record { state = record { image = s.image; log = s.log; place = s.place; breaks = s.breaks.items; watches = s.watches.items }; steps = s.steps } };
 
     ghost invariant = { λ s. Held (record { image = s.image; log = s.log; place = s.place; breaks = s.breaks.items; watches = s.watches.items }) s.machine s.opening.items s.insns.items s.kept };
+}
+
+/// Written out, so that a check sees a call wherever one is dropped, and not the drops of its parts.
+impl Drop for Session {
+    fn drop(self) {
+        let Session {
+            image,
+            log,
+            breaks,
+            watches,
+            machine,
+            insns,
+            opening,
+            kept,
+            place: _,
+            steps: _,
+        } = self;
+        drop(image);
+        drop(log);
+        drop(breaks);
+        drop(watches);
+        drop(machine);
+        drop(insns);
+        drop(opening);
+        drop(kept);
+    }
 }
 
 impl Session {
     /// A session at the start of a log, with no mark. A machine of the log's harts is made, and a copy of them.
     pub fn open(alloc: Global, image: Image, log: TurnLog) -> Result<Session, AllocError>
-        ensures { IfOk result (λ session. session ≡ opened image log) }
+        ensures opened { IfOk result (λ session. session.state ≡ opened image log) }
+        ensures steps { IfOk result (λ session. session.steps ≡ 0) }
     {
         let machine = image.machine(alloc, log.harts())?;
         let insns = stores_of(alloc, image.words())?;
@@ -72,10 +100,11 @@ impl Session {
     /// Goes to a place, refused where the log has fewer turns. Backwards the turns are made again from the nearest kept
     /// place before it. It needs no memory: a place for which there is none isn't kept.
     pub fn goto(&mut self, alloc: Global, k: u64) -> Result<(), Refusal>
-        ensures ok { OnOk result (self.new ≡ moved self.old k) }
-        ensures within { OnOk result (k ≤ length self.old.log.turns) }
+        ensures ok { OnOk result (self.new.state ≡ moved self.old.state k) }
+        ensures within { OnOk result (k ≤ length self.old.state.log.turns) }
+        ensures steps { OnOk result (Walked self.old self.new k) }
         ensures err { IfErr result (λ refusal. UnlessMemory refusal ((refusal ≡ Refusal.PastEnd)
-            × (length self.old.log.turns < k))) }
+            × (length self.old.state.log.turns < k))) }
         ensures unchanged { OnErr result (self.new ≡ self.old) }
         ensures memory { result ≢ Err Refusal.OutOfMemory }
     {
@@ -88,10 +117,11 @@ impl Session {
 
     /// Makes one more turn, refused at the end of the log.
     pub fn next(&mut self, alloc: Global) -> Result<(), Refusal>
-        ensures ok { OnOk result (self.new ≡ moved self.old (self.old.place + 1)) }
-        ensures before_end { OnOk result (self.old.place < length self.old.log.turns) }
+        ensures ok { OnOk result (self.new.state ≡ moved self.old.state (self.old.state.place + 1)) }
+        ensures before_end { OnOk result (self.old.state.place < length self.old.state.log.turns) }
+        ensures steps { OnOk result (Walked self.old self.new (self.old.state.place + 1)) }
         ensures err { IfErr result (λ refusal. (refusal ≡ Refusal.PastEnd)
-            × (self.old.place ≡ length self.old.log.turns)) }
+            × (self.old.state.place ≡ length self.old.state.log.turns)) }
         ensures unchanged { OnErr result (self.new ≡ self.old) }
     {
         if self.place >= self.log.len() {
@@ -103,10 +133,11 @@ impl Session {
 
     /// Goes back by one turn, refused at the start of the log.
     pub fn back(&mut self, alloc: Global) -> Result<(), Refusal>
-        ensures ok { OnOk result (self.new ≡ moved self.old (self.old.place - 1)) }
-        ensures behind_start { OnOk result (1 ≤ self.old.place) }
+        ensures ok { OnOk result (self.new.state ≡ moved self.old.state (self.old.state.place - 1)) }
+        ensures behind_start { OnOk result (1 ≤ self.old.state.place) }
+        ensures steps { OnOk result (Walked self.old self.new (self.old.state.place - 1)) }
         ensures err { IfErr result (λ refusal. UnlessMemory refusal ((refusal ≡ Refusal.BeforeStart)
-            × (self.old.place ≡ 0))) }
+            × (self.old.state.place ≡ 0))) }
         ensures unchanged { OnErr result (self.new ≡ self.old) }
         ensures memory { result ≢ Err Refusal.OutOfMemory }
     {

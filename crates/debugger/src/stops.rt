@@ -15,11 +15,13 @@ use std::alloc::Global;
 impl Session {
     /// Goes to the least place after this one at which a mark stops. Refused where there is none.
     pub fn forward(&mut self, alloc: Global) -> Result<(), Refusal>
-        ensures ok { OnOk result (IsNextStop self.old self.new.place) }
-        ensures marks_stay { OnOk result (self.new ≡ moved self.old self.new.place) }
+        ensures ok { OnOk result (IsNextStop self.old.state self.new.state.place) }
+        ensures marks_stay { OnOk result (self.new.state ≡ moved self.old.state self.new.state.place) }
         ensures err { IfErr result (λ refusal. UnlessMemory refusal ((refusal ≡ Refusal.NoStop)
-            × NoNextStop self.old)) }
-        ensures unchanged { OnErr result (self.new ≡ self.old) }
+            × NoNextStop self.old.state)) }
+        ensures unchanged { OnErr result (self.new.state ≡ self.old.state) }
+        // How much a search adds isn't said.
+        ensures steps { self.old.steps ≤ self.new.steps }
         ensures memory { result ≢ Err Refusal.OutOfMemory }
     {
         let from = self.place();
@@ -37,11 +39,13 @@ impl Session {
 
     /// Goes to the greatest place before this one at which a mark stops. Refused where there is none.
     pub fn reverse(&mut self, alloc: Global) -> Result<(), Refusal>
-        ensures ok { OnOk result (IsPreviousStop self.old self.new.place) }
-        ensures marks_stay { OnOk result (self.new ≡ moved self.old self.new.place) }
+        ensures ok { OnOk result (IsPreviousStop self.old.state self.new.state.place) }
+        ensures marks_stay { OnOk result (self.new.state ≡ moved self.old.state self.new.state.place) }
         ensures err { IfErr result (λ refusal. UnlessMemory refusal ((refusal ≡ Refusal.NoStop)
-            × NoPreviousStop self.old)) }
-        ensures unchanged { OnErr result (self.new ≡ self.old) }
+            × NoPreviousStop self.old.state)) }
+        ensures unchanged { OnErr result (self.new.state ≡ self.old.state) }
+        // How much a search adds isn't said.
+        ensures steps { self.old.steps ≤ self.new.steps }
         ensures memory { result ≢ Err Refusal.OutOfMemory }
     {
         let from = self.place();
@@ -60,8 +64,9 @@ impl Session {
     /// The least stop after the place. The session is then at that stop or behind it, or at the end where there is
     /// none.
     fn next_stop(&mut self, alloc: Global) -> Option<u64>
-        ensures state { self.new ≡ moved self.old self.new.place }
-        ensures stop { MatchOption result (NoNextStop self.old) (IsNextStop self.old) }
+        ensures state { self.new.state ≡ moved self.old.state self.new.state.place }
+        ensures steps { self.old.steps ≤ self.new.steps }
+        ensures stop { MatchOption result (NoNextStop self.old.state) (IsNextStop self.old.state) }
     {
         let end = self.length();
         let mut place = self.place();
@@ -78,9 +83,10 @@ impl Session {
     /// The greatest stop before the place, looked for from the nearest copy before it on, then from the one before
     /// that, and so on. The session is then somewhere before its place.
     fn previous_stop(&mut self, alloc: Global) -> Option<u64>
-        ensures state { self.new ≡ moved self.old self.new.place }
-        ensures stop { MatchOption result (NoPreviousStop self.old) (IsPreviousStop self.old) }
-        ensures within { IfSome result (λ stop. stop ≤ length self.old.log.turns) }
+        ensures state { self.new.state ≡ moved self.old.state self.new.state.place }
+        ensures steps { self.old.steps ≤ self.new.steps }
+        ensures stop { MatchOption result (NoPreviousStop self.old.state) (IsPreviousStop self.old.state) }
+        ensures within { IfSome result (λ stop. stop ≤ length self.old.state.log.turns) }
     {
         let place = self.place();
         if place == 0 {
@@ -102,8 +108,9 @@ impl Session {
 
     /// The start of the log where a mark stops there.
     fn stop_at_start(&self) -> Option<u64>
-        requires { self.now.place ≡ 0 }
-        ensures { MatchOption result (stops self.now 0 ≡ false) (λ stop. (stop ≡ 0) × (stops self.now 0 ≡ true)) }
+        requires { self.now.state.place ≡ 0 }
+        ensures { MatchOption result (stops self.now.state 0 ≡ false)
+            (λ stop. (stop ≡ 0) × (stops self.now.state 0 ≡ true)) }
     {
         if is_on_break(&self.log, &self.breaks, &self.machine, 0) {
             Some(0)
@@ -114,10 +121,11 @@ impl Session {
 
     /// The greatest stop behind the place up to a later one, to which the session goes.
     fn last_stop(&mut self, alloc: Global, last_place: u64) -> Option<u64>
-        requires after { self.old.place < last_place }
-        requires within { last_place ≤ length self.old.log.turns }
-        ensures state { self.new ≡ moved self.old last_place }
-        ensures latest { Latest self.old self.old.place last_place result }
+        requires after { self.old.state.place < last_place }
+        requires within { last_place ≤ length self.old.state.log.turns }
+        ensures state { self.new.state ≡ moved self.old.state last_place }
+        ensures steps { self.old.steps ≤ self.new.steps }
+        ensures latest { Latest self.old.state self.old.state.place last_place result }
     {
         let mut last = None;
         let mut place = self.place();

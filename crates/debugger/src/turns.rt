@@ -7,6 +7,8 @@ ghost use Rattle.multi_hart.specs.Run.{KeepsShape, State, hart_at, outcome, run,
 ghost use Rattle.turn_log.specs.RunAt.{run_at};
 ghost use Rattle.debugger_pages.specs.Pages.{Marks};
 ghost use Rattle.debugger_stores.specs.Stored.{store_in};
+ghost use Rattle.debugger.specs.Counts.{steps_from};
+ghost use Rattle.debugger.specs.Places.{SessionState, state_at};
 ghost use Rattle.debugger.specs.inner.Steps.{IsQuietUntil, steps_of};
 ghost use Rattle.debugger.specs.Stops.{differs};
 
@@ -85,6 +87,8 @@ pub(crate) fn make_some(
         → machine.new ≡ run start (take (way.place + result.turns) log.now.turns) }
     ensures steps { (hart count : ℕ) → run_at log.now.turns way.place ≡ Some (hart, count)
         → result.steps ≡ steps_of machine.old hart result.turns }
+    ensures counted { (session : SessionState) → log.now ≡ session.log → machine.old ≡ state_at session way.place
+        → result.steps ≡ steps_from session way.place result.turns }
     ensures some { 1 ≤ result.turns }
     ensures within { way.place + result.turns ≤ way.limit }
     ensures shape { KeepsShape machine.old machine.new }

@@ -1,6 +1,7 @@
 //! Going from place to place, and the states that are kept on the way.
 
-ghost use Rattle.std.specs.Prelude.{◌≡◌, ◌+◌, ◌<◌, ◌≤◌, length};
+ghost use Rattle.std.specs.Prelude.{◌≡◌, ◌≢◌, ◌+◌, ◌-◌, ◌%◌, ◌^◌, ◌<◌, ◌≤◌, length};
+ghost use Rattle.debugger.specs.Counts.{Walked, counted, steps_from};
 ghost use Rattle.debugger.specs.Places.{moved};
 ghost use Rattle.debugger.specs.inner.Passing.{IsPassed};
 
@@ -13,8 +14,9 @@ use std::alloc::Global;
 impl Session {
     /// Goes to a place of the log, from here or from the nearest kept place before it.
     pub(crate) fn stand_at(&mut self, alloc: Global, place: u64)
-        requires { place ≤ length self.old.log.turns }
-        ensures { self.new ≡ moved self.old place }
+        requires { place ≤ length self.old.state.log.turns }
+        ensures state { self.new.state ≡ moved self.old.state place }
+        ensures steps { Walked self.old self.new place }
     {
         self.approach(place);
         while self.place < place {
@@ -25,8 +27,13 @@ impl Session {
     /// Goes back to the nearest kept place where that is nearer to a place than the way on from here. It takes no
     /// memory.
     pub(crate) fn approach(&mut self, place: u64)
-        ensures state { self.new ≡ moved self.old self.new.place }
-        ensures before { self.new.place ≤ place }
+        ensures state { self.new.state ≡ moved self.old.state self.new.state.place }
+        ensures before { self.new.state.place ≤ place }
+        ensures onwards { self.old.state.place ≤ place → self.old.state.place ≤ self.new.state.place }
+        ensures begins { self.new.state.place % 4096 ≢ 0 → self.new.state.place ≡ self.old.state.place }
+        ensures steps { self.new.steps ≡ self.old.steps }
+        // What the field holds.
+        ensures fits { self.old.steps < 2 ^ 64 }
     {
         match nearest(&self.kept.places, place) {
             Some((at, kept)) if place < self.place || self.place < kept => {
@@ -48,11 +55,14 @@ impl Session {
 
     /// Makes turns of one hart, at least one and at most those up to the limit.
     fn advance(&mut self, alloc: Global, limit: u64)
-        requires before { self.old.place < limit }
-        requires within { limit ≤ length self.old.log.turns }
-        ensures state { self.new ≡ moved self.old self.new.place }
-        ensures onwards { self.old.place < self.new.place }
-        ensures within { self.new.place ≤ limit }
+        requires before { self.old.state.place < limit }
+        requires within { limit ≤ length self.old.state.log.turns }
+        ensures state { self.new.state ≡ moved self.old.state self.new.state.place }
+        ensures onwards { self.old.state.place < self.new.state.place }
+        ensures within { self.new.state.place ≤ limit }
+        ensures grows { self.old.steps ≤ self.new.steps }
+        ensures steps { self.new.steps ≡ counted self.old.steps
+            (steps_from self.old.state self.old.state.place (self.new.state.place - self.old.state.place)) }
     {
         let way = Way {
             place: self.place,
@@ -75,11 +85,14 @@ impl Session {
     /// Passes at least one turn and at most those up to the limit: turns of a hart that runs, or all of one that
     /// doesn't.
     pub(crate) fn pass_on(&mut self, alloc: Global, limit: u64) -> Passed
-        requires before { self.old.place < limit }
-        requires within { limit ≤ length self.old.log.turns }
-        ensures passed { IsPassed self.old self.old.place result }
-        ensures within { self.old.place + result.turns ≤ limit }
-        ensures state { self.new ≡ moved self.old (self.old.place + result.turns) }
+        requires before { self.old.state.place < limit }
+        requires within { limit ≤ length self.old.state.log.turns }
+        ensures passed { IsPassed self.old.state self.old.state.place result }
+        ensures within { self.old.state.place + result.turns ≤ limit }
+        ensures state { self.new.state ≡ moved self.old.state (self.old.state.place + result.turns) }
+        ensures grows { self.old.steps ≤ self.new.steps }
+        ensures steps { self.new.steps ≡ counted self.old.steps
+            (steps_from self.old.state self.old.state.place result.turns) }
     {
         let way = Way {
             place: self.place,

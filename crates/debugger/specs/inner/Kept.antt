@@ -1,5 +1,5 @@
 -- What kept places hold: the state at each, as pages laid over those of the places before it. This project's own.
-use Rattle.std.specs.Prelude.{◌≡◌, ℕ, ◌≤◌, List, [], ◌∷◌, All, Bool, length, slice_index, take, None}
+use Rattle.std.specs.Prelude.{◌≡◌, ℕ, ◌%◌, ◌≤◌, List, [], ◌∷◌, All, Bool, length, slice_index, take, None}
 use Rattle.multi_hart.specs.Run.{State, run}
 use Rattle.turn_log.specs.TurnLog.{LogState}
 use Rattle.loader.specs.Image.{ImageContents}
@@ -27,6 +27,7 @@ ArePages size copy = All (IsPage size) copy.pages.items
 -- Applied to what data held before, a kept place gives the state there, which hangs on the image and on the log alone.
 pub record IsKept (image : ImageContents) (log : LogState) (f : ℕ → ℕ) (copy : KeptPlace) : Type 0 where
   pub within : copy.place ≤ length log.turns
+  pub every : copy.place % 4096 ≡ 0
   pub pages : ArePages (length image.bytes) copy
   pub harts : copy.harts.items ≡ (run (machine_of image log.harts) (take copy.place log.turns)).harts
   pub holds : Holds (run (machine_of image log.harts) (take copy.place log.turns)).memory (over copy.pages.items f)

@@ -2,15 +2,9 @@
 -- This project's own.
 use Rattle.std.specs.Prelude.{◌≡◌, ℕ, zero, suc, ◌+◌, ◌-◌, ◌<◌, ◌≤◌, ◌==◌, false, List, replicate}
 use Rattle.std.specs.List.{list_any}
-use Rattle.hart_core.specs.declared.harts.Status.{Status}
-use Rattle.hart_core.specs.declared.harts.Status.TheVariants.{Running, Finished, Trapped}
 use Rattle.multi_hart.specs.Run.{State, run, hart_at}
+use Rattle.debugger.specs.Counts.{one_if_running}
 use Rattle.debugger.specs.Stops.{differs}
-
-abbrev pub one_if_running : Status → ℕ
-one_if_running Running = 1
-one_if_running Finished = 0
-one_if_running (Trapped trap) = 0
 
 -- of so many turns of a hart one after the other, those in which it runs
 abbrev pub steps_of : State → ℕ → ℕ → ℕ

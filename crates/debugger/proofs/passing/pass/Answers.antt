@@ -3,10 +3,11 @@ use Rattle.std.specs.Prelude.{◌≢◌}
 use Rattle.hart_core.specs.declared.harts.Status.TheVariants.{Running}
 use Rattle.multi_hart.specs.Run.{State, hart_at}
 use Rattle.turn_log.specs.TurnLog.{LogState}
+use Rattle.turn_log.specs.RunAt.{Stand}
 use Rattle.debugger_pages.proofs.Marking.{marks_none}
 use Rattle.debugger.specs.Places.{state_at}
 use Rattle.debugger.specs.inner.Steps.{steps_of}
-use Rattle.debugger.proofs.Counting.{rest-steps, same_hart}
+use Rattle.debugger.proofs.Counting.{rest-steps, same_hart, steps-standing}
 use Rattle.debugger.proofs.Places.{next-is, none-is}
 use Rattle.debugger.proofs.Passes.{at-once, rest-state, stands-behind, until-behind, until-between, until-of}
 use Rattle.debugger.proofs.passing.pass.Goals as goal
@@ -51,6 +52,11 @@ returns-in_default-status c =
           (let same = same_hart _ hart c.in-Some.count other count run found in
           c.pass_rest.ensures.steps ∙ sym (rest-steps machine hart turns below rests)
           ∙ ap (λ (n : ℕ). steps_of machine hart n) (sym made) ∙ ap (λ (h : ℕ). steps_of machine h c.pass_rest.result.turns) same);
+      counted = λ session fits.
+          (let stand = subst (λ (log : LogState). Stand log.turns place hart c.in-Some.count) fits.same_log next.stand in
+          c.pass_rest.ensures.steps ∙ sym (rest-steps machine hart turns below rests)
+          ∙ ap (λ (n : ℕ). steps_of machine hart n) (sym made) ∙ ap (λ (s : State). steps_of s hart c.pass_rest.result.turns) fits.state
+          ∙ steps-standing session place hart c.in-Some.count c.pass_rest.result.turns stand (omega arith));
       some = omega arith;
       within = omega arith;
       shape = record { text = refl; bytes = refl; harts = refl };
@@ -112,3 +118,16 @@ pub returns-clause-steps : goal.returns-clause-steps
 returns-clause-steps c = λ hart count found.
     let same = same_hart _ c.in-Some.hart c.in-Some.count hart count (sym c.run_at.ensures ∙ c.in-Some.is) found in
     sym c.make_until-until.ensures.steps ∙ ap (λ (h : ℕ). steps_of c.args.machine.now h c.make_until-until.result.turns) same
+
+pub returns-clause-counted : goal.returns-clause-counted
+returns-clause-counted c = λ session fits.
+    let place = c.args.way.place in
+    let hart = c.in-Some.hart in
+    let count = c.in-Some.count in
+    let turns = c.make_until-until.result.turns in
+    let next = next-is c.args.log.now place hart count c.harts-harts.ensures.log (sym c.run_at.ensures ∙ c.in-Some.is) in
+    let stand = subst (λ (log : LogState). Stand log.turns place hart count) fits.same_log next.stand in
+    let least = c.min-all.ensures in
+    let most = c.min-most.ensures in
+    let bound = c.make_until-until.ensures.some.1 in
+    sym c.make_until-until.ensures.steps ∙ ap (λ (s : State). steps_of s hart turns) fits.state ∙ steps-standing session place hart count turns stand (omega arith)

@@ -1,7 +1,9 @@
-use Rattle.std.proofs.Common.{ℕ, replicate, sym, ap, ◌∙◌, arith}
+use Rattle.std.proofs.Common.{ℕ, subst, replicate, sym, ap, ◌∙◌, arith}
 use Rattle.multi_hart.specs.Run.{State, run}
+use Rattle.turn_log.specs.TurnLog.{LogState}
+use Rattle.turn_log.specs.RunAt.{Stand}
 use Rattle.debugger.specs.inner.Steps.{steps_of}
-use Rattle.debugger.proofs.Counting.{same_hart}
+use Rattle.debugger.proofs.Counting.{same_hart, steps-standing}
 use Rattle.debugger.proofs.Places.{next-is, none-is, run-standing}
 use Rattle.debugger.proofs.turns.make_some.Goals as goal
 
@@ -41,3 +43,14 @@ pub returns-clause-steps : goal.returns-clause-steps
 returns-clause-steps c = λ hart count is.
     let same = same_hart _ c.in-Some.hart c.in-Some.count hart count (sym c.run_at.ensures ∙ c.in-Some.is) is in
     c.make_counted-steps.ensures.steps ∙ ap (λ (h : ℕ). steps_of c.args.machine.now h c.at_most-turns.result) same
+
+pub returns-clause-counted : goal.returns-clause-counted
+returns-clause-counted c = λ session same here.
+    let place = c.args.way.place in
+    let hart = c.in-Some.hart in
+    let count = c.in-Some.count in
+    let turns = c.at_most-turns.result in
+    let next = next-is c.args.log.now place hart count c.harts-harts.ensures.log (sym c.run_at.ensures ∙ c.in-Some.is) in
+    let stand = subst (λ (log : LogState). Stand log.turns place hart count) same next.stand in
+    let least = c.min.ensures in
+    c.make_counted-steps.ensures.steps ∙ ap (λ (s : State). steps_of s hart turns) here ∙ steps-standing session place hart count turns stand (omega (arith, c.at_most-turns.ensures.most))

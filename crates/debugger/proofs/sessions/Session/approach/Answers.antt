@@ -4,7 +4,7 @@ use Rattle.hart_core.specs.HartState.{HartState}
 use Rattle.debugger.specs.declared.kept.KeptPlace.{KeptPlace}
 use Rattle.debugger.specs.Places.{SessionState, state_at}
 use Rattle.debugger.proofs.Holding.{as-many-bytes, as-many-harts, can-go-back, held-there, same-text, start-again}
-use Rattle.debugger.proofs.Keeping.{kept-within}
+use Rattle.debugger.proofs.Keeping.{kept-every, kept-within}
 use Rattle.debugger.proofs.sessions.Session.approach.Goals as goal
 
 pub put_back-requires-clause-can : goal.put_back-requires-clause-can
@@ -30,6 +30,15 @@ invariant_of-self c =
     let state = c.put_back.ensures.state session.log machine.memory place fits found text in
     let within = kept-within session.image session.log kept c.in-Some.at place machine.memory fits found in
     held-there session machine c.put_back.new.machine c.self.inside.opening.items c.self.inside.insns.items kept c.put_back.new.kept place c.self.invariant state within (c.put_back.ensures.fits session.log machine.memory fits)
+
+pub returns-in-Some-clause-begins : goal.returns-in-Some-clause-begins
+returns-in-Some-clause-begins c = λ other.
+    let session : SessionState = record { image = c.self.inside.image; log = c.self.inside.log; place = c.self.inside.place; breaks = c.self.inside.breaks.items; watches = c.self.inside.watches.items } in
+    let kept = c.self.inside.kept in
+    let place = c.in-Some.kept in
+    let found : option_map (λ (copy : KeptPlace). copy.place) (slice_get kept.places.items c.in-Some.at) ≡ Some place =
+    ap (λ (cs : List KeptPlace). option_map (λ (copy : KeptPlace). copy.place) (slice_get cs c.in-Some.at)) (sym c.deref.ensures.value) ∙ c.in-Some.ensures.kept in
+    absurd (other (kept-every session.image session.log kept c.in-Some.at place c.self.inside.machine.memory c.self.invariant.kept found))
 
 pub put_at_start-requires-clause-size : goal.put_at_start-requires-clause-size
 put_at_start-requires-clause-size c =

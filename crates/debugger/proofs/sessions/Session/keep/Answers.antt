@@ -1,4 +1,4 @@
-use Rattle.std.proofs.Common.{◌≡◌, ◌∙◌, ℕ, Bool, List, length, sym, ap, subst}
+use Rattle.std.proofs.Common.{◌≡◌, ◌∙◌, ◌%◌, arith, ℕ, Bool, List, length, sym, ap, subst}
 use Rattle.multi_hart.specs.Run.{State}
 use Rattle.debugger.specs.Places.{SessionState, state_at}
 use Rattle.debugger.specs.inner.Kept.{IsCopy}
@@ -18,6 +18,7 @@ invariant_of-self c =
     let kept = c.self.inside.kept in
     let copy = c.in-Ok.copy in
     let copied : IsCopy session.place machine kept.written.items copy = subst (λ (xs : List Bool). IsCopy session.place machine xs copy) c.deref-2.ensures.value c.in-Ok.ensures in
-    let is = copy-kept session.image session.log kept session.place machine copy c.self.invariant.kept c.self.invariant.state c.self.invariant.within copied in
+    let every : session.place % 4096 ≡ 0 = grind arith in
+    let is = copy-kept session.image session.log kept session.place machine copy c.self.invariant.kept c.self.invariant.state c.self.invariant.within every copied in
     let here : machine.memory ≡ (state_at session copy.place).memory = ap (λ (s : State). s.memory) c.self.invariant.state ∙ ap (λ (p : ℕ). (state_at session p).memory) (sym copied.place_is) in
     held-kept session machine c.self.inside.opening.items c.self.inside.insns.items kept c.keep_last.new.kept c.self.invariant (c.keep_last.ensures session.image session.log machine.memory c.self.invariant.kept is here)

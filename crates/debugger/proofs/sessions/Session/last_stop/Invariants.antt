@@ -5,9 +5,10 @@ use Rattle.debugger.proofs.sessions.Session.last_stop.Given as goal
 
 abbrev pub invariant-loop-place : goal.invariant-loop-place
 invariant-loop-place l = record {
-  state : l.self ≡ moved l.fn.self l.place;
+  state : l.self.state ≡ moved l.fn.self.state l.place;
+  steps : l.fn.self.steps ≤ l.self.steps;
   within : l.place ≤ l.last_place;
-  latest : Latest l.fn.self l.fn.self.place l.place l.last;
+  latest : Latest l.fn.self.state l.fn.self.state.place l.place l.last;
 }
 
 abbrev pub decreases-loop-place : goal.decreases-loop-place

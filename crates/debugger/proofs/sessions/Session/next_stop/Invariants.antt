@@ -5,10 +5,11 @@ use Rattle.debugger.proofs.sessions.Session.next_stop.Given as goal
 
 abbrev pub invariant-loop-place : goal.invariant-loop-place
 invariant-loop-place l = record {
-  state : l.self ≡ moved l.fn.self l.place;
-  from : l.fn.self.place ≤ l.place;
+  state : l.self.state ≡ moved l.fn.self.state l.place;
+  steps : l.fn.self.steps ≤ l.self.steps;
+  from : l.fn.self.state.place ≤ l.place;
   within : l.place ≤ l.end;
-  none : (k : ℕ) → l.fn.self.place < k → k ≤ l.place → stops l.fn.self k ≡ false;
+  none : (k : ℕ) → l.fn.self.state.place < k → k ≤ l.place → stops l.fn.self.state k ≡ false;
 }
 
 abbrev pub decreases-loop-place : goal.decreases-loop-place

@@ -1,5 +1,5 @@
 use Rattle.std.proofs.Common.{◌∙◌, ◌+◌, length, refl, ap, arith}
-use Rattle.debugger.specs.Places.{SessionState}
+use Rattle.debugger.specs.Places.{CountedSession, SessionState}
 use Rattle.debugger.specs.inner.Passing.{Fits}
 use Rattle.debugger.proofs.Holding.{held-marked, text-meant}
 use Rattle.debugger.proofs.sessions.Session.pass_on.Goals as goal
@@ -17,7 +17,7 @@ invariant_of-self c =
     let place = session.place + c.pass-passed.result.turns in
     let fits : Fits session c.self.inside.log c.deref.result.now c.deref-2.result.now machine session.place = record { same_log = refl; same_breaks = c.deref.ensures.value; same_watches = c.deref-2.ensures.value; state = c.self.invariant.state } in
     let within = c.pass-passed.ensures.within in
-    let limit = ap (λ (s : SessionState). length s.log.turns) c.self.view_is in
+    let limit = ap (λ (s : CountedSession). length s.state.log.turns) c.self.view_is in
     let most = c.requires.within in
     held-marked session machine c.pass-passed.new.machine c.self.inside.opening.items c.self.inside.insns.items kept place c.deref_mut.result.now c.pass-passed.new.written c.self.invariant c.deref_mut.ensures.value c.pass-passed.ensures.marks (c.pass-passed.ensures.state session fits) (omega arith)
 
@@ -29,6 +29,6 @@ invariant_of-self-else-is_turn_by_turn c =
     let place = session.place + c.pass-passed.result.turns in
     let fits : Fits session c.self.inside.log c.deref.result.now c.deref-2.result.now machine session.place = record { same_log = refl; same_breaks = c.deref.ensures.value; same_watches = c.deref-2.ensures.value; state = c.self.invariant.state } in
     let within = c.pass-passed.ensures.within in
-    let limit = ap (λ (s : SessionState). length s.log.turns) c.self.view_is in
+    let limit = ap (λ (s : CountedSession). length s.state.log.turns) c.self.view_is in
     let most = c.requires.within in
     held-marked session machine c.pass-passed.new.machine c.self.inside.opening.items c.self.inside.insns.items kept place c.deref_mut.result.now c.pass-passed.new.written c.self.invariant c.deref_mut.ensures.value c.pass-passed.ensures.marks (c.pass-passed.ensures.state session fits) (omega arith)

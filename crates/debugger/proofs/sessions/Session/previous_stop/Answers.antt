@@ -6,8 +6,8 @@ use Rattle.debugger.proofs.sessions.Session.previous_stop.Goals as goal
 
 pub returns-in-Some-clause-stop : goal.returns-in-Some-clause-stop
 returns-in-Some-clause-stop c =
-    let session = c.args.self.now in
-    let here = c.approach.new.self in
+    let session = c.args.self.now.state in
+    let here = c.approach.new.self.state in
     let last_place = c.loop-last_place.last_place in
     let e = c.approach.ensures.state ∙ ap (λ (s : SessionState). moved s here.place) c.loop-last_place.invariant.state in
     let latest = latest-from session here here.place here.place last_place (Some c.in-Some.stop) e c.in-Some.ensures.latest in
@@ -20,8 +20,8 @@ returns-in-Some-clause-stop c =
 
 pub loop-last_place-preserved : goal.loop-last_place-preserved
 loop-last_place-preserved c =
-    let session = c.args.self.now in
-    let here = c.approach.new.self in
+    let session = c.args.self.now.state in
+    let here = c.approach.new.self.state in
     let last_place = c.loop-last_place.last_place in
     let e = c.approach.ensures.state ∙ ap (λ (s : SessionState). moved s here.place) c.loop-last_place.invariant.state in
     let latest = latest-from session here here.place here.place last_place None e c.in-None.ensures.latest in
@@ -29,14 +29,15 @@ loop-last_place-preserved c =
     let begin = c.place-begin.ensures.value in
     record {
       state = gone ∙ ap (moved session) (sym (ap (λ (s : SessionState). s.place) gone));
+      steps = omega (arith, c.loop-last_place.invariant.steps, c.approach.ensures.steps, c.last_stop.ensures.steps);
       before = omega (arith, begin, c.approach.ensures.before, c.loop-last_place.invariant.before);
       none = λ k after under. elim (cases_lt last_place k) [ inl behind ↦ c.loop-last_place.invariant.none k behind under | inr up_to ↦ latest k (omega (arith, begin)) up_to ];
     }
 
 pub returns-clause-stop : goal.returns-clause-stop
 returns-clause-stop c =
-    let session = c.args.self.now in
-    let here = c.approach-2.new.self in
+    let session = c.args.self.now.state in
+    let here = c.approach-2.new.self.state in
     let e = c.approach-2.ensures.state ∙ ap (λ (s : SessionState). moved s here.place) c.loop-last_place.invariant.state in
     let over : c.loop-last_place.last_place ≡ 0 = omega arith in
     let before = c.loop-last_place.invariant.before in
