@@ -62,7 +62,7 @@ impl Model for Compiled {
     ghost invariant = { λ c. IsHeld (record { pipeline = c.pipeline; schedule = c.schedule; boxes = c.boxes; words = c.words.items; ends = c.ends.items; stages = c.stages.items }) };
 }
 
-/// Written out, so that a function that drops one has a call here for each way out, and not what dropping trees takes.
+/// Written out, so that a check sees a call wherever one is dropped, and not the drops of its parts.
 impl Drop for Compiled {
     fn drop(self) {
         let Compiled {
@@ -117,6 +117,7 @@ impl Compiled {
         ensures judged { IfOk result (λ image. judged self.now.pipeline.inputs pictures.now ≡ None) }
         ensures pictures { IfOk result (λ image. ArePictures pictures.now) }
         ensures is { IfOk result (λ image. image ≡ image_of self.now pictures.now) }
+        ensures rules { IfOk result images.IsImage }
         ensures correct { IfOk result (λ image. Correct self.now.pipeline pictures.now self.now.boxes.layout.phases
             image) }
         ensures assigned { IfOk result (λ image. IsAssigned self.now.pipeline self.now.schedule self.now.boxes

@@ -45,7 +45,7 @@ pub fn debug_bytes<I: Source, L: Source, C: Source, O: Sink>(
 /// bytes are let go as soon as they are read.
 #[tactic(auto, unfolding(crate::specs::Debug::session_of))]
 fn open(alloc: Global, image: Vec<u8>, log: Vec<u8>) -> Result<Session, Fault>
-    ensures ok { IfOk result (λ session. session_of image.items log.items ≡ Ok session) }
+    ensures ok { IfOk result (λ session. session_of image.items log.items ≡ Ok session.state) }
     ensures err { IfErr result (λ fault. Unmeant IsRefusedSession (image.items, log.items) fault) }
 {
     let read = read_image(alloc, &image)?;
@@ -65,8 +65,8 @@ fn hold_talk<C: Source, O: Sink>(
     requires fresh { talk.old.unended.items ≡ [] }
     requires lines { C.failed lines.old + 1 < 2 ^ 64 }
     requires out { O.failed out.old + 1 < 2 ^ 64 }
-    ensures { HoldsTalk talk.old.session (pieces_of C.place C.failed C.gave lines.old lines.new) (C.ended lines.new)
-        (sink_of O.place O.failed O.took out.old out.new) result }
+    ensures { HoldsTalk talk.old.session.state (pieces_of C.place C.failed C.gave lines.old lines.new)
+        (C.ended lines.new) (sink_of O.place O.failed O.took out.old out.new) result }
 {
     // Made before the first read, so that a read that fails needs no memory.
     let path = String::from_str(alloc, lines.path())?;

@@ -43,8 +43,8 @@ impl Talk {
         text: &mut String,
     ) -> Result<bool, AllocError>
         requires { IsLine self.old.unended.items }
-        ensures { IfOk result (λ is_last. Took is_last self.old.session self.old.unended.items bytes.now
-            self.new.session self.new.unended.items (string_bytes text.old) (string_bytes text.new)) }
+        ensures { IfOk result (λ is_last. Took is_last self.old.session.state self.old.unended.items bytes.now
+            self.new.session.state self.new.unended.items (string_bytes text.old) (string_bytes text.new)) }
     {
         let mut rest = bytes;
         'lines: while let Some((line, others)) = cut_at(rest, b'\n') {
@@ -63,7 +63,7 @@ impl Talk {
     pub fn end(&mut self, alloc: Global, text: &mut String) -> Result<(), AllocError>
         requires { IsLine self.old.unended.items }
         ensures { OnOk result (string_bytes text.new ≡ string_bytes text.old
-            ++ spec.talk self.old.session self.old.unended.items) }
+            ++ spec.talk self.old.session.state self.old.unended.items) }
     {
         if !self.unended.is_empty() {
             answer_line(alloc, &mut self.session, &self.unended, text)?;
@@ -81,9 +81,9 @@ fn answer_line(
     text: &mut String,
 ) -> Result<bool, AllocError>
     ensures text { OnOk result (string_bytes text.new ≡ string_bytes text.old
-        ++ (spec.answer session.old line.now).text) }
-    ensures next { OnOk result (session.new ≡ (spec.answer session.old line.now).next) }
-    ensures last { IfOk result (λ is_last. is_last ≡ (spec.answer session.old line.now).is_last) }
+        ++ (spec.answer session.old.state line.now).text) }
+    ensures next { OnOk result (session.new.state ≡ (spec.answer session.old.state line.now).next) }
+    ensures last { IfOk result (λ is_last. is_last ≡ (spec.answer session.old.state line.now).is_last) }
 {
     match read_command(line) {
         Some(Command::Quit) => return Ok(true),
@@ -101,8 +101,8 @@ fn answer_command(
     text: &mut String,
 ) -> Result<(), AllocError>
     ensures text { OnOk result (string_bytes text.new ≡ string_bytes text.old
-        ++ (spec.answer_to session.old command).text) }
-    ensures next { OnOk result (session.new ≡ (spec.answer_to session.old command).next) }
+        ++ (spec.answer_to session.old.state command).text) }
+    ensures next { OnOk result (session.new.state ≡ (spec.answer_to session.old.state command).next) }
 {
     match command {
         Command::Goto(place) => go_to(alloc, session, place, text),
@@ -128,8 +128,8 @@ fn go_to(
     text: &mut String,
 ) -> Result<(), AllocError>
     ensures text { OnOk result (string_bytes text.new ≡ string_bytes text.old
-        ++ (spec.answer_to session.old (Command.Goto place)).text) }
-    ensures next { OnOk result (session.new ≡ (spec.answer_to session.old (Command.Goto place)).next) }
+        ++ (spec.answer_to session.old.state (Command.Goto place)).text) }
+    ensures next { OnOk result (session.new.state ≡ (spec.answer_to session.old.state (Command.Goto place)).next) }
 {
     match session.goto(alloc, place) {
         Ok(()) => push_place(text, session.place()),
@@ -140,8 +140,8 @@ fn go_to(
 /// `next`
 fn go_on(alloc: Global, session: &mut Session, text: &mut String) -> Result<(), AllocError>
     ensures text { OnOk result (string_bytes text.new ≡ string_bytes text.old
-        ++ (spec.answer_to session.old Command.Next).text) }
-    ensures next { OnOk result (session.new ≡ (spec.answer_to session.old Command.Next).next) }
+        ++ (spec.answer_to session.old.state Command.Next).text) }
+    ensures next { OnOk result (session.new.state ≡ (spec.answer_to session.old.state Command.Next).next) }
 {
     match session.next(alloc) {
         Ok(()) => push_place(text, session.place()),
@@ -152,8 +152,8 @@ fn go_on(alloc: Global, session: &mut Session, text: &mut String) -> Result<(), 
 /// `back`
 fn go_back(alloc: Global, session: &mut Session, text: &mut String) -> Result<(), AllocError>
     ensures text { OnOk result (string_bytes text.new ≡ string_bytes text.old
-        ++ (spec.answer_to session.old Command.Back).text) }
-    ensures next { OnOk result (session.new ≡ (spec.answer_to session.old Command.Back).next) }
+        ++ (spec.answer_to session.old.state Command.Back).text) }
+    ensures next { OnOk result (session.new.state ≡ (spec.answer_to session.old.state Command.Back).next) }
 {
     match session.back(alloc) {
         Ok(()) => push_place(text, session.place()),
@@ -168,8 +168,8 @@ fn go_to_next_stop(
     text: &mut String,
 ) -> Result<(), AllocError>
     ensures text { OnOk result (string_bytes text.new ≡ string_bytes text.old
-        ++ (spec.answer_to session.old Command.Forward).text) }
-    ensures next { OnOk result (session.new ≡ (spec.answer_to session.old Command.Forward).next) }
+        ++ (spec.answer_to session.old.state Command.Forward).text) }
+    ensures next { OnOk result (session.new.state ≡ (spec.answer_to session.old.state Command.Forward).next) }
 {
     match session.forward(alloc) {
         Ok(()) => push_place(text, session.place()),
@@ -184,8 +184,8 @@ fn go_to_previous_stop(
     text: &mut String,
 ) -> Result<(), AllocError>
     ensures text { OnOk result (string_bytes text.new ≡ string_bytes text.old
-        ++ (spec.answer_to session.old Command.Reverse).text) }
-    ensures next { OnOk result (session.new ≡ (spec.answer_to session.old Command.Reverse).next) }
+        ++ (spec.answer_to session.old.state Command.Reverse).text) }
+    ensures next { OnOk result (session.new.state ≡ (spec.answer_to session.old.state Command.Reverse).next) }
 {
     match session.reverse(alloc) {
         Ok(()) => push_place(text, session.place()),
@@ -196,8 +196,8 @@ fn go_to_previous_stop(
 /// `break A`
 fn set_break(session: &mut Session, address: u64, text: &mut String) -> Result<(), AllocError>
     ensures text { OnOk result (string_bytes text.new ≡ string_bytes text.old
-        ++ (spec.answer_to session.old (Command.Break address)).text) }
-    ensures next { OnOk result (session.new ≡ (spec.answer_to session.old (Command.Break address)).next) }
+        ++ (spec.answer_to session.old.state (Command.Break address)).text) }
+    ensures next { OnOk result (session.new.state ≡ (spec.answer_to session.old.state (Command.Break address)).next) }
 {
     let Ok(pc) = u32::try_from(address) else {
         return push_refusal(text, Refusal::Address);
@@ -211,8 +211,8 @@ fn set_break(session: &mut Session, address: u64, text: &mut String) -> Result<(
 /// `watch A`
 fn set_watch(session: &mut Session, address: u64, text: &mut String) -> Result<(), AllocError>
     ensures text { OnOk result (string_bytes text.new ≡ string_bytes text.old
-        ++ (spec.answer_to session.old (Command.Watch address)).text) }
-    ensures next { OnOk result (session.new ≡ (spec.answer_to session.old (Command.Watch address)).next) }
+        ++ (spec.answer_to session.old.state (Command.Watch address)).text) }
+    ensures next { OnOk result (session.new.state ≡ (spec.answer_to session.old.state (Command.Watch address)).next) }
 {
     let Ok(address) = u32::try_from(address) else {
         return push_refusal(text, Refusal::Address);
@@ -231,7 +231,7 @@ fn push_register(
     number: u64,
 ) -> Result<(), AllocError>
     ensures { OnOk result (string_bytes text.new ≡ string_bytes text.old
-        ++ spec.register_text session.now hart number) }
+        ++ spec.register_text session.now.state hart number) }
 {
     if hart >= session.harts() as u64 || number >= 32 {
         return push_unknown(text);
@@ -249,7 +249,8 @@ fn push_vector(
     hart: u64,
     number: u64,
 ) -> Result<(), AllocError>
-    ensures { OnOk result (string_bytes text.new ≡ string_bytes text.old ++ spec.vector_text session.now hart number) }
+    ensures { OnOk result (string_bytes text.new ≡ string_bytes text.old
+        ++ spec.vector_text session.now.state hart number) }
 {
     if hart >= session.harts() as u64 || number >= 32 {
         return push_unknown(text);
@@ -263,7 +264,7 @@ fn push_vector(
 /// `word A`
 fn push_word(text: &mut String, session: &Session, address: u64) -> Result<(), AllocError>
     ensures { OnOk result (string_bytes text.new ≡ string_bytes text.old
-        ++ (spec.answer_to session.now (Command.Word address)).text) }
+        ++ (spec.answer_to session.now.state (Command.Word address)).text) }
 {
     let Ok(address) = u32::try_from(address) else {
         return push_refusal(text, Refusal::Address);
@@ -281,7 +282,7 @@ fn push_word(text: &mut String, session: &Session, address: u64) -> Result<(), A
 /// `status`
 #[tactic(auto, unfolding(crate::specs::Talk::session_text))]
 fn push_session(text: &mut String, session: &Session) -> Result<(), AllocError>
-    ensures { OnOk result (string_bytes text.new ≡ string_bytes text.old ++ spec.session_text session.now) }
+    ensures { OnOk result (string_bytes text.new ≡ string_bytes text.old ++ spec.session_text session.now.state) }
 {
     writeln!(text, "at {} of {}", session.place(), session.length())?;
     push_hart_lines(text, session)?;
@@ -290,8 +291,8 @@ fn push_session(text: &mut String, session: &Session) -> Result<(), AllocError>
 
 /// All harts, a line each.
 fn push_hart_lines(text: &mut String, session: &Session) -> Result<(), AllocError>
-    ensures { OnOk result (string_bytes text.new ≡ string_bytes text.old ++ spec.hart_lines (state_here session.now)
-        session.now.log.harts) }
+    ensures { OnOk result (string_bytes text.new ≡ string_bytes text.old
+        ++ spec.hart_lines (state_here session.now.state) session.now.state.log.harts) }
 {
     for hart in 0..session.harts() {
         push_hart_line(text, session, hart)?;
@@ -302,9 +303,9 @@ fn push_hart_lines(text: &mut String, session: &Session) -> Result<(), AllocErro
 /// `hart H STATUS pc 0xPPPPPPPP`
 #[tactic(auto, unfolding(crate::specs::Talk::hart_line))]
 fn push_hart_line(text: &mut String, session: &Session, hart: usize) -> Result<(), AllocError>
-    requires { hart < session.now.log.harts }
+    requires { hart < session.now.state.log.harts }
     ensures { OnOk result (string_bytes text.new ≡ string_bytes text.old
-        ++ spec.hart_line hart (hart_at (state_here session.now) hart)) }
+        ++ spec.hart_line hart (hart_at (state_here session.now.state) hart)) }
 {
     write!(text, "hart {hart} ")?;
     push_status(text, session.status(hart))?;

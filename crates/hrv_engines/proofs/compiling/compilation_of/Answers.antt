@@ -1,7 +1,6 @@
-use Rattle.std.proofs.Common.{◌++◌, ◌∙◌, ap, subst}
+use Rattle.std.proofs.Common.{◌++◌, ◌∙◌, ap}
 use Rattle.std.specs.Prelude.{map}
 use Rattle.std.specs.String.{string_bytes}
-use Rattle.loader.specs.Image.{IsImage}
 use Rattle.loader.specs.Spelling.{spelled}
 use Rattle.loader.specs.declared.formats.Format.TheVariants.{Hrv2}
 use Rattle.hrv_engines.specs.Compile.{IsCompilation, IsRefusedCompilation}
@@ -14,7 +13,7 @@ returns c =
     c.in_ok-pictures.pictures.items c.deref.result.now c.in_ok-image.image
     c.store.new.out.items c.in_ok-program.ensures.passed c.in_ok-program.ensures.means c.in_ok-program.ensures.rules c.in_ok-pictures.ensures.ok
     c.deref.ensures.value c.in_ok-image.ensures.judged
-    c.in_ok-image.ensures.is (subst IsImage c.image-2.view_is c.image-2.invariant) c.in_ok-image.ensures.correct c.in_ok-image.ensures.assigned
+    c.in_ok-image.ensures.is c.in_ok-image.ensures.rules c.in_ok-image.ensures.correct c.in_ok-image.ensures.assigned
     c.in_ok-image.ensures.runs
     (c.in_ok-store.ensures.ok ∙ ap (λ z. z ++ spelled Hrv2 c.in_ok-image.image) c.new-bytes.ensures.items)
 

@@ -1,4 +1,5 @@
 use Rattle.std.proofs.Common.{refl, subst}
+use Rattle.debugger.specs.Places.{CountedSession}
 use Rattle.hrv_engines.specs.Devices.{both, bytes_of, image_bytes_of, pieces_of, sink_of}
 use Rattle.hrv_engines.specs.TalkSoFar.{HoldsTalk}
 use Rattle.hrv_engines.proofs.TalkSteps.{files_refused, talk_held}
@@ -25,5 +26,5 @@ returns g c =
     let first = c.in_ok-image_bytes in
     let second = c.in_ok-log_bytes in
     talk_held (both image log) lines (g.C.Source.ended c.hold_talk.new.lines) out c.hold_talk.result (first.image_bytes.items, second.log_bytes.items)
-    c.in_ok-session.session (first.ensures.reads.0, second.ensures.0) (first.ensures.reads.1, second.ensures.1) c.in_ok-session.ensures.ok
-    (subst (λ session. HoldsTalk session lines (g.C.Source.ended c.hold_talk.new.lines) out c.hold_talk.result) c.new.ensures.session c.hold_talk.ensures)
+    c.in_ok-session.session.state (first.ensures.reads.0, second.ensures.0) (first.ensures.reads.1, second.ensures.1) c.in_ok-session.ensures.ok
+    (subst (λ (session : CountedSession). HoldsTalk session.state lines (g.C.Source.ended c.hold_talk.new.lines) out c.hold_talk.result) c.new.ensures.session c.hold_talk.ensures)

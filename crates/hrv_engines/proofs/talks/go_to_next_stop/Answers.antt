@@ -6,20 +6,20 @@ use Rattle.hrv_engines.proofs.talks.go_to_next_stop.Goals as goal
 
 pub returns-in-Ok-clause-text : goal.returns-in-Ok-clause-text
 returns-in-Ok-clause-text c =
-    went_text c.push_place.result c.args.session.now (next_stop c.args.session.now) c.forward.new.self.place (string_bytes c.args.text.now) (string_bytes c.push_place.new.text)
-    (next_found c.args.session.now c.forward.new.self.place c.in-Ok.ensures.ok) (rw c.place.ensures.value at c.push_place.ensures)
+    went_text c.push_place.result c.args.session.now.state (next_stop c.args.session.now.state) c.forward.new.self.state.place (string_bytes c.args.text.now) (string_bytes c.push_place.new.text)
+    (next_found c.args.session.now.state c.forward.new.self.state.place c.in-Ok.ensures.ok) (rw c.place.ensures.value at c.push_place.ensures)
 
 pub returns-in-Ok-clause-next : goal.returns-in-Ok-clause-next
 returns-in-Ok-clause-next c =
-    went_next c.push_place.result c.args.session.now c.forward.new.self (next_stop c.args.session.now)
-    (rw (next_found c.args.session.now c.forward.new.self.place c.in-Ok.ensures.ok) c.in-Ok.ensures.marks_stay)
+    went_next c.push_place.result c.args.session.now.state c.forward.new.self.state (next_stop c.args.session.now.state)
+    (rw (next_found c.args.session.now.state c.forward.new.self.state.place c.in-Ok.ensures.ok) c.in-Ok.ensures.marks_stay)
 
 pub returns-in-Err-clause-text : goal.returns-in-Err-clause-text
 returns-in-Err-clause-text c =
-    refused_text c.push_refusal.result c.in-Err.refusal (NoNextStop c.args.session.now) c.args.session.now (next_stop c.args.session.now) (string_bytes c.args.text.now) (string_bytes c.push_refusal.new.text)
-    (no_next_found c.args.session.now) c.in-Err.ensures.err c.push_refusal.ensures.known c.push_refusal.ensures.text
+    refused_text c.push_refusal.result c.in-Err.refusal (NoNextStop c.args.session.now.state) c.args.session.now.state (next_stop c.args.session.now.state) (string_bytes c.args.text.now) (string_bytes c.push_refusal.new.text)
+    (no_next_found c.args.session.now.state) c.in-Err.ensures.err c.push_refusal.ensures.known c.push_refusal.ensures.text
 
 pub returns-in-Err-clause-next : goal.returns-in-Err-clause-next
 returns-in-Err-clause-next c =
-    refused_next c.push_refusal.result c.in-Err.refusal (NoNextStop c.args.session.now) c.args.session.now c.forward.new.self (next_stop c.args.session.now)
-    (no_next_found c.args.session.now) c.in-Err.ensures.err c.push_refusal.ensures.known c.in-Err.ensures.unchanged
+    refused_next c.push_refusal.result c.in-Err.refusal (NoNextStop c.args.session.now.state) c.args.session.now.state c.forward.new.self.state (next_stop c.args.session.now.state)
+    (no_next_found c.args.session.now.state) c.in-Err.ensures.err c.push_refusal.ensures.known c.in-Err.ensures.unchanged

@@ -5,4 +5,4 @@ use Rattle.hrv_engines.specs.Talk.{hart_lines}
 use Rattle.hrv_engines.proofs.talks.push_hart_lines.Given as goal
 
 abbrev pub invariant-loop-hart : goal.invariant-loop-hart
-invariant-loop-hart l = string_bytes l.text ≡ string_bytes l.fn.text ++ hart_lines (state_here l.session) l.hart
+invariant-loop-hart l = string_bytes l.text ≡ string_bytes l.fn.text ++ hart_lines (state_here l.session.state) l.hart

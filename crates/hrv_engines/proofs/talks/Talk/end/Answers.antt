@@ -10,9 +10,9 @@ pub returns-in_ok-answer_line : goal.returns-in_ok-answer_line
 returns-in_ok-answer_line c =
     let some : c.args.self.now.unended.items ≢ [] = λ e. grind (arith, common_steps) in
     (rw c.deref.ensures.value at c.in_ok-answer_line.ensures.text)
-    ∙ ap (λ t. string_bytes c.args.text.now ++ t) (sym (last_talk c.args.self.now.session c.args.self.now.unended.items c.requires some))
+    ∙ ap (λ t. string_bytes c.args.text.now ++ t) (sym (last_talk c.args.self.now.session.state c.args.self.now.unended.items c.requires some))
 
 pub returns-else-not-is_empty : goal.returns-else-not-is_empty
 returns-else-not-is_empty c =
     let none : c.args.self.now.unended.items ≡ [] = grind (arith, common_steps) in
-    sym (ap (λ t. string_bytes c.args.text.now ++ t) (ap (talk c.args.self.now.session) none ∙ no_talk c.args.self.now.session) ∙ append-nil (string_bytes c.args.text.now))
+    sym (ap (λ t. string_bytes c.args.text.now ++ t) (ap (talk c.args.self.now.session.state) none ∙ no_talk c.args.self.now.session.state) ∙ append-nil (string_bytes c.args.text.now))
