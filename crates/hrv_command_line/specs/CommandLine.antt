@@ -182,13 +182,21 @@ log_app = with_subcommand (with_subcommand bare_app replay_app.top) debug_app.to
 abbrev pub telling_app : App
 telling_app = with_subcommand log_app blame_app.top
 
+-- with those that assemble and list
+abbrev pub listing_app : App
+listing_app = with_subcommand (with_subcommand telling_app asm_app.top) dis_app.top
+
 -- with those that take an assembly text or an image alone
 abbrev pub text_app : App
-text_app = with_subcommand (with_subcommand (with_subcommand telling_app asm_app.top) dis_app.top) renew_app.top
+text_app = with_subcommand listing_app renew_app.top
+
+-- with those that draw and compile
+abbrev pub compiling_app : App
+compiling_app = with_subcommand (with_subcommand text_app picture_app.top) compile_app.top
 
 -- with those that take an algorithm
 abbrev pub algorithm_app : App
-algorithm_app = with_subcommand (with_subcommand (with_subcommand text_app picture_app.top) compile_app.top) map_app.top
+algorithm_app = with_subcommand compiling_app map_app.top
 
 -- with the one that runs
 abbrev pub running_app : App

@@ -1,71 +1,123 @@
 //! The program's command, with its subcommands and their arguments.
 ghost use Rattle.std.specs.Prelude.{◌≡◌, codes, false, IfOk};
+ghost use Rattle.clap.specs.Built.{AddsSubcommand};
 ghost use Rattle.clap.specs.Words.{new_rule, rule_of};
-ghost use Rattle.hrv_command_line.specs.CommandLine.{Makes, algorithm_app, asm_app, blame_app, blame_files_app};
-ghost use Rattle.hrv_command_line.specs.CommandLine.{blame_pixel_app, compile_app, compile_texts_app, debug_app};
-ghost use Rattle.hrv_command_line.specs.CommandLine.{dis_app, explain_app, flag_rule, hrv_app, log_app, map_app};
-ghost use Rattle.hrv_command_line.specs.CommandLine.{most_harts, most_turns, number_rule, picture_app, renew_app};
-ghost use Rattle.hrv_command_line.specs.CommandLine.{replay_app, required_rule, rest_rule, run_app, run_files_app};
-ghost use Rattle.hrv_command_line.specs.CommandLine.{run_numbers_app, running_app, telling_app, text_app, version_app};
-ghost use Rattle.hrv_command_line.specs.CommandLine.{word_rule};
+ghost use Rattle.hrv_command_line.specs.CommandLine.{Makes, algorithm_app, asm_app, bare_app, blame_app, listing_app};
+ghost use Rattle.hrv_command_line.specs.CommandLine.{blame_files_app, blame_pixel_app, compile_app, compiling_app};
+ghost use Rattle.hrv_command_line.specs.CommandLine.{compile_texts_app, debug_app, dis_app, explain_app, flag_rule};
+ghost use Rattle.hrv_command_line.specs.CommandLine.{hrv_app, log_app, map_app, most_harts, most_turns, number_rule};
+ghost use Rattle.hrv_command_line.specs.CommandLine.{picture_app, renew_app, replay_app, required_rule, rest_rule};
+ghost use Rattle.hrv_command_line.specs.CommandLine.{run_app, run_files_app, run_numbers_app, running_app};
+ghost use Rattle.hrv_command_line.specs.CommandLine.{telling_app, text_app, version_app, word_rule};
 
 use clap::{Arg, ArgAction, Command};
 use std::alloc::{AllocError, Global};
+
+/// A command to which subcommands are added.
+struct Grown<'a> {
+    command: Command<'a>,
+}
+
+/// Written out, so that a check sees a call wherever one is dropped, and not the drops of its parts.
+impl<'a> Drop for Grown<'a> {
+    fn drop(self) {
+        let Grown { command } = self;
+        drop(command);
+    }
+}
+
+impl<'a> Grown<'a> {
+    /// With one subcommand more.
+    fn with(self, subcommand: Command<'a>) -> Result<Grown<'a>, AllocError>
+        ensures { IfOk result (λ made. AddsSubcommand self.entry.command subcommand.entry made.command) }
+    {
+        let Grown { command } = self;
+        let command = command.subcommand(subcommand)?;
+        Ok(Grown { command })
+    }
+
+    /// The command.
+    fn into_command(self) -> Command<'a>
+        ensures { result ≡ self.entry.command }
+    {
+        let Grown { command } = self;
+        command
+    }
+}
 
 /// The program's command.
 pub(crate) fn program<'a>(alloc: Global) -> Result<Command<'a>, AllocError>
     ensures { IfOk result (Makes hrv_app) }
 {
-    running_program(alloc)?
-        .subcommand(explain_command(alloc)?)?
-        .subcommand(version_command(alloc))
+    let told = running_program(alloc)?.with(explain_command(alloc)?)?;
+    told.into_command().subcommand(version_command(alloc))
 }
 
 // The program's command with the subcommands that take files.
-fn running_program<'a>(alloc: Global) -> Result<Command<'a>, AllocError>
-    ensures { IfOk result (Makes running_app) }
+fn running_program<'a>(alloc: Global) -> Result<Grown<'a>, AllocError>
+    ensures { IfOk result (λ made. Makes running_app made.command) }
 {
-    algorithm_program(alloc)?.subcommand(run_command(alloc)?)
+    algorithm_program(alloc)?.with(run_command(alloc)?)
 }
 
 // The program's command with the subcommands that have no option.
-fn algorithm_program<'a>(alloc: Global) -> Result<Command<'a>, AllocError>
-    ensures { IfOk result (Makes algorithm_app) }
+fn algorithm_program<'a>(alloc: Global) -> Result<Grown<'a>, AllocError>
+    ensures { IfOk result (λ made. Makes algorithm_app made.command) }
+{
+    compiling_program(alloc)?.with(map_command(alloc)?)
+}
+
+// The program's command with the subcommands that draw and compile.
+fn compiling_program<'a>(alloc: Global) -> Result<Grown<'a>, AllocError>
+    ensures { IfOk result (λ made. Makes compiling_app made.command) }
 {
     text_program(alloc)?
-        .subcommand(picture_command(alloc)?)?
-        .subcommand(compile_command(alloc)?)?
-        .subcommand(map_command(alloc)?)
+        .with(picture_command(alloc)?)?
+        .with(compile_command(alloc)?)
 }
 
 // The program's command with the subcommands that take a log, an assembly text or an image alone.
-fn text_program<'a>(alloc: Global) -> Result<Command<'a>, AllocError>
-    ensures { IfOk result (Makes text_app) }
+fn text_program<'a>(alloc: Global) -> Result<Grown<'a>, AllocError>
+    ensures { IfOk result (λ made. Makes text_app made.command) }
+{
+    listing_program(alloc)?.with(renew_command(alloc)?)
+}
+
+// The program's command with the subcommands that take a log, and those that assemble and list.
+fn listing_program<'a>(alloc: Global) -> Result<Grown<'a>, AllocError>
+    ensures { IfOk result (λ made. Makes listing_app made.command) }
 {
     telling_program(alloc)?
-        .subcommand(asm_command(alloc)?)?
-        .subcommand(dis_command(alloc)?)?
-        .subcommand(renew_command(alloc)?)
+        .with(asm_command(alloc)?)?
+        .with(dis_command(alloc)?)
 }
 
 // The program's command with the subcommands that take a log.
-fn telling_program<'a>(alloc: Global) -> Result<Command<'a>, AllocError>
-    ensures { IfOk result (Makes telling_app) }
+fn telling_program<'a>(alloc: Global) -> Result<Grown<'a>, AllocError>
+    ensures { IfOk result (λ made. Makes telling_app made.command) }
 {
-    log_program(alloc)?.subcommand(blame_command(alloc)?)
+    log_program(alloc)?.with(blame_command(alloc)?)
 }
 
 // The program's command with the subcommands that replay a log.
-fn log_program<'a>(alloc: Global) -> Result<Command<'a>, AllocError>
-    ensures { IfOk result (Makes log_app) }
+fn log_program<'a>(alloc: Global) -> Result<Grown<'a>, AllocError>
+    ensures { IfOk result (λ made. Makes log_app made.command) }
 {
-    Command::new(alloc, "hrv")
+    bare_program(alloc)?
+        .with(replay_command(alloc)?)?
+        .with(debug_command(alloc)?)
+}
+
+// The program's command without subcommands.
+fn bare_program<'a>(alloc: Global) -> Result<Grown<'a>, AllocError>
+    ensures { IfOk result (λ made. Makes bare_app made.command) }
+{
+    let command = Command::new(alloc, "hrv")
         .about("Runs programs for several RISC-V harts over one memory")
         .bin_name("hrv")?
         .no_binary_name(true)
-        .subcommand_required(true)
-        .subcommand(replay_command(alloc)?)?
-        .subcommand(debug_command(alloc)?)
+        .subcommand_required(true);
+    Ok(Grown { command })
 }
 
 // `replay IMAGE LOG`
