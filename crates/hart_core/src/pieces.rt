@@ -21,6 +21,14 @@ use vector_unit::{Spacing, VectorState};
 /// Addresses from which on the greatest group may reach the end of all addresses.
 const LAST_ADDRESSES: u32 = 0xffff_ff00;
 
+/// A group of registers as elements of a width.
+#[derive(Clone, Copy)]
+pub(crate) struct Group {
+    pub width: ElementWidth,
+    /// The first of its registers.
+    pub v: VReg,
+}
+
 /// The number of a width at an aligned address of text or data.
 #[inline(always)]
 fn read_covered<M: Bytes>(width: ElementWidth, memory: &M, address: u32) -> u32
@@ -92,49 +100,39 @@ impl Hart {
         self.put_element(width, vd, index, number);
     }
 
-    /// Loads all elements of a group, of a width, which lie one behind the other in data. Where they are four, nothing
-    /// goes round, so that where they lie is known at each.
+    /// Loads all elements of a group, which lie one behind the other in data. Where they are four, nothing goes round,
+    /// so that where they lie is known at each, and the group needs no place in memory.
     #[inline(always)]
-    pub(crate) fn load_group<M: Bytes>(
-        &mut self,
-        memory: &M,
-        width: ElementWidth,
-        vd: VReg,
-        address: u32,
-    )
+    pub(crate) fn load_group<M: Bytes>(&mut self, memory: &M, group: &Group, address: u32)
         requires configured { has_vill (vectors_of self.old) ≡ false }
-        requires lies { LiesInData (length (M.memory memory.now)) width address (count (vectors_of self.old)) }
-        ensures { self.new ≡ with_vectors self.old (filled_from 0 (vectors_of self.old) (bits_of width) vd
-            (replicate (count (vectors_of self.old)) true)
+        requires lies { LiesInData (length (M.memory memory.now)) group.now.width address
+            (count (vectors_of self.old)) }
+        ensures { self.new ≡ with_vectors self.old (filled_from 0 (vectors_of self.old) (bits_of group.now.width)
+            group.now.v (replicate (count (vectors_of self.old)) true)
             (map (number_at (M.text memory.now) (M.memory memory.now))
-            (accesses_at width (addresses_from width address (count (vectors_of self.old)))))) }
+            (accesses_at group.now.width (addresses_from group.now.width address (count (vectors_of self.old)))))) }
     {
         let count = self.vectors().count();
         if count == 4 {
-            self.load_quad(memory, width, vd, address, 0);
+            self.load_quad(memory, group, address, 0);
         } else {
-            self.load_piece(memory, width, vd, address, 0, count / 4);
+            let group = *group;
+            self.load_piece(memory, &group, address, 0, count / 4);
         }
     }
 
-    /// Loads four elements of a width, from one whose number is a multiple of four on, which lie one behind the other
-    /// in data. They stand in one register at each width.
+    /// Loads four elements, from one whose number is a multiple of four on, which lie one behind the other in data.
+    /// They stand in one register at each width.
     #[inline(always)]
-    fn load_quad<M: Bytes>(
-        &mut self,
-        memory: &M,
-        width: ElementWidth,
-        vd: VReg,
-        address: u32,
-        quad: u32,
-    )
+    fn load_quad<M: Bytes>(&mut self, memory: &M, group: &Group, address: u32, quad: u32)
         requires few { quad < 16 }
-        requires lies { LiesInData (length (M.memory memory.now)) width address 4 }
-        ensures { self.new ≡ with_vectors self.old (filled_from (4 * quad) (vectors_of self.old) (bits_of width) vd
-            (replicate 4 true)
+        requires lies { LiesInData (length (M.memory memory.now)) group.now.width address 4 }
+        ensures { self.new ≡ with_vectors self.old (filled_from (4 * quad) (vectors_of self.old)
+            (bits_of group.now.width) group.now.v (replicate 4 true)
             (map (number_at (M.text memory.now) (M.memory memory.now))
-            (accesses_at width (addresses_from width address 4)))) }
+            (accesses_at group.now.width (addresses_from group.now.width address 4)))) }
     {
+        let Group { width, v: vd } = *group;
         let bytes = bytes_of(width);
         let second = address + bytes;
         let third = second + bytes;
@@ -150,23 +148,22 @@ impl Hart {
     fn load_piece<M: Bytes>(
         &mut self,
         memory: &M,
-        width: ElementWidth,
-        vd: VReg,
+        group: &Group,
         address: u32,
         quad: u32,
         others: u32,
     )
         requires few { 4 * (quad + others) ≤ 64 }
-        requires lies { LiesInData (length (M.memory memory.now)) width address (4 * others) }
-        ensures { self.new ≡ with_vectors self.old (filled_from (4 * quad) (vectors_of self.old) (bits_of width) vd
-            (replicate (4 * others) true)
+        requires lies { LiesInData (length (M.memory memory.now)) group.now.width address (4 * others) }
+        ensures { self.new ≡ with_vectors self.old (filled_from (4 * quad) (vectors_of self.old)
+            (bits_of group.now.width) group.now.v (replicate (4 * others) true)
             (map (number_at (M.text memory.now) (M.memory memory.now))
-            (accesses_at width (addresses_from width address (4 * others))))) }
+            (accesses_at group.now.width (addresses_from group.now.width address (4 * others))))) }
     {
         if others > 0 {
-            self.load_quad(memory, width, vd, address, quad);
-            let next = address + 4 * bytes_of(width);
-            self.load_piece(memory, width, vd, next, quad + 1, others - 1);
+            self.load_quad(memory, group, address, quad);
+            let next = address + 4 * bytes_of(group.width);
+            self.load_piece(memory, group, next, quad + 1, others - 1);
         }
     }
 }
@@ -192,51 +189,48 @@ fn store_one<M: Bytes>(
     write_covered(width, memory, address, number);
 }
 
-/// Stores all elements of a group, of a width, which are to lie one behind the other in data. Where they are four,
-/// nothing goes round.
+/// Stores all elements of a group, which are to lie one behind the other in data. Where they are four, nothing goes
+/// round.
 #[inline(always)]
 pub(crate) fn store_group<M: Bytes>(
     memory: &mut M,
     state: &VectorState,
-    width: ElementWidth,
-    vs3: VReg,
+    group: &Group,
     address: u32,
 )
     requires configured { has_vill state.now ≡ false }
-    requires lies { LiesInData (length (M.memory memory.old)) width address (count state.now) }
+    requires lies { LiesInData (length (M.memory memory.old)) group.now.width address (count state.now) }
     ensures put { M.memory memory.new
-        ≡ put (M.memory memory.old) (touched (accesses_at width (addresses_from width address (count state.now))))
-        (spread (accesses_at width (addresses_from width address (count state.now)))
-        (map (element_from state.now (bits_of width) vs3) (range_with_len 0 (count state.now)))) }
+        ≡ put (M.memory memory.old)
+        (touched (accesses_at group.now.width (addresses_from group.now.width address (count state.now))))
+        (spread (accesses_at group.now.width (addresses_from group.now.width address (count state.now)))
+        (map (element_from state.now (bits_of group.now.width) group.now.v) (range_with_len 0 (count state.now)))) }
     ensures text { M.text memory.new ≡ M.text memory.old }
 {
     let count = state.count();
     if count == 4 {
-        store_quad(memory, state, width, vs3, address, 0);
+        store_quad(memory, state, group, address, 0);
     } else {
-        store_piece(memory, state, width, vs3, address, 0, count / 4);
+        let group = *group;
+        store_piece(memory, state, &group, address, 0, count / 4);
     }
 }
 
-/// Stores four elements of a width, from one whose number is a multiple of four on, which are to lie one behind the
-/// other in data.
+/// Stores four elements, from one whose number is a multiple of four on, which are to lie one behind the other in
+/// data.
 #[inline(always)]
-fn store_quad<M: Bytes>(
-    memory: &mut M,
-    state: &VectorState,
-    width: ElementWidth,
-    vs3: VReg,
-    address: u32,
-    quad: u32,
-)
+fn store_quad<M: Bytes>(memory: &mut M, state: &VectorState, group: &Group, address: u32, quad: u32)
     requires few { quad < 16 }
-    requires lies { LiesInData (length (M.memory memory.old)) width address 4 }
+    requires lies { LiesInData (length (M.memory memory.old)) group.now.width address 4 }
     ensures put { M.memory memory.new
-        ≡ put (M.memory memory.old) (touched (accesses_at width (addresses_from width address 4)))
-        (spread (accesses_at width (addresses_from width address 4)) (map (element_from state.now (bits_of width) vs3)
+        ≡ put (M.memory memory.old)
+        (touched (accesses_at group.now.width (addresses_from group.now.width address 4)))
+        (spread (accesses_at group.now.width (addresses_from group.now.width address 4))
+        (map (element_from state.now (bits_of group.now.width) group.now.v)
         (range_with_len (4 * quad) 4))) }
     ensures text { M.text memory.new ≡ M.text memory.old }
 {
+    let Group { width, v: vs3 } = *group;
     let bytes = bytes_of(width);
     let second = address + bytes;
     let third = second + bytes;
@@ -252,23 +246,23 @@ fn store_quad<M: Bytes>(
 fn store_piece<M: Bytes>(
     memory: &mut M,
     state: &VectorState,
-    width: ElementWidth,
-    vs3: VReg,
+    group: &Group,
     address: u32,
     quad: u32,
     others: u32,
 )
     requires few { 4 * (quad + others) ≤ 64 }
-    requires lies { LiesInData (length (M.memory memory.old)) width address (4 * others) }
+    requires lies { LiesInData (length (M.memory memory.old)) group.now.width address (4 * others) }
     ensures put { M.memory memory.new
-        ≡ put (M.memory memory.old) (touched (accesses_at width (addresses_from width address (4 * others))))
-        (spread (accesses_at width (addresses_from width address (4 * others)))
-        (map (element_from state.now (bits_of width) vs3) (range_with_len (4 * quad) (4 * others)))) }
+        ≡ put (M.memory memory.old)
+        (touched (accesses_at group.now.width (addresses_from group.now.width address (4 * others))))
+        (spread (accesses_at group.now.width (addresses_from group.now.width address (4 * others)))
+        (map (element_from state.now (bits_of group.now.width) group.now.v) (range_with_len (4 * quad) (4 * others)))) }
     ensures text { M.text memory.new ≡ M.text memory.old }
 {
     if others > 0 {
-        store_quad(memory, state, width, vs3, address, quad);
-        let next = address + 4 * bytes_of(width);
-        store_piece(memory, state, width, vs3, next, quad + 1, others - 1);
+        store_quad(memory, state, group, address, quad);
+        let next = address + 4 * bytes_of(group.width);
+        store_piece(memory, state, group, next, quad + 1, others - 1);
     }
 }

@@ -7,16 +7,30 @@ ghost use Rattle.memory.specs.Access.{first_fault, number_at, Reads, Writes, spr
 ghost use Rattle.vector_unit.specs.VectorState.{has_vill, is_illegal_configuration};
 ghost use Rattle.vector_unit.specs.Vector.{asked_of, is_own, is_refused, vector_after};
 ghost use Rattle.vector_unit.specs.Accesses.{active_numbers, addresses_by, loaded, spacing_of};
-ghost use Rattle.hart_core.specs.VectorRows.{accesses_at, computed_by, configured_by};
+ghost use Rattle.hart_core.specs.VectorRows.{computed_by, configured_by};
+ghost use Rattle.hart_core.specs.inner.Pieces.{accesses_of};
 ghost use Rattle.hart_core.specs.HartState.{register, advanced, vectors_of, with_vectors};
 ghost use Rattle.hart_core.specs.Turn.{fault, IsDone};
 
 use crate::element_accesses::{check_stores, read_numbers, write_numbers};
 use crate::harts::Hart;
-use crate::pieces::{is_piece, store_group};
+use crate::pieces::{Group, is_piece, store_group};
 use memory::Bytes;
 use rv_insn::{Addressing, ElementWidth, Outcome, Reg, Trap, VReg, VectorInsn};
 use vector_unit::{Asked, Numbers, Spacing};
+
+/// A load or store of vector registers.
+#[derive(Clone, Copy)]
+struct VectorAccess {
+    /// The registers that are loaded or stored.
+    group: Group,
+    /// Whether all elements below the length are active, whatever the mask.
+    vm: bool,
+    /// The register that has the address from which on elements lie.
+    rs1: Reg,
+    /// How they lie.
+    spacing: Spacing,
+}
 
 impl Hart {
     /// Executes a vector instruction, or says which trap it makes and changes nothing.
@@ -55,8 +69,8 @@ impl Hart {
                 vm,
             } => {
                 self.check_legal(insn)?;
-                let spacing = self.spacing(width, addressing);
-                self.load_vector(memory, width, vd, vm, rs1, spacing)
+                let access = self.access(Group { width, v: vd }, vm, rs1, addressing);
+                self.load_vector(memory, &access)
             }
             VectorInsn::StoreElements {
                 width,
@@ -66,8 +80,8 @@ impl Hart {
                 vm,
             } => {
                 self.check_legal(insn)?;
-                let spacing = self.spacing(width, addressing);
-                self.store_vector(memory, width, vs3, vm, rs1, spacing)
+                let access = self.access(Group { width, v: vs3 }, vm, rs1, addressing);
+                self.store_vector(memory, &access)
             }
             _ => self.execute_on_registers(insn),
         }
@@ -147,6 +161,22 @@ impl Hart {
         }
     }
 
+    /// A load or store of a group, from the address in `rs1` on.
+    #[inline(always)]
+    fn access(&self, group: Group, vm: bool, rs1: Reg, addressing: Addressing) -> VectorAccess
+        ensures group { result.group ≡ group }
+        ensures vm { result.vm ≡ vm }
+        ensures rs1 { result.rs1 ≡ rs1 }
+        ensures spacing { result.spacing ≡ spacing_of group.width addressing (register self.now) }
+    {
+        VectorAccess {
+            group,
+            vm,
+            rs1,
+            spacing: self.spacing(group.width, addressing),
+        }
+    }
+
     /// The addresses of the active elements of an access from the address in `rs1` on.
     #[inline(always)]
     pub fn addresses(&self, spacing: Spacing, vm: bool, rs1: Reg) -> Numbers
@@ -158,60 +188,55 @@ impl Hart {
 
     /// Loads the active elements of a register, or says which trap the first that can't be loaded makes.
     #[inline(always)]
-    fn load_vector<M: Bytes>(
-        &mut self,
-        memory: &M,
-        width: ElementWidth,
-        vd: VReg,
-        vm: bool,
-        rs1: Reg,
-        spacing: Spacing,
-    ) -> Result<Outcome, Trap>
+    fn load_vector<M: Bytes>(&mut self, memory: &M, access: &VectorAccess) -> Result<Outcome, Trap>
         requires { has_vill (vectors_of self.old) ≡ false }
         ensures fits { OnOk result (first_fault (length (M.text memory.now)) (length (M.memory memory.now)) Reads
-            (accesses_at width (addresses_by (vectors_of self.old) spacing vm (register self.old rs1))) ≡ None) }
-        ensures hart { OnOk result (self.new ≡ advanced (with_vectors self.old (loaded (vectors_of self.old) width vd vm
-            (map (number_at (M.text memory.now) (M.memory memory.now))
-            (accesses_at width (addresses_by (vectors_of self.old) spacing vm (register self.old rs1))))))) }
+            (accesses_of self.old access.now) ≡ None) }
+        ensures hart { OnOk result (self.new ≡ advanced (with_vectors self.old (loaded (vectors_of self.old)
+            access.now.group.width access.now.group.v access.now.vm
+            (map (number_at (M.text memory.now) (M.memory memory.now)) (accesses_of self.old access.now))))) }
         ensures outcome { IfOk result (λ outcome. outcome ≡ Outcome.Stepped) }
         ensures err { IfErr result (λ trap. first_fault (length (M.text memory.now)) (length (M.memory memory.now))
-            Reads (accesses_at width (addresses_by (vectors_of self.old) spacing vm (register self.old rs1)))
-            ≡ Some trap) }
+            Reads (accesses_of self.old access.now) ≡ Some trap) }
         ensures unchanged { OnErr result (self.new ≡ self.old) }
     {
-        let base = self.register(rs1);
-        let spacing = &spacing;
-        if is_piece(memory, self.vectors(), width, *spacing, vm, base) {
-            self.load_group(memory, width, vd, base);
+        let base = self.register(access.rs1);
+        let group = &access.group;
+        if is_piece(
+            memory,
+            self.vectors(),
+            group.width,
+            access.spacing,
+            access.vm,
+            base,
+        ) {
+            self.load_group(memory, group, base);
             return Ok(self.advance());
         }
-        self.load_each(memory, width, vd, vm, rs1, *spacing)
+        self.load_each(memory, *access)
     }
 
     /// The same, each element judged on its own. It is a function of its own, so that accesses in one piece need no
     /// room for addresses.
     #[inline(never)]
-    fn load_each<M: Bytes>(
-        &mut self,
-        memory: &M,
-        width: ElementWidth,
-        vd: VReg,
-        vm: bool,
-        rs1: Reg,
-        spacing: Spacing,
-    ) -> Result<Outcome, Trap>
+    fn load_each<M: Bytes>(&mut self, memory: &M, access: VectorAccess) -> Result<Outcome, Trap>
         requires { has_vill (vectors_of self.old) ≡ false }
         ensures fits { OnOk result (first_fault (length (M.text memory.now)) (length (M.memory memory.now)) Reads
-            (accesses_at width (addresses_by (vectors_of self.old) spacing vm (register self.old rs1))) ≡ None) }
-        ensures hart { OnOk result (self.new ≡ advanced (with_vectors self.old (loaded (vectors_of self.old) width vd vm
-            (map (number_at (M.text memory.now) (M.memory memory.now))
-            (accesses_at width (addresses_by (vectors_of self.old) spacing vm (register self.old rs1))))))) }
+            (accesses_of self.old access) ≡ None) }
+        ensures hart { OnOk result (self.new ≡ advanced (with_vectors self.old (loaded (vectors_of self.old)
+            access.group.width access.group.v access.vm
+            (map (number_at (M.text memory.now) (M.memory memory.now)) (accesses_of self.old access))))) }
         ensures outcome { IfOk result (λ outcome. outcome ≡ Outcome.Stepped) }
         ensures err { IfErr result (λ trap. first_fault (length (M.text memory.now)) (length (M.memory memory.now))
-            Reads (accesses_at width (addresses_by (vectors_of self.old) spacing vm (register self.old rs1)))
-            ≡ Some trap) }
+            Reads (accesses_of self.old access) ≡ Some trap) }
         ensures unchanged { OnErr result (self.new ≡ self.old) }
     {
+        let VectorAccess {
+            group: Group { width, v: vd },
+            vm,
+            rs1,
+            spacing,
+        } = access;
         let addresses = self.addresses(spacing, vm, rs1);
         let numbers = read_numbers(width, memory, addresses.as_slice())?;
         self.load_elements(width, vd, vm, numbers.as_slice());
@@ -224,36 +249,37 @@ impl Hart {
     fn store_vector<M: Bytes>(
         &mut self,
         memory: &mut M,
-        width: ElementWidth,
-        vs3: VReg,
-        vm: bool,
-        rs1: Reg,
-        spacing: Spacing,
+        access: &VectorAccess,
     ) -> Result<Outcome, Trap>
         requires { has_vill (vectors_of self.old) ≡ false }
         ensures fits { OnOk result (first_fault (length (M.text memory.old)) (length (M.memory memory.old)) Writes
-            (accesses_at width (addresses_by (vectors_of self.old) spacing vm (register self.old rs1))) ≡ None) }
+            (accesses_of self.old access.now) ≡ None) }
         ensures hart { OnOk result (self.new ≡ advanced self.old) }
         ensures put { OnOk result (M.memory memory.new
-            ≡ put (M.memory memory.old) (touched
-            (accesses_at width (addresses_by (vectors_of self.old) spacing vm (register self.old rs1))))
-            (spread (accesses_at width (addresses_by (vectors_of self.old) spacing vm (register self.old rs1)))
-            (active_numbers (vectors_of self.old) width vs3 vm))) }
+            ≡ put (M.memory memory.old) (touched (accesses_of self.old access.now))
+            (spread (accesses_of self.old access.now)
+            (active_numbers (vectors_of self.old) access.now.group.width access.now.group.v access.now.vm))) }
         ensures outcome { IfOk result (λ outcome. outcome ≡ Outcome.Stepped) }
         ensures err { IfErr result (λ trap. first_fault (length (M.text memory.old)) (length (M.memory memory.old))
-            Writes (accesses_at width (addresses_by (vectors_of self.old) spacing vm (register self.old rs1)))
-            ≡ Some trap) }
+            Writes (accesses_of self.old access.now) ≡ Some trap) }
         ensures unchanged { OnErr result (self.new ≡ self.old) }
         ensures memory { OnErr result (M.memory memory.new ≡ M.memory memory.old) }
         ensures text { M.text memory.new ≡ M.text memory.old }
     {
-        let base = self.register(rs1);
-        let spacing = &spacing;
-        if is_piece(memory, self.vectors(), width, *spacing, vm, base) {
-            store_group(memory, self.vectors(), width, vs3, base);
+        let base = self.register(access.rs1);
+        let group = &access.group;
+        if is_piece(
+            memory,
+            self.vectors(),
+            group.width,
+            access.spacing,
+            access.vm,
+            base,
+        ) {
+            store_group(memory, self.vectors(), group, base);
             return Ok(self.advance());
         }
-        self.store_each(memory, width, vs3, vm, rs1, *spacing)
+        self.store_each(memory, *access)
     }
 
     /// The same, each element judged on its own.
@@ -261,29 +287,29 @@ impl Hart {
     fn store_each<M: Bytes>(
         &mut self,
         memory: &mut M,
-        width: ElementWidth,
-        vs3: VReg,
-        vm: bool,
-        rs1: Reg,
-        spacing: Spacing,
+        access: VectorAccess,
     ) -> Result<Outcome, Trap>
         requires { has_vill (vectors_of self.old) ≡ false }
         ensures fits { OnOk result (first_fault (length (M.text memory.old)) (length (M.memory memory.old)) Writes
-            (accesses_at width (addresses_by (vectors_of self.old) spacing vm (register self.old rs1))) ≡ None) }
+            (accesses_of self.old access) ≡ None) }
         ensures hart { OnOk result (self.new ≡ advanced self.old) }
         ensures put { OnOk result (M.memory memory.new
-            ≡ put (M.memory memory.old) (touched
-            (accesses_at width (addresses_by (vectors_of self.old) spacing vm (register self.old rs1))))
-            (spread (accesses_at width (addresses_by (vectors_of self.old) spacing vm (register self.old rs1)))
-            (active_numbers (vectors_of self.old) width vs3 vm))) }
+            ≡ put (M.memory memory.old) (touched (accesses_of self.old access))
+            (spread (accesses_of self.old access)
+            (active_numbers (vectors_of self.old) access.group.width access.group.v access.vm))) }
         ensures outcome { IfOk result (λ outcome. outcome ≡ Outcome.Stepped) }
         ensures err { IfErr result (λ trap. first_fault (length (M.text memory.old)) (length (M.memory memory.old))
-            Writes (accesses_at width (addresses_by (vectors_of self.old) spacing vm (register self.old rs1)))
-            ≡ Some trap) }
+            Writes (accesses_of self.old access) ≡ Some trap) }
         ensures unchanged { OnErr result (self.new ≡ self.old) }
         ensures memory { OnErr result (M.memory memory.new ≡ M.memory memory.old) }
         ensures text { M.text memory.new ≡ M.text memory.old }
     {
+        let VectorAccess {
+            group: Group { width, v: vs3 },
+            vm,
+            rs1,
+            spacing,
+        } = access;
         let addresses = self.addresses(spacing, vm, rs1);
         check_stores(width, memory, addresses.as_slice())?;
         let numbers = self.vectors().active_numbers(width, vs3, vm);

@@ -152,23 +152,42 @@ pub fn digits_5(value: i32) -> u32
     }
 }
 
+/// What stands in a word of the vector formats beside its opcode.
+#[derive(Clone, Copy)]
+pub struct VectorFields {
+    pub vd: u32,
+    pub funct3: u32,
+    pub vs1: u32,
+    pub vs2: u32,
+    pub vm: bool,
+    pub funct6: u32,
+}
+
 /// The vector formats: the R format with the mask bit below funct6. In loads and stores funct6 has the
 /// addressing mode.
-pub fn pack_v(opcode: u32, vd: u32, funct3: u32, vs1: u32, vs2: u32, vm: bool, funct6: u32) -> u32
+pub fn pack_v(opcode: u32, fields: VectorFields) -> u32
     requires opcode { opcode < 2 ^ 7 }
-    requires vd { vd < 2 ^ 5 }
-    requires funct3 { funct3 < 2 ^ 3 }
-    requires vs1 { vs1 < 2 ^ 5 }
-    requires vs2 { vs2 < 2 ^ 5 }
-    requires funct6 { funct6 < 2 ^ 6 }
+    requires vd { fields.vd < 2 ^ 5 }
+    requires funct3 { fields.funct3 < 2 ^ 3 }
+    requires vs1 { fields.vs1 < 2 ^ 5 }
+    requires vs2 { fields.vs2 < 2 ^ 5 }
+    requires funct6 { fields.funct6 < 2 ^ 6 }
     ensures opcode { part result 0 7 ≡ opcode }
-    ensures vd { vd ≡ part result 7 5 }
-    ensures funct3 { part result 12 3 ≡ funct3 }
-    ensures vs1 { vs1 ≡ part result 15 5 }
-    ensures vs2 { vs2 ≡ part result 20 5 }
-    ensures vm { bit_of vm ≡ part result 25 1 }
-    ensures funct6 { part result 26 6 ≡ funct6 }
+    ensures vd { fields.vd ≡ part result 7 5 }
+    ensures funct3 { part result 12 3 ≡ fields.funct3 }
+    ensures vs1 { fields.vs1 ≡ part result 15 5 }
+    ensures vs2 { fields.vs2 ≡ part result 20 5 }
+    ensures vm { bit_of fields.vm ≡ part result 25 1 }
+    ensures funct6 { part result 26 6 ≡ fields.funct6 }
 {
+    let VectorFields {
+        vd,
+        funct3,
+        vs1,
+        vs2,
+        vm,
+        funct6,
+    } = fields;
     let mask = if vm { 1 } else { 0 };
     pack_r(opcode, vd, funct3, vs1, vs2, funct6 << 1 | mask)
 }

@@ -11,7 +11,7 @@ ghost use Rattle.rv_encoding.specs.Formats.{Stands, vector_shape_of, registers_s
 ghost use Rattle.rv_encoding.specs.Formats.{offset_shape, access_shape, operands_in};
 
 use crate::opcodes;
-use crate::packing::{digits_5, pack_i, pack_r, pack_v};
+use crate::packing::{VectorFields, digits_5, pack_i, pack_r, pack_v};
 use crate::vector_keys::{
     arithmetic_vi_funct6, arithmetic_vv_funct6, arithmetic_vx_funct6, compare_vi_funct6,
     compare_vv_funct6, compare_vx_funct6, multiply_funct6, reduction_funct6, shift_vi_funct6,
@@ -58,12 +58,14 @@ fn registers_word(funct3: u32, funct6: u32, vd: VReg, vs2: VReg, third: u32, vm:
 {
     pack_v(
         opcodes::OP_V,
-        vd.number() as u32,
-        funct3,
-        third,
-        vs2.number() as u32,
-        vm,
-        funct6,
+        VectorFields {
+            vd: vd.number() as u32,
+            funct3,
+            vs1: third,
+            vs2: vs2.number() as u32,
+            vm,
+            funct6,
+        },
     )
 }
 
@@ -74,12 +76,14 @@ fn immediate_word(funct6: u32, vd: VReg, vs2: VReg, imm: Imm5, vm: bool) -> u32
 {
     pack_v(
         opcodes::OP_V,
-        vd.number() as u32,
-        OPIVI,
-        digits_5(imm.value()),
-        vs2.number() as u32,
-        vm,
-        funct6,
+        VectorFields {
+            vd: vd.number() as u32,
+            funct3: OPIVI,
+            vs1: digits_5(imm.value()),
+            vs2: vs2.number() as u32,
+            vm,
+            funct6,
+        },
     )
 }
 
@@ -91,12 +95,14 @@ fn merge_word(funct3: u32, vd: VReg, vs2: VReg, third: u32) -> u32
 {
     pack_v(
         opcodes::OP_V,
-        vd.number() as u32,
-        funct3,
-        third,
-        vs2.number() as u32,
-        false,
-        MERGE,
+        VectorFields {
+            vd: vd.number() as u32,
+            funct3,
+            vs1: third,
+            vs2: vs2.number() as u32,
+            vm: false,
+            funct6: MERGE,
+        },
     )
 }
 
@@ -106,12 +112,14 @@ fn merge_immediate_word(vd: VReg, vs2: VReg, imm: Imm5) -> u32
 {
     pack_v(
         opcodes::OP_V,
-        vd.number() as u32,
-        OPIVI,
-        digits_5(imm.value()),
-        vs2.number() as u32,
-        false,
-        MERGE,
+        VectorFields {
+            vd: vd.number() as u32,
+            funct3: OPIVI,
+            vs1: digits_5(imm.value()),
+            vs2: vs2.number() as u32,
+            vm: false,
+            funct6: MERGE,
+        },
     )
 }
 
@@ -123,12 +131,14 @@ fn move_word(funct3: u32, vd: VReg, third: u32) -> u32
 {
     pack_v(
         opcodes::OP_V,
-        vd.number() as u32,
-        funct3,
-        third,
-        0,
-        true,
-        MERGE,
+        VectorFields {
+            vd: vd.number() as u32,
+            funct3,
+            vs1: third,
+            vs2: 0,
+            vm: true,
+            funct6: MERGE,
+        },
     )
 }
 
@@ -138,12 +148,14 @@ fn move_immediate_word(vd: VReg, imm: Imm5) -> u32
 {
     pack_v(
         opcodes::OP_V,
-        vd.number() as u32,
-        OPIVI,
-        digits_5(imm.value()),
-        0,
-        true,
-        MERGE,
+        VectorFields {
+            vd: vd.number() as u32,
+            funct3: OPIVI,
+            vs1: digits_5(imm.value()),
+            vs2: 0,
+            vm: true,
+            funct6: MERGE,
+        },
     )
 }
 
@@ -153,12 +165,14 @@ fn to_scalar_word(rd: Reg, vs2: VReg) -> u32
 {
     pack_v(
         opcodes::OP_V,
-        rd.number() as u32,
-        OPMVV,
-        0,
-        vs2.number() as u32,
-        true,
-        SCALAR_MOVE,
+        VectorFields {
+            vd: rd.number() as u32,
+            funct3: OPMVV,
+            vs1: 0,
+            vs2: vs2.number() as u32,
+            vm: true,
+            funct6: SCALAR_MOVE,
+        },
     )
 }
 
@@ -168,12 +182,14 @@ fn from_scalar_word(vd: VReg, rs1: Reg) -> u32
 {
     pack_v(
         opcodes::OP_V,
-        vd.number() as u32,
-        OPMVX,
-        rs1.number() as u32,
-        0,
-        true,
-        SCALAR_MOVE,
+        VectorFields {
+            vd: vd.number() as u32,
+            funct3: OPMVX,
+            vs1: rs1.number() as u32,
+            vs2: 0,
+            vm: true,
+            funct6: SCALAR_MOVE,
+        },
     )
 }
 
@@ -183,12 +199,14 @@ fn numbers_word(vd: VReg, vm: bool) -> u32
 {
     pack_v(
         opcodes::OP_V,
-        vd.number() as u32,
-        OPMVV,
-        0b1_0001,
-        0,
-        vm,
-        NUMBERS,
+        VectorFields {
+            vd: vd.number() as u32,
+            funct3: OPMVV,
+            vs1: 0b1_0001,
+            vs2: 0,
+            vm,
+            funct6: NUMBERS,
+        },
     )
 }
 
@@ -198,12 +216,14 @@ fn extended_word(vd: VReg, vs2: VReg, vm: bool) -> u32
 {
     pack_v(
         opcodes::OP_V,
-        vd.number() as u32,
-        OPMVV,
-        0b0_0100,
-        vs2.number() as u32,
-        vm,
-        EXTENSION,
+        VectorFields {
+            vd: vd.number() as u32,
+            funct3: OPMVV,
+            vs1: 0b0_0100,
+            vs2: vs2.number() as u32,
+            vm,
+            funct6: EXTENSION,
+        },
     )
 }
 
@@ -247,65 +267,87 @@ fn vsetvl_word(rd: Reg, rs1: Reg, rs2: Reg) -> u32
     )
 }
 
+/// What stands in the word of a load or store beside its width and how its elements lie.
+#[derive(Clone, Copy)]
+struct Access {
+    v: VReg,
+    rs1: Reg,
+    vm: bool,
+}
+
 #[tactic(auto, using(crate::proofs::VectorFormats::unit_made), unfolding(crate::specs::Decoding::rd_of, crate::specs::Decoding::rs1_of, crate::specs::Decoding::rs2_of, crate::specs::Decoding::vector_immediate_of, crate::specs::Decoding::vtype10_of, crate::specs::Decoding::vtype11_of))]
-fn unit_word(opcode: u32, width: u32, vd: VReg, rs1: Reg, vm: bool) -> u32
+fn unit_word(opcode: u32, width: u32, own: Access) -> u32
     requires opcode { opcode < 2 ^ 7 }
     requires width { width < 2 ^ 3 }
-    ensures { Stands result (unit_type [] opcode width) (pos vd ∷ pos rs1 ∷ pos (bit_of vm) ∷ []) }
+    ensures { Stands result (unit_type [] opcode width) (pos own.v ∷ pos own.rs1 ∷ pos (bit_of own.vm) ∷ []) }
 {
     pack_v(
         opcode,
-        vd.number() as u32,
-        width,
-        rs1.number() as u32,
-        0,
-        vm,
-        UNIT,
+        VectorFields {
+            vd: own.v.number() as u32,
+            funct3: width,
+            vs1: own.rs1.number() as u32,
+            vs2: 0,
+            vm: own.vm,
+            funct6: UNIT,
+        },
     )
 }
 
 #[tactic(auto, using(crate::proofs::VectorFormats::offset_made), unfolding(crate::specs::Decoding::rd_of, crate::specs::Decoding::rs1_of, crate::specs::Decoding::rs2_of, crate::specs::Decoding::vector_immediate_of, crate::specs::Decoding::vtype10_of, crate::specs::Decoding::vtype11_of))]
-fn offset_word(opcode: u32, width: u32, mode: u32, vd: VReg, rs1: Reg, offset: u32, vm: bool) -> u32
+fn offset_word(opcode: u32, width: u32, mode: u32, own: Access, offset: u32) -> u32
     requires opcode { opcode < 2 ^ 7 }
     requires width { width < 2 ^ 3 }
     requires mode { mode < 2 ^ 2 }
     requires offset { offset < 2 ^ 5 }
-    ensures { Stands result (offset_shape opcode width mode) (pos vd ∷ pos rs1 ∷ pos offset ∷ pos (bit_of vm) ∷ []) }
+    ensures { Stands result (offset_shape opcode width mode) (pos own.v ∷ pos own.rs1 ∷ pos offset
+        ∷ pos (bit_of own.vm) ∷ []) }
 {
     pack_v(
         opcode,
-        vd.number() as u32,
-        width,
-        rs1.number() as u32,
-        offset,
-        vm,
-        mode,
+        VectorFields {
+            vd: own.v.number() as u32,
+            funct3: width,
+            vs1: own.rs1.number() as u32,
+            vs2: offset,
+            vm: own.vm,
+            funct6: mode,
+        },
     )
 }
 
 // The word of a vector load or store.
-fn access_word(
-    opcode: u32,
-    width: ElementWidth,
-    v: VReg,
-    rs1: Reg,
-    addressing: Addressing,
-    vm: bool,
-) -> u32
+fn access_word(opcode: u32, width: ElementWidth, own: Access, addressing: Addressing) -> u32
     requires { opcode < 2 ^ 7 }
-    ensures { Stands result (access_shape opcode width addressing) (pos v ∷ pos rs1
-        ∷ (offset_fields addressing ++ (pos (bit_of vm) ∷ []))) }
+    ensures { Stands result (access_shape opcode width addressing) (pos own.v ∷ pos own.rs1
+        ∷ (offset_fields addressing ++ (pos (bit_of own.vm) ∷ []))) }
 {
     let width = width_funct3(width);
     match addressing {
-        Addressing::UnitStride => unit_word(opcode, width, v, rs1, vm),
+        Addressing::UnitStride => unit_word(opcode, width, own),
         Addressing::Strided { rs2 } => {
-            offset_word(opcode, width, STRIDED, v, rs1, rs2.number() as u32, vm)
+            offset_word(opcode, width, STRIDED, own, rs2.number() as u32)
         }
         Addressing::Indexed { vs2 } => {
-            offset_word(opcode, width, INDEXED, v, rs1, vs2.number() as u32, vm)
+            offset_word(opcode, width, INDEXED, own, vs2.number() as u32)
         }
     }
+}
+
+// The word of a vector load.
+fn load_elements_word(width: ElementWidth, own: Access, addressing: Addressing) -> u32
+    ensures { Stands result (access_shape 0b0000111 width addressing) (pos own.v ∷ pos own.rs1
+        ∷ (offset_fields addressing ++ (pos (bit_of own.vm) ∷ []))) }
+{
+    access_word(opcodes::LOAD_VECTOR, width, own, addressing)
+}
+
+// The word of a vector store.
+fn store_elements_word(width: ElementWidth, own: Access, addressing: Addressing) -> u32
+    ensures { Stands result (access_shape 0b0100111 width addressing) (pos own.v ∷ pos own.rs1
+        ∷ (offset_fields addressing ++ (pos (bit_of own.vm) ∷ []))) }
+{
+    access_word(opcodes::STORE_VECTOR, width, own, addressing)
 }
 
 /// What stands in the word of an operation on elements beside its third operand.
@@ -429,14 +471,14 @@ pub fn vector_word(insn: VectorInsn) -> u32
             rs1,
             addressing,
             vm,
-        } => access_word(opcodes::LOAD_VECTOR, width, vd, rs1, addressing, vm),
+        } => load_elements_word(width, Access { v: vd, rs1, vm }, addressing),
         VectorInsn::StoreElements {
             width,
             vs3,
             rs1,
             addressing,
             vm,
-        } => access_word(opcodes::STORE_VECTOR, width, vs3, rs1, addressing, vm),
+        } => store_elements_word(width, Access { v: vs3, rs1, vm }, addressing),
         _ => unreachable!(),
     }
 }

@@ -16,6 +16,16 @@ use crate::states::VectorState;
 use lanes::{LaneKind, write_mask_bits};
 use rv_insn::{CompareVxOp, ElementWidth, ReductionOp, VReg};
 
+/// What a reduction joins, and by which operation.
+#[derive(Clone, Copy)]
+struct Reduction {
+    operation: ReductionOp,
+    /// The group whose elements are joined.
+    vs2: VReg,
+    /// Whether all elements below the length are active, whatever the mask.
+    vm: bool,
+}
+
 impl VectorState {
     /// Writes as bits where a comparison holds of the pair. All bits are made before any is written.
     #[tactic(auto, using(crate::proofs::Groups::compared_bits))]
@@ -99,90 +109,73 @@ impl VectorState {
             (active_in self.old vm) (element (width self.old) (register self.old vs1) 0) (of_group self.old vs2)) }
     {
         let start = self.register(vs1);
+        let reduction = Reduction { operation, vs2, vm };
         let group = self.group();
         match self.width() {
             ElementWidth::Bits8 => {
                 let start = u8::read(&start, 0);
-                let total = self.join_bytes(operation, start, vs2, vm, 0, group);
+                let total = self.join_bytes(reduction, start, 0, group);
                 self.put_first(vd, total);
             }
             ElementWidth::Bits16 => {
                 let start = u16::read(&start, 0);
-                let total = self.join_halves(operation, start, vs2, vm, 0, group);
+                let total = self.join_halves(reduction, start, 0, group);
                 self.put_first(vd, total);
             }
             ElementWidth::Bits32 => {
                 let start = u32::read(&start, 0);
-                let total = self.join_words(operation, start, vs2, vm, 0, group);
+                let total = self.join_words(reduction, start, 0, group);
                 self.put_first(vd, total);
             }
         }
     }
 
     /// A start, joined with the active elements of so many registers of a group from one on, at 8 bits.
-    fn join_bytes(
-        &self,
-        operation: ReductionOp,
-        start: u8,
-        vs2: VReg,
-        vm: bool,
-        part: usize,
-        others: usize,
-    ) -> u8
+    fn join_bytes(&self, reduction: Reduction, start: u8, part: usize, others: usize) -> u8
         requires width { width self.now ≡ 8 }
         requires few { part + others ≤ 4 }
-        ensures { result ≡ reduced_parts self.now operation vs2 vm part others start }
+        ensures { result ≡ reduced_parts self.now reduction.operation reduction.vs2 reduction.vm part others
+            start }
     {
         if others == 0 {
             return start;
         }
+        let Reduction { operation, vs2, vm } = reduction;
         let elements = self.bytes(Operand::Register(vs2), part);
         let total = joined(operation, start, &elements, &self.active::<16>(vm, part));
-        self.join_bytes(operation, total, vs2, vm, part + 1, others - 1)
+        self.join_bytes(reduction, total, part + 1, others - 1)
     }
 
     /// A start, joined with the active elements of so many registers of a group from one on, at 16 bits.
-    fn join_halves(
-        &self,
-        operation: ReductionOp,
-        start: u16,
-        vs2: VReg,
-        vm: bool,
-        part: usize,
-        others: usize,
-    ) -> u16
+    fn join_halves(&self, reduction: Reduction, start: u16, part: usize, others: usize) -> u16
         requires width { width self.now ≡ 16 }
         requires few { part + others ≤ 4 }
-        ensures { result ≡ reduced_parts self.now operation vs2 vm part others start }
+        ensures { result ≡ reduced_parts self.now reduction.operation reduction.vs2 reduction.vm part others
+            start }
     {
         if others == 0 {
             return start;
         }
+        let Reduction { operation, vs2, vm } = reduction;
         let elements = self.halves(Operand::Register(vs2), part);
         let total = joined(operation, start, &elements, &self.active::<8>(vm, part));
-        self.join_halves(operation, total, vs2, vm, part + 1, others - 1)
+        self.join_halves(reduction, total, part + 1, others - 1)
     }
 
     /// A start, joined with the active elements of so many registers of a group from one on, at 32 bits.
-    fn join_words(
-        &self,
-        operation: ReductionOp,
-        start: u32,
-        vs2: VReg,
-        vm: bool,
-        part: usize,
-        others: usize,
-    ) -> u32
+    fn join_words(&self, reduction: Reduction, start: u32, part: usize, others: usize) -> u32
         requires width { width self.now ≡ 32 }
         requires few { part + others ≤ 4 }
-        ensures { result ≡ reduced_parts self.now operation vs2 vm part others start }
+        ensures { result ≡ reduced_parts self.now reduction.operation reduction.vs2 reduction.vm part others
+            start }
     {
         if others == 0 {
             return start;
         }
+        let Reduction { operation, vs2, vm } = reduction;
         let elements = self.words(Operand::Register(vs2), part);
         let total = joined(operation, start, &elements, &self.active::<4>(vm, part));
-        self.join_words(operation, total, vs2, vm, part + 1, others - 1)
+        self.join_words(reduction, total, part + 1, others - 1)
     }
 
     /// Writes the low bits of a number to element 0.

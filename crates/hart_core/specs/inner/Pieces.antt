@@ -3,12 +3,19 @@
 use Rattle.std.specs.Prelude.{◌≡◌, ◌<◌, ℕ, zero, suc, ◌+◌, ◌*◌, ◌%◌, ◌^◌, Bool, true, IsTrue, List, [], ◌∷◌, replicate}
 use Rattle.rv_insn.specs.declared.vector_operations.ElementWidth.{ElementWidth}
 use Rattle.memory.specs.Addresses.{in_data}
-use Rattle.memory.specs.Access.{bytes_in}
+use Rattle.memory.specs.Access.{Access, bytes_in}
 use Rattle.vector_unit.specs.VectorState.{Vectors}
 use Rattle.vector_unit.specs.Vector.{count, active_in}
 use Rattle.vector_unit.specs.declared.accesses.Spacing.{Spacing}
 use Rattle.vector_unit.specs.declared.accesses.Spacing.TheVariants.{UnitStride}
-use Rattle.hart_core.specs.VectorRows.{size_of}
+use Rattle.vector_unit.specs.Accesses.{addresses_by}
+use Rattle.hart_core.specs.HartState.{HartState, register, vectors_of}
+use Rattle.hart_core.specs.VectorRows.{accesses_at, size_of}
+use Rattle.hart_core.specs.declared.vectors.VectorAccess.{VectorAccess}
+
+-- what the active elements of a load or store touch
+abbrev pub accesses_of : HartState → VectorAccess → List Access
+accesses_of hart access = accesses_at access.group.width (addresses_by (vectors_of hart) access.spacing access.vm (register hart access.rs1))
 
 -- so many addresses, of elements of a width one behind the other
 abbrev pub addresses_from : ElementWidth → ℕ → ℕ → List ℕ

@@ -9,15 +9,17 @@ use Rattle.hart_core.proofs.harts.Hart.load_vector.Goals as goal
 pub returns-then-is_piece-clause-fits : goal.returns-then-is_piece-clause-fits
 returns-then-is_piece-clause-fits g c =
     let memory = g.M.Bytes.memory c.args.memory.now in
-    let p : IsPiece (length memory) (vectors_of c.args.self.now) c.args.width c.args.spacing c.args.vm (register c.args.self.now c.args.rs1) =
+    let access = c.args.access.now in
+    let p : IsPiece (length memory) (vectors_of c.args.self.now) access.group.width access.spacing access.vm (register c.args.self.now access.rs1) =
     rw (c.vectors.ensures, c.register-base.ensures) at (c.is_piece.ensures c.if-is_piece.true) in
-    ap (λ places. first_fault (length (g.M.Bytes.text c.args.memory.now)) (length memory) Reads (accesses_at c.args.width places)) (addresses-are _ _ _ _ _ _ p)
-    ∙ reads-free (length memory) (length (g.M.Bytes.text c.args.memory.now)) c.args.width _ _ p.lies
+    ap (λ places. first_fault (length (g.M.Bytes.text c.args.memory.now)) (length memory) Reads (accesses_at access.group.width places)) (addresses-are _ _ _ _ _ _ p)
+    ∙ reads-free (length memory) (length (g.M.Bytes.text c.args.memory.now)) access.group.width _ _ p.lies
 
 pub returns-then-is_piece-clause-hart : goal.returns-then-is_piece-clause-hart
 returns-then-is_piece-clause-hart g c =
     let memory = g.M.Bytes.memory c.args.memory.now in
-    let p : IsPiece (length memory) (vectors_of c.args.self.now) c.args.width c.args.spacing c.args.vm (register c.args.self.now c.args.rs1) =
+    let access = c.args.access.now in
+    let p : IsPiece (length memory) (vectors_of c.args.self.now) access.group.width access.spacing access.vm (register c.args.self.now access.rs1) =
     rw (c.vectors.ensures, c.register-base.ensures) at (c.is_piece.ensures c.if-is_piece.true) in
     let q = rw c.register-base.ensures at c.load_group.ensures in
-    c.advance.ensures.hart ∙ ap advanced (rw (addresses-are _ _ _ _ _ _ p, loaded-is _ _ _ _ _ _ p c.args.vd _) q)
+    c.advance.ensures.hart ∙ ap advanced (rw (addresses-are _ _ _ _ _ _ p, loaded-is _ _ _ _ _ _ p access.group.v _) q)
