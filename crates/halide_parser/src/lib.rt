@@ -3,9 +3,9 @@
 //!
 //! A line is cut into tokens (`halide_parser_syntax`), the names of its variables are found among them ([`ahead`]),
 //! and one pass over them, with a stack of open brackets in place of recursion, says whether they are of the grammar
-//! and what is known of each expression ([`judging`], [`passes`], [`line_reading`]): the rules that it breaks, its
-//! size, and its tree where it is not too large. Then the rules of the line are tested from the least fault on
-//! ([`rules`]), and a faultless line adds to what the lines before it have named ([`applying`]).
+//! and what is known of each expression ([`judging`], `calls`, [`passes`], [`line_reading`]): the rules that it
+//! breaks, its size, and its tree where it is not too large. Then the rules of the line are tested from the least
+//! fault on ([`rules`]), and a faultless line adds to what the lines before it have named ([`applying`]).
 //!
 //! What a text names is said of its lines as they are written: `specs/Expressions.antt` says what is asked of an
 //! expression and which tree it means, `specs/Rules.antt` which fault a line has, `specs/Meaning.antt` what it
@@ -14,6 +14,7 @@
 
 pub mod ahead;
 pub mod applying;
+mod calls;
 pub mod judging;
 pub mod line_reading;
 pub mod parsing;

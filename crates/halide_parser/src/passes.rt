@@ -10,6 +10,7 @@ ghost use Rattle.halide_parser_syntax.specs.inner.Machine as machine;
 ghost use Rattle.halide_parser_syntax.specs.inner.LineReading as reading;
 ghost use Rattle.halide_parser.specs.inner.Judging.{judging};
 
+use crate::calls;
 use crate::judging::{self, Judged};
 use crate::readers::Reader;
 use crate::scopes::Scope;
@@ -235,9 +236,9 @@ fn closed_by(
     match bracket {
         Bracket::Group => Ok(Some(judging::group(value))),
         Bracket::CallFirst(name) => {
-            Ok(Some(judging::call(reader, scope, name.as_slice(), value)?))
+            Ok(Some(calls::call(reader, scope, name.as_slice(), value)?))
         }
-        Bracket::CallSecond(name, first) => Ok(Some(judging::call_two(
+        Bracket::CallSecond(name, first) => Ok(Some(calls::call_two(
             reader,
             scope,
             name.as_slice(),
