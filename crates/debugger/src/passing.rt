@@ -14,7 +14,7 @@ ghost use Rattle.debugger.specs.inner.Steps.{steps_of};
 ghost use Rattle.debugger.specs.Places.{SessionState, state_at};
 ghost use Rattle.debugger.specs.Stops.{break_stops};
 
-use crate::turns::{Made, Way, make_until, up_to_kept};
+use crate::turns::{Made, SetMarks, Way, make_until, up_to_kept};
 use hart_core::Status;
 use multi_hart::Machine;
 use rv_insn::Insn;
@@ -80,8 +80,7 @@ impl Passed {
 /// which change nothing.
 pub(crate) fn pass(
     log: &TurnLog,
-    breaks: &[u32],
-    watches: &[u32],
+    marks: &SetMarks<'_>,
     machine: &mut Machine,
     insns: &[Option<Insn>],
     written: &mut [bool],
@@ -92,13 +91,16 @@ pub(crate) fn pass(
     requires few { length insns.now ≤ most_words }
     requires before { way.place < way.limit }
     requires within { way.limit ≤ length log.now.turns }
-    ensures passed { (session : SessionState) → Fits session log.now breaks.now watches.now machine.old way.place
+    ensures passed { (session : SessionState) → Fits session log.now marks.now.breaks.now marks.now.watches.now
+        machine.old way.place
         → IsPassed session way.place result }
-    ensures state { (session : SessionState) → Fits session log.now breaks.now watches.now machine.old way.place
+    ensures state { (session : SessionState) → Fits session log.now marks.now.breaks.now marks.now.watches.now
+        machine.old way.place
         → machine.new ≡ state_at session (way.place + result.turns) }
     ensures steps { (hart count : ℕ) → run_at log.now.turns way.place ≡ Some (hart, count)
         → result.steps ≡ steps_of machine.old hart result.turns }
-    ensures counted { (session : SessionState) → Fits session log.now breaks.now watches.now machine.old way.place
+    ensures counted { (session : SessionState) → Fits session log.now marks.now.breaks.now marks.now.watches.now
+        machine.old way.place
         → result.steps ≡ steps_from session way.place result.turns }
     ensures some { 1 ≤ result.turns }
     ensures within { way.place + result.turns ≤ way.limit }
@@ -112,11 +114,11 @@ pub(crate) fn pass(
     };
     let all = count.min(way.limit - way.place);
     let Status::Running = machine.status(hart) else {
-        return pass_rest(log, breaks, machine, hart, all, way.place);
+        return pass_rest(log, marks.breaks, machine, hart, all, way.place);
     };
     let most = all.min(up_to_kept(way.place));
-    let until = make_until(machine, insns, written, hart, most, breaks, watches);
-    let on_break = is_on_break(log, breaks, machine, way.place + until.turns);
+    let until = make_until(machine, insns, written, hart, most, marks);
+    let on_break = is_on_break(log, marks.breaks, machine, way.place + until.turns);
     Passed {
         turns: until.turns,
         steps: until.turns,

@@ -134,6 +134,13 @@ pub(crate) struct Until {
     pub changed: bool,
 }
 
+/// The addresses that marks are set on: those of instructions that stop, and of words that are watched.
+#[derive(Clone, Copy)]
+pub(crate) struct SetMarks<'a> {
+    pub breaks: &'a [u32],
+    pub watches: &'a [u32],
+}
+
 /// Makes turns of a hart that runs, at least one and at most so many, in each of which it runs: up to the first behind
 /// which it stands on a break, which changes a word at one of the watched addresses, or which doesn't step. It takes no
 /// memory.
@@ -143,8 +150,7 @@ pub(crate) fn make_until(
     written: &mut [bool],
     hart: usize,
     most: u64,
-    breaks: &[u32],
-    watches: &[u32],
+    marks: &SetMarks<'_>,
 ) -> Until
     requires there { hart < length machine.old.harts }
     requires meant { insns.now ≡ map store_in machine.old.text }
@@ -154,16 +160,16 @@ pub(crate) fn make_until(
     ensures state { machine.new ≡ run machine.old (replicate result.turns hart) }
     ensures steps { steps_of machine.old hart result.turns ≡ result.turns }
     ensures some { (1 ≤ result.turns) × (result.turns ≤ most) }
-    ensures quiet { IsQuietUntil machine.old hart breaks.now watches.now result.turns }
+    ensures quiet { IsQuietUntil machine.old hart marks.now.breaks.now marks.now.watches.now result.turns }
     ensures changed { result.changed
-        ≡ list_any (differs (run machine.old (replicate (result.turns - 1) hart)) machine.new) watches.now }
+        ≡ list_any (differs (run machine.old (replicate (result.turns - 1) hart)) machine.new) marks.now.watches.now }
     ensures shape { KeepsShape machine.old machine.new }
     ensures marks { Marks machine.old.memory machine.new.memory written.old written.new }
 {
     let mut turns = 1;
-    let mut told = turn_watched(machine, insns, written, hart, watches);
-    while turns < most && goes_on(told, machine.pc(hart), breaks) {
-        told = turn_watched(machine, insns, written, hart, watches);
+    let mut told = turn_watched(machine, insns, written, hart, marks.watches);
+    while turns < most && goes_on(told, machine.pc(hart), marks.breaks) {
+        told = turn_watched(machine, insns, written, hart, marks.watches);
         turns += 1;
     }
     Until {

@@ -8,7 +8,7 @@ ghost use Rattle.debugger.specs.inner.Passing.{IsPassed};
 use crate::kept::{KEPT_EVERY, copy_of, is_kept, keep_last, nearest, put_at_start, put_back};
 use crate::passing::{Passed, pass};
 use crate::sessions::Session;
-use crate::turns::{Way, make_some};
+use crate::turns::{SetMarks, Way, make_some};
 use std::alloc::Global;
 
 impl Session {
@@ -100,8 +100,10 @@ impl Session {
         };
         let passed = pass(
             &self.log,
-            &self.breaks,
-            &self.watches,
+            &SetMarks {
+                breaks: &self.breaks,
+                watches: &self.watches,
+            },
             &mut self.machine,
             &self.insns,
             &mut self.kept.written,

@@ -8,7 +8,7 @@ ghost use Rattle.picture.specs.inner.Evaluation.{plane_of, reads_in, AreTables, 
 ghost use Rattle.picture.specs.declared.scenes.State.TheVariants as states;
 
 use crate::boxes::{Bounds, Slices};
-use crate::keeping::{Cost, is_kept, needs_kept};
+use crate::keeping::{is_kept, needs_kept};
 use crate::lookups::{func_at, has_run, known_pixel};
 use crate::memos::Memo;
 use crate::plain::{pixel, read};
@@ -29,16 +29,15 @@ struct Asked {
 const MOST_DEPTH: usize = 512;
 
 /// Whether a pixel has to be kept before it is read.
-fn is_missing(scene: &Scene, costs: &[Cost], place: usize, x: u32, y: u32) -> bool
+fn is_missing(scene: &Scene, place: usize, x: u32, y: u32) -> bool
     requires tables { AreTables scene.now }
 {
-    is_kept(costs, place) && known_pixel(scene, place, x, y).is_none()
+    is_kept(scene.costs, place) && known_pixel(scene, place, x, y).is_none()
 }
 
 /// What a read answers in the pure definition of the Func at a place; none where that is asked for.
 fn ask(
     scene: &Scene,
-    costs: &[Cost],
     own: usize,
     source: Source,
     x: u32,
@@ -52,7 +51,7 @@ fn ask(
         if place >= own {
             return Ok(None);
         }
-        if is_missing(scene, costs, place, x, y) {
+        if is_missing(scene, place, x, y) {
             asked.push(Asked { place, x, y })?;
             return Ok(None);
         }
@@ -64,7 +63,6 @@ fn ask(
 /// The same where the indices are known.
 fn ask_at(
     scene: &Scene,
-    costs: &[Cost],
     own: usize,
     source: Source,
     x: Option<u32>,
@@ -82,7 +80,7 @@ fn ask_at(
     let Some(y) = y else {
         return Ok(None);
     };
-    let pixel = ask(scene, costs, own, source, x, y, asked)?;
+    let pixel = ask(scene, own, source, x, y, asked)?;
     Ok(pixel)
 }
 
@@ -125,7 +123,6 @@ fn remainder(a: Option<u32>, divisor: u32) -> Option<u32>
 #[tactic(auto, unfolding(halide_pipeline::specs::Pixel::value))]
 fn attempt(
     scene: &Scene,
-    costs: &[Cost],
     own: usize,
     environment: &Environment,
     expr: &Expr,
@@ -139,36 +136,36 @@ fn attempt(
         Expr::Number(number) => Ok(Some(*number)),
         Expr::Variable(own_variable) => Ok(Some(variable(environment, *own_variable))),
         Expr::Binary(operation, a, b) => {
-            let a = attempt(scene, costs, own, environment, a.get(), asked)?;
-            let b = attempt(scene, costs, own, environment, b.get(), asked)?;
+            let a = attempt(scene, own, environment, a.get(), asked)?;
+            let b = attempt(scene, own, environment, b.get(), asked)?;
             Ok(both(*operation, a, b))
         }
         Expr::Divide(a, divisor) => {
-            let a = attempt(scene, costs, own, environment, a.get(), asked)?;
+            let a = attempt(scene, own, environment, a.get(), asked)?;
             Ok(quotient(a, *divisor))
         }
         Expr::Remainder(a, divisor) => {
-            let a = attempt(scene, costs, own, environment, a.get(), asked)?;
+            let a = attempt(scene, own, environment, a.get(), asked)?;
             Ok(remainder(a, *divisor))
         }
         Expr::Select(condition, a, b) => {
-            let condition = attempt(scene, costs, own, environment, condition.get(), asked)?;
+            let condition = attempt(scene, own, environment, condition.get(), asked)?;
             let Some(condition) = condition else {
                 return Ok(None);
             };
             let chosen = if condition == 0 { b } else { a };
-            let chosen = attempt(scene, costs, own, environment, chosen.get(), asked)?;
+            let chosen = attempt(scene, own, environment, chosen.get(), asked)?;
             Ok(chosen)
         }
         Expr::Call1(source, x) => {
-            let x = attempt(scene, costs, own, environment, x.get(), asked)?;
-            let pixel = ask_at(scene, costs, own, *source, x, Some(0), asked)?;
+            let x = attempt(scene, own, environment, x.get(), asked)?;
+            let pixel = ask_at(scene, own, *source, x, Some(0), asked)?;
             Ok(pixel)
         }
         Expr::Call2(source, x, y) => {
-            let x = attempt(scene, costs, own, environment, x.get(), asked)?;
-            let y = attempt(scene, costs, own, environment, y.get(), asked)?;
-            let pixel = ask_at(scene, costs, own, *source, x, y, asked)?;
+            let x = attempt(scene, own, environment, x.get(), asked)?;
+            let y = attempt(scene, own, environment, y.get(), asked)?;
+            let pixel = ask_at(scene, own, *source, x, y, asked)?;
             Ok(pixel)
         }
     }
@@ -177,7 +174,6 @@ fn attempt(
 /// Asks for what a point of an update reads.
 fn ask_point(
     scene: &Scene,
-    costs: &[Cost],
     own: usize,
     update: &Update,
     point: &Environment,
@@ -185,18 +181,17 @@ fn ask_point(
 ) -> Result<(), AllocError>
     requires tables { AreTables scene.now }
 {
-    attempt(scene, costs, own, point, &update.left_x, asked)?;
+    attempt(scene, own, point, &update.left_x, asked)?;
     if let Some(left_y) = &update.left_y {
-        attempt(scene, costs, own, point, left_y, asked)?;
+        attempt(scene, own, point, left_y, asked)?;
     }
-    attempt(scene, costs, own, point, &update.right, asked)?;
+    attempt(scene, own, point, &update.right, asked)?;
     Ok(())
 }
 
 /// Asks for what an update reads where it runs for a point, unless it has run there.
 fn ask_update(
     scene: &Scene,
-    costs: &[Cost],
     updates: usize,
     update: &Update,
     top: Asked,
@@ -209,7 +204,7 @@ fn ask_update(
     }
     for number in 0..points(update) {
         let point = at_reduction(update, number, top.x, top.y);
-        ask_point(scene, costs, top.place, update, &point, asked)?;
+        ask_point(scene, top.place, update, &point, asked)?;
     }
     Ok(())
 }
@@ -217,7 +212,6 @@ fn ask_update(
 /// Asks for what the updates of a Func read where they run for a point.
 fn ask_updates(
     scene: &Scene,
-    costs: &[Cost],
     func: &Func,
     top: Asked,
     asked: &mut Vec<Asked>,
@@ -225,24 +219,18 @@ fn ask_updates(
     requires tables { AreTables scene.now }
 {
     for (updates, update) in func.updates.as_slice().iter().enumerate() {
-        ask_update(scene, costs, updates, update, top, asked)?;
+        ask_update(scene, updates, update, top, asked)?;
     }
     Ok(())
 }
 
 /// Asks for all that a pixel of a Func hangs on.
-fn ask_all(
-    scene: &Scene,
-    costs: &[Cost],
-    func: &Func,
-    top: Asked,
-    asked: &mut Vec<Asked>,
-) -> Result<(), AllocError>
+fn ask_all(scene: &Scene, func: &Func, top: Asked, asked: &mut Vec<Asked>) -> Result<(), AllocError>
     requires tables { AreTables scene.now }
 {
     let point = at_point(top.x, top.y);
-    attempt(scene, costs, top.place, &point, &func.pure, asked)?;
-    ask_updates(scene, costs, func, top, asked)?;
+    attempt(scene, top.place, &point, &func.pure, asked)?;
+    ask_updates(scene, func, top, asked)?;
     Ok(())
 }
 
@@ -250,7 +238,6 @@ fn ask_all(
 #[tactic(auto, unfolding(halide_pipeline::specs::Pixel::stage))]
 fn attempt_pixel(
     scene: &Scene,
-    costs: &[Cost],
     func: &Func,
     top: Asked,
     asked: &mut Vec<Asked>,
@@ -261,17 +248,12 @@ fn attempt_pixel(
     ensures { IfOk result (λ found. IfSome found (λ v. v ≡ plane_of scene.now top.place top.x top.y)) }
 {
     let point = at_point(top.x, top.y);
-    let pixel = attempt(scene, costs, top.place, &point, &func.pure, asked)?;
+    let pixel = attempt(scene, top.place, &point, &func.pure, asked)?;
     Ok(pixel)
 }
 
 /// A pixel that is asked for; none where it hangs on what isn't known, which is asked for.
-fn computed(
-    scene: &Scene,
-    costs: &[Cost],
-    top: Asked,
-    asked: &mut Vec<Asked>,
-) -> Result<Option<u32>, AllocError>
+fn computed(scene: &Scene, top: Asked, asked: &mut Vec<Asked>) -> Result<Option<u32>, AllocError>
     requires tables { AreTables scene.now }
     ensures { IfOk result (λ found. IfSome found (λ v. v ≡ plane_of scene.now top.place top.x top.y)) }
 {
@@ -279,11 +261,11 @@ fn computed(
         return Ok(None);
     };
     if func.updates.is_empty() {
-        let pixel = attempt_pixel(scene, costs, func, top, asked)?;
+        let pixel = attempt_pixel(scene, func, top, asked)?;
         return Ok(pixel);
     }
     let before = asked.len();
-    ask_all(scene, costs, func, top, asked)?;
+    ask_all(scene, func, top, asked)?;
     if asked.len() > before {
         return Ok(None);
     }
@@ -295,7 +277,6 @@ fn computed(
 #[tactic(auto, using(crate::proofs::Kept::one_more_kept))]
 fn settle_one(
     scene: &Scene,
-    costs: &[Cost],
     top: Asked,
     asked: &mut Vec<Asked>,
     memo: &mut Memo,
@@ -306,12 +287,12 @@ fn settle_one(
     ensures { OnOk result (IsMemo scene.now.funcs.now scene.now.pictures.now memo.new) }
 {
     let now = Scene { memo, ..*scene };
-    if !is_missing(&now, costs, top.place, top.x, top.y) {
+    if !is_missing(&now, top.place, top.x, top.y) {
         asked.pop();
         return Ok(());
     }
     let before = asked.len();
-    match computed(&now, costs, top, asked)? {
+    match computed(&now, top, asked)? {
         Some(pixel) => {
             asked.pop();
             memo.set(top.place, top.x, top.y, pixel)?;
@@ -327,12 +308,7 @@ fn settle_one(
 }
 
 /// Keeps all pixels that are asked for, as far as they can be kept.
-fn settle(
-    scene: &Scene,
-    costs: &[Cost],
-    asked: &mut Vec<Asked>,
-    memo: &mut Memo,
-) -> Result<(), AllocError>
+fn settle(scene: &Scene, asked: &mut Vec<Asked>, memo: &mut Memo) -> Result<(), AllocError>
     requires tables { AreTablesOf scene.now.funcs.now scene.now.pictures.now scene.now.tables.now }
     requires known { AreKnownOf scene.now.funcs.now scene.now.pictures.now scene.now.known.now }
     requires memo { IsMemo scene.now.funcs.now scene.now.pictures.now memo.old }
@@ -341,7 +317,7 @@ fn settle(
     for _ in 0..u64::MAX {
         match asked.last().copied() {
             Some(top) if !memo.is_full() => {
-                settle_one(scene, costs, top, asked, memo)?;
+                settle_one(scene, top, asked, memo)?;
             }
             _ => break,
         }
@@ -351,13 +327,7 @@ fn settle(
 }
 
 /// Keeps what a pixel of a Func hangs on. Reads that stand in indices of others are asked for one after the other.
-fn prepare_point(
-    scene: &Scene,
-    costs: &[Cost],
-    func: &Func,
-    top: Asked,
-    memo: &mut Memo,
-) -> Result<(), AllocError>
+fn prepare_point(scene: &Scene, func: &Func, top: Asked, memo: &mut Memo) -> Result<(), AllocError>
     requires tables { AreTablesOf scene.now.funcs.now scene.now.pictures.now scene.now.tables.now }
     requires known { AreKnownOf scene.now.funcs.now scene.now.pictures.now scene.now.known.now }
     requires memo { IsMemo scene.now.funcs.now scene.now.pictures.now memo.old }
@@ -366,11 +336,11 @@ fn prepare_point(
     let mut asked = Vec::new(scene.alloc);
     for _ in 0..MOST_DEPTH {
         let now = Scene { memo, ..*scene };
-        ask_all(&now, costs, func, top, &mut asked)?;
+        ask_all(&now, func, top, &mut asked)?;
         if asked.is_empty() || memo.is_full() {
             break;
         }
-        settle(scene, costs, &mut asked, memo)?;
+        settle(scene, &mut asked, memo)?;
     }
     Ok(())
 }
@@ -378,7 +348,6 @@ fn prepare_point(
 /// Keeps what the pixels of a Func in a row hang on.
 fn prepare_row(
     scene: &Scene,
-    costs: &[Cost],
     func: &Func,
     first: Asked,
     width: u32,
@@ -392,7 +361,7 @@ fn prepare_row(
     for at in 0..width {
         let x = words::add(first.x, at);
         let top = Asked { x, ..first };
-        prepare_point(scene, costs, func, top, memo)?;
+        prepare_point(scene, func, top, memo)?;
     }
     Ok(())
 }
@@ -400,7 +369,6 @@ fn prepare_row(
 /// Keeps what the pixels of the Func at a place in a box hang on.
 pub(crate) fn prepare_box(
     scene: &Scene,
-    costs: &[Cost],
     place: usize,
     bounds: Bounds,
     memo: &mut Memo,
@@ -413,7 +381,7 @@ pub(crate) fn prepare_box(
     let Some(func) = func_at(scene.funcs, place) else {
         return Ok(());
     };
-    if !needs_kept(costs, place) {
+    if !needs_kept(scene.costs, place) {
         return Ok(());
     }
     for row in 0..bounds.height {
@@ -423,7 +391,7 @@ pub(crate) fn prepare_box(
             x: bounds.left,
             y,
         };
-        prepare_row(scene, costs, func, first, bounds.width, memo)?;
+        prepare_row(scene, func, first, bounds.width, memo)?;
     }
     Ok(())
 }
@@ -431,7 +399,6 @@ pub(crate) fn prepare_box(
 /// Keeps what an update of the Func at a place reads on the slices on which it is to run.
 pub(crate) fn prepare_slices(
     scene: &Scene,
-    costs: &[Cost],
     place: usize,
     func: &Func,
     wanted: Slices,
@@ -442,7 +409,7 @@ pub(crate) fn prepare_slices(
     requires memo { IsMemo scene.now.funcs.now scene.now.pictures.now memo.old }
     ensures { OnOk result (IsMemo scene.now.funcs.now scene.now.pictures.now memo.new) }
 {
-    if !needs_kept(costs, place) {
+    if !needs_kept(scene.costs, place) {
         return Ok(());
     }
     for number in 0..wanted.count {
@@ -451,7 +418,7 @@ pub(crate) fn prepare_slices(
             x: words::add(wanted.left, number),
             y: words::add(wanted.top, number),
         };
-        prepare_point(scene, costs, func, top, memo)?;
+        prepare_point(scene, func, top, memo)?;
     }
     Ok(())
 }

@@ -8,7 +8,7 @@ ghost use Rattle.picture.specs.inner.Together.{IsSide};
 
 use crate::asking::prepare_slices;
 use crate::boxes::{Bounds, NO_BOUNDS, NO_SLICES, Slices, Wanted, box_of, slices_of};
-use crate::keeping::{Cost, needs_kept};
+use crate::keeping::needs_kept;
 use crate::lines::Along;
 use crate::lookups::func_at;
 use crate::memos::Memo;
@@ -168,7 +168,6 @@ fn known_pass(
 fn know_update(
     rt: &(impl Threads + Sync),
     scene: &Scene,
-    costs: &[Cost],
     pass: Pass,
     wanted: Wanted,
     known: &mut Vec<Known>,
@@ -187,8 +186,8 @@ fn know_update(
         known: known.as_slice(),
         ..*scene
     };
-    prepare_slices(&before, costs, pass.own, pass.func, slices, memo)?;
-    let area = if needs_kept(costs, pass.own) {
+    prepare_slices(&before, pass.own, pass.func, slices, memo)?;
+    let area = if needs_kept(scene.costs, pass.own) {
         NO_BOUNDS
     } else {
         box_of(wanted, pass.func, pass.updates, pass.update)
@@ -207,7 +206,6 @@ fn know_update(
 pub(crate) fn know_wanted(
     rt: &(impl Threads + Sync),
     scene: &Scene,
-    costs: &[Cost],
     own: usize,
     wanted: Wanted,
     known: &mut Vec<Known>,
@@ -233,7 +231,7 @@ pub(crate) fn know_wanted(
             update,
         };
         if is_forward(update) {
-            know_update(rt, scene, costs, pass, wanted, known, memo)?;
+            know_update(rt, scene, pass, wanted, known, memo)?;
         }
     }
     Ok(())

@@ -14,7 +14,7 @@ use crate::asking::prepare_box;
 use crate::beforehand::know_wanted;
 use crate::boxes::{Bounds, Wanted, bounds_of, find};
 use crate::faults::EvalError;
-use crate::keeping::{Cost, costs_of};
+use crate::keeping::costs_of;
 use crate::memos::Memo;
 use crate::pictures::Picture;
 use crate::row_values::pixel_row;
@@ -169,7 +169,6 @@ fn tabulate(
 fn tabulate_next(
     rt: &(impl Threads + Sync),
     scene: &Scene,
-    costs: &[Cost],
     own: usize,
     wanted: Wanted,
     known: &mut Vec<Known>,
@@ -182,13 +181,13 @@ fn tabulate_next(
     ensures known { OnOk result (AreKnownOf scene.now.funcs.now scene.now.pictures.now known.new.items) }
     ensures memo { OnOk result (IsMemo scene.now.funcs.now scene.now.pictures.now memo.new) }
 {
-    know_wanted(rt, scene, costs, own, wanted, known, memo)?;
+    know_wanted(rt, scene, own, wanted, known, memo)?;
     let bounds = bounds_of(wanted);
     let before = Scene {
         known: known.as_slice(),
         ..*scene
     };
-    prepare_box(&before, costs, own, bounds, memo)?;
+    prepare_box(&before, own, bounds, memo)?;
     let now = Scene {
         known: known.as_slice(),
         memo,
@@ -246,8 +245,9 @@ fn tabulate_all(
             tables: &tables,
             known: &[],
             memo: &nothing,
+            costs: &costs,
         };
-        let table = tabulate_next(rt, &scene, &costs, place, *own, &mut known, &mut memo)?;
+        let table = tabulate_next(rt, &scene, place, *own, &mut known, &mut memo)?;
         tables.push(table)?;
     }
     Ok(Made {
@@ -283,6 +283,7 @@ pub fn evaluate(
         tables: &made.tables,
         known: &made.known,
         memo: &made.memo,
+        costs: &[],
     };
     let bounds = Bounds {
         left: 0,

@@ -11,7 +11,7 @@ ghost use Rattle.picture.specs.declared.scenes.State.TheVariants as states;
 
 use crate::lookups::{boxed_pixel, func_at, input_pixel, known_pixel, known_slice};
 use crate::points::{at_point, at_reduction, is_forward, points, variable};
-use crate::scenes::{Pass, Scene, Slice, State};
+use crate::scenes::{Pass, Progress, Scene, Slice, State};
 use halide_pipeline::{Environment, Expr, Func, Source, Update, words};
 use std::alloc::AllocError;
 
@@ -100,7 +100,11 @@ pub(crate) fn read(
                     let pixel = earlier_pixel(scene, own, place, x, y)?;
                     return Ok(pixel);
                 }
-                let pixel = forward_pixel(scene, own, updates, number, slice, x, y)?;
+                let progress = Progress {
+                    slice,
+                    points: number,
+                };
+                let pixel = forward_pixel(scene, own, updates, progress, x, y)?;
                 Ok(pixel)
             }
         },
@@ -114,21 +118,20 @@ pub(crate) fn forward_pixel(
     scene: &Scene,
     own: usize,
     updates: usize,
-    number: u64,
-    slice: &Slice,
+    progress: Progress,
     x: u32,
     y: u32,
 ) -> Result<u32, AllocError>
     requires tables { AreTables scene.now }
-    requires slice { IsForward scene.now own updates number slice.now }
+    requires slice { IsForward scene.now own updates progress.points progress.slice.now }
     ensures { IfOk result (λ v. v ≡ after_of own (slice_get scene.now.funcs.now own) (inputs_of scene.now)
-        (earlier_of scene.now own) updates number x y) }
+        (earlier_of scene.now own) updates progress.entry.points x y) }
 {
-    if !slice.is_on(x, y) {
-        let pixel = after_of(scene, own, updates, number, x, y)?;
+    if !progress.slice.is_on(x, y) {
+        let pixel = after_of(scene, own, updates, progress.points, x, y)?;
         return Ok(pixel);
     }
-    match slice.writes.get(x, y) {
+    match progress.slice.writes.get(x, y) {
         Some(pixel) => Ok(pixel),
         None => {
             let pixel = stage_of(scene, own, updates, x, y)?;
@@ -233,42 +236,29 @@ fn over_forward(scene: &Scene, pass: Pass, x: u32, y: u32) -> Result<u32, AllocE
     ensures { IfOk result (λ v. v ≡ stage_in scene.now.funcs.now scene.now.pictures.now pass.entry.own
         (pass.entry.updates + 1) x y) }
 {
-    let Pass {
-        own,
-        func,
-        updates,
-        ..
-    } = pass;
-    if let Some(slice) = known_slice(scene.known, own, updates, x, y) {
-        let pixel = over_slice(scene, own, func, updates, slice, x, y)?;
+    if let Some(slice) = known_slice(scene.known, pass.own, pass.updates, x, y) {
+        let pixel = over_slice(scene, pass, slice, x, y)?;
         return Ok(pixel);
     }
     let slice = run_forward(scene, pass, x, y)?;
-    let pixel = over_slice(scene, own, func, updates, &slice, x, y)?;
+    let pixel = over_slice(scene, pass, &slice, x, y)?;
     Ok(pixel)
 }
 
 /// A pixel of a Func after an update, where the update has run on a slice with its point.
 #[cycle(pixel)]
-fn over_slice(
-    scene: &Scene,
-    own: usize,
-    func: &Func,
-    updates: usize,
-    slice: &Slice,
-    x: u32,
-    y: u32,
-) -> Result<u32, AllocError>
+fn over_slice(scene: &Scene, pass: Pass, slice: &Slice, x: u32, y: u32) -> Result<u32, AllocError>
     requires tables { AreTables scene.now }
-    requires is { slice_get scene.now.funcs.now own ≡ Some func.now }
-    requires run { IsSliceOf scene.now.funcs.now scene.now.pictures.now own updates slice.now }
+    requires pass { IsPass scene.now pass }
+    requires run { IsSliceOf scene.now.funcs.now scene.now.pictures.now pass.own pass.updates slice.now }
     requires on { is_on slice.now x y ≡ true }
-    ensures { IfOk result (λ v. v ≡ stage_in scene.now.funcs.now scene.now.pictures.now own (updates + 1) x y) }
+    ensures { IfOk result (λ v. v ≡ stage_in scene.now.funcs.now scene.now.pictures.now pass.entry.own
+        (pass.entry.updates + 1) x y) }
 {
     match slice.writes.get(x, y) {
         Some(pixel) => Ok(pixel),
         None => {
-            let pixel = stage(scene, own, func, updates, x, y)?;
+            let pixel = stage(scene, pass.own, pass.func, pass.updates, x, y)?;
             Ok(pixel)
         }
     }

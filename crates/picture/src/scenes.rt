@@ -5,6 +5,7 @@ ghost use Rattle.halide_pipeline.specs.Pixel.{Plane};
 ghost use Rattle.picture.specs.Writes.{IsNone};
 ghost use Rattle.picture.specs.inner.Evaluation.{IsAt, IsBegun, IsTable};
 
+use crate::keeping::Cost;
 use crate::memos::Memo;
 use crate::pictures::Picture;
 use crate::points::product;
@@ -120,7 +121,8 @@ impl Drop for Known {
     }
 }
 
-/// The Funcs and inputs, the tables of the first Funcs, what updates have come to, and pixels that no table has.
+/// The Funcs and inputs, the tables of the first Funcs, what updates have come to, pixels that no table has, and what
+/// it costs to read each Func.
 #[derive(Clone, Copy)]
 pub(crate) struct Scene<'a> {
     pub alloc: Global,
@@ -129,6 +131,7 @@ pub(crate) struct Scene<'a> {
     pub tables: &'a [Table],
     pub known: &'a [Known],
     pub memo: &'a Memo,
+    pub costs: &'a [Cost],
 }
 
 /// An update of the Func at a place, behind so many others.
@@ -138,6 +141,13 @@ pub(crate) struct Pass<'a> {
     pub func: &'a Func,
     pub updates: usize,
     pub update: &'a Update,
+}
+
+/// A slice on which the first so many points of an update have run.
+#[derive(Clone, Copy)]
+pub(crate) struct Progress<'a> {
+    pub slice: &'a Slice,
+    pub points: u64,
 }
 
 /// What reads of its own Func find in a definition.

@@ -156,30 +156,36 @@ fn own_indices(
     }
 }
 
+/// An operation with its two sides.
+#[derive(Clone, Copy)]
+struct Sides<'a> {
+    operation: Operation,
+    a: &'a Expr,
+    b: &'a Expr,
+}
+
 /// An operation of a read of the own Func and of what doesn't read it, along a row.
 fn first_of(
     scene: &Scene,
     own: usize,
     start: &Environment,
     width: usize,
-    operation: Operation,
-    a: &Expr,
-    b: &Expr,
+    sides: &Sides<'_>,
 ) -> Result<Option<Right>, AllocError>
     requires tables { AreTables scene.now }
     requires narrow { width < 2 ^ 32 }
     ensures { IfOk result (λ found. IfSome found
-        (IsRight width (λ plane at. word.applied operation (spec.value (reads_with scene.now own plane)
-        (row_point start.now at) a.now) (spec.value (reads_with scene.now own plane) (row_point start.now at)
-        b.now)))) }
+        (IsRight width (λ plane at. word.applied sides.now.operation (spec.value (reads_with scene.now own plane)
+        (row_point start.now at) sides.now.a.now) (spec.value (reads_with scene.now own plane) (row_point start.now at)
+        sides.now.b.now)))) }
 {
-    let Some(indices) = own_indices(scene, own, start, width, a)? else {
+    let Some(indices) = own_indices(scene, own, start, width, sides.a)? else {
         return Ok(None);
     };
-    let Some(row) = reduced_row(scene, own, start, width, b)? else {
+    let Some(row) = reduced_row(scene, own, start, width, sides.b)? else {
         return Ok(None);
     };
-    Ok(Some(Right::First(operation, indices, row)))
+    Ok(Some(Right::First(sides.operation, indices, row)))
 }
 
 /// The same the other way round.
@@ -188,24 +194,22 @@ fn second_of(
     own: usize,
     start: &Environment,
     width: usize,
-    operation: Operation,
-    a: &Expr,
-    b: &Expr,
+    sides: &Sides<'_>,
 ) -> Result<Option<Right>, AllocError>
     requires tables { AreTables scene.now }
     requires narrow { width < 2 ^ 32 }
     ensures { IfOk result (λ found. IfSome found
-        (IsRight width (λ plane at. word.applied operation (spec.value (reads_with scene.now own plane)
-        (row_point start.now at) a.now) (spec.value (reads_with scene.now own plane) (row_point start.now at)
-        b.now)))) }
+        (IsRight width (λ plane at. word.applied sides.now.operation (spec.value (reads_with scene.now own plane)
+        (row_point start.now at) sides.now.a.now) (spec.value (reads_with scene.now own plane) (row_point start.now at)
+        sides.now.b.now)))) }
 {
-    let Some(indices) = own_indices(scene, own, start, width, b)? else {
+    let Some(indices) = own_indices(scene, own, start, width, sides.b)? else {
         return Ok(None);
     };
-    let Some(row) = reduced_row(scene, own, start, width, a)? else {
+    let Some(row) = reduced_row(scene, own, start, width, sides.a)? else {
         return Ok(None);
     };
-    Ok(Some(Right::Second(operation, row, indices)))
+    Ok(Some(Right::Second(sides.operation, row, indices)))
 }
 
 /// An operation along a row, where at most one side reads the own Func, and that at once.
@@ -214,21 +218,19 @@ fn two_of(
     own: usize,
     start: &Environment,
     width: usize,
-    operation: Operation,
-    a: &Expr,
-    b: &Expr,
+    sides: &Sides<'_>,
 ) -> Result<Option<Right>, AllocError>
     requires tables { AreTables scene.now }
     requires narrow { width < 2 ^ 32 }
     ensures { IfOk result (λ found. IfSome found
-        (IsRight width (λ plane at. word.applied operation (spec.value (reads_with scene.now own plane)
-        (row_point start.now at) a.now) (spec.value (reads_with scene.now own plane) (row_point start.now at)
-        b.now)))) }
+        (IsRight width (λ plane at. word.applied sides.now.operation (spec.value (reads_with scene.now own plane)
+        (row_point start.now at) sides.now.a.now) (spec.value (reads_with scene.now own plane) (row_point start.now at)
+        sides.now.b.now)))) }
 {
-    if let Some(right) = first_of(scene, own, start, width, operation, a, b)? {
+    if let Some(right) = first_of(scene, own, start, width, sides)? {
         return Ok(Some(right));
     }
-    let right = second_of(scene, own, start, width, operation, a, b)?;
+    let right = second_of(scene, own, start, width, sides)?;
     Ok(right)
 }
 
@@ -248,7 +250,12 @@ fn operation_of(
 {
     match expr {
         Expr::Binary(operation, a, b) => {
-            let right = two_of(scene, own, start, width, *operation, a.get(), b.get())?;
+            let sides = Sides {
+                operation: *operation,
+                a: a.get(),
+                b: b.get(),
+            };
+            let right = two_of(scene, own, start, width, &sides)?;
             Ok(right)
         }
         _ => Ok(None),

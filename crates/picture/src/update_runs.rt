@@ -11,7 +11,7 @@ ghost use Rattle.picture.specs.inner.UpdateRows.{Puts};
 
 use crate::plain::{begun, forward_pixel, index_value, value};
 use crate::points::{at_reduction, product};
-use crate::scenes::{Pass, Scene, Slice, State};
+use crate::scenes::{Pass, Progress, Scene, Slice, State};
 use crate::update_rows::{Right, UpdateRow, update_row};
 use halide_pipeline::{Environment, Update};
 use std::alloc::AllocError;
@@ -28,18 +28,17 @@ pub(crate) struct Store {
 fn right_value(
     scene: &Scene,
     pass: Pass,
-    number: u64,
-    slice: &Slice,
+    progress: Progress,
     right: &Right,
     at: usize,
 ) -> Result<u32, AllocError>
     requires tables { AreTables scene.now }
-    requires slice { IsForward scene.now pass.own pass.updates number slice.now }
+    requires slice { IsForward scene.now pass.own pass.updates progress.points progress.slice.now }
     requires long { right_long pass.update.now.first.extent right.now }
     requires within { at < pass.update.now.first.extent }
     ensures { IfOk result (λ v. v ≡ right_says right.now (after_of pass.entry.own
         (slice_get scene.now.funcs.now pass.entry.own) (inputs_of scene.now) (earlier_of scene.now pass.entry.own)
-        pass.entry.updates number) at) }
+        pass.entry.updates progress.entry.points) at) }
 {
     let Pass { own, updates, .. } = pass;
     let width = pass.update.first.extent as usize;
@@ -47,12 +46,12 @@ fn right_value(
         Right::Alone(row) => Ok(row.value_at(at, width)),
         Right::First(operation, indices, row) => {
             let (x, y) = indices.point(at, width);
-            let own = forward_pixel(scene, own, updates, number, slice, x, y)?;
+            let own = forward_pixel(scene, own, updates, progress, x, y)?;
             Ok(operation.apply(own, row.value_at(at, width)))
         }
         Right::Second(operation, row, indices) => {
             let (x, y) = indices.point(at, width);
-            let own = forward_pixel(scene, own, updates, number, slice, x, y)?;
+            let own = forward_pixel(scene, own, updates, progress, x, y)?;
             Ok(operation.apply(row.value_at(at, width), own))
         }
     }
@@ -65,18 +64,19 @@ fn row_store(
     start: &Environment,
     row: &UpdateRow,
     at: usize,
-    number: u64,
-    slice: &Slice,
+    progress: Progress,
 ) -> Result<Store, AllocError>
     requires tables { AreTables scene.now }
-    requires slice { IsForward scene.now pass.own pass.updates number slice.now }
+    requires slice { IsForward scene.now pass.own pass.updates progress.points progress.slice.now }
     requires row { IsUpdateRow scene.now pass.own pass.update.now.first.extent start.now pass.update.now row.now }
     requires within { at < pass.update.now.first.extent }
-    requires point { spec.at_reduction pass.update.now number slice.now.x slice.now.y ≡ row_point start.now at }
-    ensures { IfOk result (IsStore scene.now pass.entry.own pass.entry.updates number pass.entry.update.now slice.now) }
+    requires point { spec.at_reduction pass.update.now progress.points progress.slice.now.x progress.slice.now.y
+        ≡ row_point start.now at }
+    ensures { IfOk result (IsStore scene.now pass.entry.own pass.entry.updates progress.entry.points
+        pass.entry.update.now progress.entry.slice.now) }
 {
     let width = pass.update.first.extent as usize;
-    let value = right_value(scene, pass, number, slice, &row.right, at)?;
+    let value = right_value(scene, pass, progress, &row.right, at)?;
     Ok(Store {
         x: row.left_x.value_at(at, width),
         y: row.left_y.value_at(at, width),
@@ -85,11 +85,12 @@ fn row_store(
 }
 
 /// What a point stores.
-fn point_store(scene: &Scene, pass: Pass, number: u64, slice: &Slice) -> Result<Store, AllocError>
+fn point_store(scene: &Scene, pass: Pass, progress: Progress) -> Result<Store, AllocError>
     requires tables { AreTables scene.now }
     requires pass { IsPass scene.now pass }
-    requires slice { IsForward scene.now pass.own pass.updates number slice.now }
-    ensures { IfOk result (IsStore scene.now pass.entry.own pass.entry.updates number pass.entry.update.now slice.now) }
+    requires slice { IsForward scene.now pass.own pass.updates progress.points progress.slice.now }
+    ensures { IfOk result (IsStore scene.now pass.entry.own pass.entry.updates progress.entry.points
+        pass.entry.update.now progress.entry.slice.now) }
 {
     let Pass {
         own,
@@ -97,10 +98,10 @@ fn point_store(scene: &Scene, pass: Pass, number: u64, slice: &Slice) -> Result<
         update,
         ..
     } = pass;
-    let point = at_reduction(update, number, slice.x, slice.y);
+    let point = at_reduction(update, progress.points, progress.slice.x, progress.slice.y);
     let x = value(scene, own, State::Earlier, &point, &update.left_x)?;
     let y = index_value(scene, own, &point, &update.left_y)?;
-    let state = State::Forward(updates, number, slice);
+    let state = State::Forward(updates, progress.points, progress.slice);
     let value = value(scene, own, state, &point, &update.right)?;
     Ok(Store { x, y, value })
 }
@@ -120,25 +121,26 @@ fn store_at(
     start: &Environment,
     row: &Option<UpdateRow>,
     at: usize,
-    number: u64,
-    slice: &Slice,
+    progress: Progress,
 ) -> Result<Store, AllocError>
     requires tables { AreTables scene.now }
     requires pass { IsPass scene.now pass }
-    requires slice { IsForward scene.now pass.own pass.updates number slice.now }
+    requires slice { IsForward scene.now pass.own pass.updates progress.points progress.slice.now }
     requires row { IfSome row.now (IsUpdateRow scene.now pass.own pass.update.now.first.extent start.now
         pass.update.now) }
     requires within { at < pass.update.now.first.extent }
-    requires point { spec.at_reduction pass.update.now number slice.now.x slice.now.y ≡ row_point start.now at }
-    ensures { IfOk result (IsStore scene.now pass.entry.own pass.entry.updates number pass.entry.update.now slice.now) }
+    requires point { spec.at_reduction pass.update.now progress.points progress.slice.now.x progress.slice.now.y
+        ≡ row_point start.now at }
+    ensures { IfOk result (IsStore scene.now pass.entry.own pass.entry.updates progress.entry.points
+        pass.entry.update.now progress.entry.slice.now) }
 {
     match row {
         Some(row) => {
-            let store = row_store(scene, pass, start, row, at, number, slice)?;
+            let store = row_store(scene, pass, start, row, at, progress)?;
             Ok(store)
         }
         None => {
-            let store = point_store(scene, pass, number, slice)?;
+            let store = point_store(scene, pass, progress)?;
             Ok(store)
         }
     }
@@ -168,8 +170,11 @@ fn apply_row(
         (first + pass.entry.update.now.first.extent) slice.new) }
 {
     for at in 0..pass.update.first.extent {
-        let number = first + u64::from(at);
-        let store = store_at(scene, pass, start, values, at as usize, number, slice)?;
+        let progress = Progress {
+            slice,
+            points: first + u64::from(at),
+        };
+        let store = store_at(scene, pass, start, values, at as usize, progress)?;
         put(slice, store)?;
     }
     Ok(())

@@ -16,8 +16,8 @@ pub loop-turns-preserved : goal.loop-turns-preserved
 loop-turns-preserved c =
     let start = c.args.machine.now in
     let hart = c.args.hart in
-    let breaks = c.args.breaks.now in
-    let watches = c.args.watches.now in
+    let breaks = c.args.marks.now.breaks.now in
+    let watches = c.args.marks.now.watches.now in
     let turns = c.loop-turns.turns in
     let old = c.loop-turns.machine in
     let new = c.turn_watched-told-in-loop-turns.new.machine in

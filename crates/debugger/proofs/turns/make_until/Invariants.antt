@@ -15,8 +15,8 @@ invariant-loop-turns l = record {
   told : l.told.outcome ≡ outcome (run l.fn.machine (replicate (l.turns - 1) l.hart)) l.hart;
   steps : steps_of l.fn.machine l.hart l.turns ≡ l.turns;
   few : l.turns ≤ l.most;
-  quiet : IsQuietUntil l.fn.machine l.hart l.breaks l.watches l.turns;
-  changed : l.told.changed ≡ list_any (differs (run l.fn.machine (replicate (l.turns - 1) l.hart)) l.machine) l.watches;
+  quiet : IsQuietUntil l.fn.machine l.hart l.marks.breaks.now l.marks.watches.now l.turns;
+  changed : l.told.changed ≡ list_any (differs (run l.fn.machine (replicate (l.turns - 1) l.hart)) l.machine) l.marks.watches.now;
   shape : KeepsShape l.fn.machine l.machine;
   marks : Marks l.fn.machine.memory l.machine.memory l.fn.written l.written;
 }

@@ -28,3 +28,9 @@ returns g c =
 
 pub collect-requires-send-Self : goal.collect-requires-send-Self
 collect-requires-send-Self g c κs within = search (shares, area.the_send, maps.the_send, ranges.the_send, crosses, sendable) depth 20
+
+pub map-requires-send-F : goal.map-requires-send-F
+map-requires-send-F g c κs = search (shares, area.the_send, crosses, sendable) depth 20
+
+pub map-requires-sync-F : goal.map-requires-sync-F
+map-requires-sync-F g c κs = search (shares, area.the_sync, crosses, sendable) depth 20

@@ -224,12 +224,12 @@ read-forward_pixel-requires t c =
 
 pub forward_pixel-after_of-requires : goal.forward_pixel-after_of-requires
 forward_pixel-after_of-requires t c =
-    let less = less_size c.args.scene.now c.args.own (c.args.updates + 1) c.args.number 2 4 (omega arith) in
+    let less = less_size c.args.scene.now c.args.own (c.args.updates + 1) c.args.progress.points 2 4 (omega arith) in
     (rw c.decreases at less, c.requires.tables)
 
 pub forward_pixel-stage_of-requires : goal.forward_pixel-stage_of-requires
 forward_pixel-stage_of-requires t c =
-    let less = less_updates c.args.scene.now c.args.own c.args.updates (c.args.updates + 1) (2 ^ 64) c.args.number 1 4 (omega arith) (omega arith) (omega arith) in
+    let less = less_updates c.args.scene.now c.args.own c.args.updates (c.args.updates + 1) (2 ^ 64) c.args.progress.points 1 4 (omega arith) (omega arith) (omega arith) in
     (rw c.decreases at less, c.requires.tables)
 
 -- ---- stage_of
@@ -263,30 +263,30 @@ pub over_forward-over_slice-requires : goal.over_forward-over_slice-requires
 over_forward-over_slice-requires t c =
     let known = rw c.in-Some.is at (c.known_slice.ensures c.args.scene.now.funcs.now c.args.scene.now.pictures.now c.requires.tables.known) in
     let less = less_size c.args.scene.now c.args.pass.own (c.args.pass.updates + 1) (2 ^ 64 - 1) 0 1 (omega arith) in
-    (rw c.decreases at less, (c.requires.tables, (c.requires.pass.is, (known.0, known.1))))
+    (rw c.decreases at less, (c.requires.tables, (c.requires.pass, (known.0, known.1))))
 
 pub over_forward-over_slice-requires-2 : goal.over_forward-over_slice-requires-2
 over_forward-over_slice-requires-2 t c =
     let less = less_size c.args.scene.now c.args.pass.own (c.args.pass.updates + 1) (2 ^ 64 - 1) 0 1 (omega arith) in
-    (rw c.decreases at less, (c.requires.tables, (c.requires.pass.is, (c.in_ok-slice.ensures.run, c.in_ok-slice.ensures.on))))
+    (rw c.decreases at less, (c.requires.tables, (c.requires.pass, (c.in_ok-slice.ensures.run, c.in_ok-slice.ensures.on))))
 
 pub over_slice-stage-requires : goal.over_slice-stage-requires
 over_slice-stage-requires t c =
-    let less = less_updates c.args.scene.now c.args.own c.args.updates (c.args.updates + 1) (2 ^ 64) (2 ^ 64 - 1) 0 0 (omega arith) (omega arith) (omega arith) in
-    (rw c.decreases at less, (c.requires.tables, c.requires.is))
+    let less = less_updates c.args.scene.now c.args.pass.own c.args.pass.updates (c.args.pass.updates + 1) (2 ^ 64) (2 ^ 64 - 1) 0 0 (omega arith) (omega arith) (omega arith) in
+    (rw c.decreases at less, (c.requires.tables, c.requires.pass.is))
 
 pub over_slice-returns-in-Some : goal.over_slice-returns-in-Some
 over_slice-returns-in-Some t c =
-    let now = stage_in c.args.scene.now.funcs.now c.args.scene.now.pictures.now c.args.own (c.args.updates + 1) c.args.x c.args.y in
-    let before = stage_in c.args.scene.now.funcs.now c.args.scene.now.pictures.now c.args.own c.args.updates c.args.x c.args.y in
+    let now = stage_in c.args.scene.now.funcs.now c.args.scene.now.pictures.now c.args.pass.own (c.args.pass.updates + 1) c.args.x c.args.y in
+    let before = stage_in c.args.scene.now.funcs.now c.args.scene.now.pictures.now c.args.pass.own c.args.pass.updates c.args.x c.args.y in
     subst (λ found. Holds found now before) (sym c.get.ensures ∙ c.in-Some.is) (c.requires.run.each c.args.x c.args.y (omega arith) (omega arith) c.requires.on)
 
 pub over_slice-returns-in_ok-pixel-in-None : goal.over_slice-returns-in_ok-pixel-in-None
 over_slice-returns-in_ok-pixel-in-None t c =
-    let now = stage_in c.args.scene.now.funcs.now c.args.scene.now.pictures.now c.args.own (c.args.updates + 1) c.args.x c.args.y in
-    let before = stage_in c.args.scene.now.funcs.now c.args.scene.now.pictures.now c.args.own c.args.updates c.args.x c.args.y in
+    let now = stage_in c.args.scene.now.funcs.now c.args.scene.now.pictures.now c.args.pass.own (c.args.pass.updates + 1) c.args.x c.args.y in
+    let before = stage_in c.args.scene.now.funcs.now c.args.scene.now.pictures.now c.args.pass.own c.args.pass.updates c.args.x c.args.y in
     let same = subst (λ found. Holds found now before) (sym c.get.ensures ∙ c.in-None.is) (c.requires.run.each c.args.x c.args.y (omega arith) (omega arith) c.requires.on) in
-    c.in_ok-pixel-in-None.ensures ∙ sym (stage_in-known c.args.scene.now c.args.own c.args.func.now c.args.updates c.args.x c.args.y c.requires.is) ∙ same
+    c.in_ok-pixel-in-None.ensures ∙ sym (stage_in-known c.args.scene.now c.args.pass.own c.args.pass.func.now c.args.pass.updates c.args.x c.args.y c.requires.pass.is) ∙ same
 
 -- ---- begun
 

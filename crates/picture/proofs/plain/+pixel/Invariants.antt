@@ -31,7 +31,7 @@ abbrev pub decreases-is_hit : goal.decreases-is_hit
 decreases-is_hit l = measure l.scene.now l.own 0 0 (all_nodes l.scene.now.funcs.now + 7)
 
 abbrev pub decreases-forward_pixel : goal.decreases-forward_pixel
-decreases-forward_pixel l = measure l.scene.now l.own (l.updates + 1) l.number 4
+decreases-forward_pixel l = measure l.scene.now l.own (l.updates + 1) l.progress.points 4
 
 abbrev pub decreases-stage_of : goal.decreases-stage_of
 decreases-stage_of l = measure l.scene.now l.own l.updates (2 ^ 64) 1
@@ -55,7 +55,7 @@ invariant-run_forward-loop-number l = record {
 }
 
 abbrev pub decreases-over_slice : goal.decreases-over_slice
-decreases-over_slice l = measure l.scene.now l.own (l.updates + 1) (2 ^ 64 - 1) 0
+decreases-over_slice l = measure l.scene.now l.pass.own (l.pass.updates + 1) (2 ^ 64 - 1) 0
 
 abbrev pub decreases-over_forward : goal.decreases-over_forward
 decreases-over_forward l = measure l.scene.now l.pass.own (l.pass.updates + 1) (2 ^ 64 - 1) 1
