@@ -7,6 +7,7 @@ pub mod Faults
 pub mod Judging
 pub mod Layout
 pub mod Verdict
+pub mod Plans
 pub mod Tasks
 pub mod Finding
 pub mod Parts

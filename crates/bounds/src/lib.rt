@@ -9,6 +9,7 @@
 //! - `readings`, `inference`, [`source_boxes`]: the boxes of all sources, from the output back
 //!   (`specs/Inference.antt`).
 //! - [`layout`]: where inputs, boxes and frames lie (`specs/Layout.antt`).
+//! - [`plan`]: a pipeline, its schedule and its boxes as one value (`specs/Plans.antt`).
 //! - [`tasks`]: how many tasks each phase has (`specs/Tasks.antt`).
 //! - [`sources`]: sources told apart.
 //! - [`laws`]: what each byte of the data is part of, by its address (`specs/Parts.antt`): a phase's control words, an
@@ -25,6 +26,7 @@ mod inference;
 pub mod judging;
 pub mod laws;
 pub mod layout;
+pub mod plan;
 mod readings;
 pub mod source_boxes;
 pub mod sources;
@@ -36,5 +38,6 @@ pub use crate::boxes::SourceBox;
 pub use crate::faults::BoundsFault;
 pub use crate::laws::{parts_are_found, parts_lie_within, roots_lie};
 pub use crate::layout::Layout;
+pub use crate::plan::Plan;
 pub use crate::source_boxes::SourceBoxes;
 pub use crate::verdict::{Boxes, infer};

@@ -22,7 +22,7 @@ ghost use Rattle.vector_codegen_laws.specs.Stages.{stages};
 
 use crate::data::image_data;
 use bounds::boxes::extents_of;
-use bounds::{Boxes, SourceBox};
+use bounds::{Boxes, Plan, SourceBox};
 use bounds_ranges::ranges::ORIGIN;
 use halide_pipeline::Pipeline;
 use loader::{Image, Output};
@@ -188,9 +188,11 @@ impl Compiled {
         let text = hrv_map::map_text(
             alloc,
             algorithm,
-            &self.pipeline,
-            &self.schedule,
-            &self.boxes,
+            &Plan {
+                pipeline: &self.pipeline,
+                schedule: &self.schedule,
+                boxes: &self.boxes,
+            },
             self.ends.as_slice(),
             self.stages.as_slice(),
         )?;

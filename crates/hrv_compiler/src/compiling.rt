@@ -5,6 +5,7 @@ ghost use Rattle.std.specs.List.{AllByRecursion};
 ghost use Rattle.schedule.specs.Accepted.{IsAccepted};
 ghost use Rattle.bounds_weights.specs.Need.{is_too_deep, needs as needed};
 ghost use Rattle.bounds_weights.specs.Weight.{most_weight, weight};
+ghost use Rattle.bounds.specs.Plans.{IsPlan};
 ghost use Rattle.bounds.specs.Verdict.{inferred};
 ghost use Rattle.memory.specs.Addresses.{most_words};
 ghost use Rattle.task_code_scalar.specs.Faults.{LieLow};
@@ -17,7 +18,7 @@ ghost use Rattle.hrv_compiler.specs.Verdict as spec;
 use crate::compiled::Compiled;
 use crate::faults::CompileFault;
 use crate::places::places;
-use bounds::{Boxes, infer};
+use bounds::{Boxes, Plan, infer};
 use bounds_weights::{needs, weigh};
 use halide_parser::parse;
 use halide_pipeline::Pipeline;
@@ -68,22 +69,16 @@ fn generated(alloc: Global, phases: &[Phase], places: &Places) -> Result<Program
 
 /// The program of the phases of a pipeline under a schedule whose expressions need no more registers than code is made
 /// for.
-fn words_of(
-    alloc: Global,
-    pipeline: &Pipeline,
-    schedule: &Schedule,
-    boxes: &Boxes,
-) -> Result<Program, CompileFault>
-    requires accepted { IsAccepted pipeline.now schedule.now }
-    requires boxes { inferred pipeline.now schedule.now ≡ Ok boxes.now }
-    requires light { weight pipeline.now schedule.now ≤ most_weight }
-    requires shallow { is_too_deep (needed pipeline.now schedule.now) ≡ false }
-    ensures ok { IfOk result (λ program. AreWordsOf pipeline.now schedule.now boxes.now program.words.items
-        program.ends.items) }
+fn words_of(alloc: Global, plan: &Plan<'_>) -> Result<Program, CompileFault>
+    requires plan { IsPlan plan.now }
+    requires light { weight plan.now.pipeline.now plan.now.schedule.now ≤ most_weight }
+    requires shallow { is_too_deep (needed plan.now.pipeline.now plan.now.schedule.now) ≡ false }
+    ensures ok { IfOk result (λ program. AreWordsOf plan.now.pipeline.now plan.now.schedule.now plan.now.boxes.now
+        program.words.items program.ends.items) }
     ensures err { IfErr result (λ fault. fault ≡ faults.Memory) }
 {
-    let phases = lower(alloc, pipeline, schedule, boxes)?;
-    let places = places(alloc, pipeline, schedule, boxes)?;
+    let phases = lower(alloc, plan.pipeline, plan.schedule, plan.boxes)?;
+    let places = places(alloc, plan)?;
     let program = generated(alloc, phases.as_slice(), &places)?;
     Ok(program)
 }
@@ -101,7 +96,14 @@ fn built(alloc: Global, pipeline: Pipeline, schedule: Schedule) -> Result<Compil
         words,
         ends,
         stages,
-    } = words_of(alloc, &pipeline, &schedule, &boxes)?;
+    } = words_of(
+        alloc,
+        &Plan {
+            pipeline: &pipeline,
+            schedule: &schedule,
+            boxes: &boxes,
+        },
+    )?;
     Ok(Compiled {
         pipeline,
         schedule,

@@ -1,18 +1,17 @@
 //! Where the buffers of a pipeline lie, for the code of its tasks.
 
-ghost use Rattle.std.specs.Prelude.{◌≡◌, ◌≤◌, ◌*◌, IfOk, Ok};
+ghost use Rattle.std.specs.Prelude.{◌≡◌, ◌≤◌, ◌*◌, IfOk};
 ghost use Rattle.halide_pipeline.specs.WellFormed.{most_points};
-ghost use Rattle.schedule.specs.Accepted.{IsAccepted};
 ghost use Rattle.bounds.specs.Boxes.{AreBoxes, IsBox, IsBoxOrNone, extent, points};
-ghost use Rattle.bounds.specs.Verdict.{inferred};
+ghost use Rattle.bounds.specs.Plans.{IsPlan};
 ghost use Rattle.task_code_scalar.specs.Code as code;
 ghost use Rattle.vector_codegen_laws.specs.Places as spec;
 ghost use Rattle.hrv_compiler.specs.Addresses.{AreAddresses, HasFewPoints, HaveFewPoints, IsAddress};
 
 use bounds::boxes::{extents_of, points};
-use bounds::{Boxes, SourceBox};
-use halide_pipeline::{Input, Pipeline};
-use schedule::{Place as Standpoint, Schedule, Standing};
+use bounds::{Plan, SourceBox};
+use halide_pipeline::Input;
+use schedule::{Place as Standpoint, Standing};
 use sqlite_items::Items;
 use std::alloc::{AllocError, Global};
 use task_code_scalar::places::{Pixels, Place, Places};
@@ -131,30 +130,23 @@ fn func_places(
     Ok(places)
 }
 
-/// Where the buffers of a pipeline lie, of which a schedule was read for it and boxes inferred for both: at the
-/// layout's addresses.
+/// Where the buffers of a plan lie: at the layout's addresses.
 ///
 /// # Errors
 ///
 /// Memory ran out.
 #[tactic(auto, using(crate::proofs::Low::have_few, crate::proofs::Low::inputs_low))]
-pub fn places(
-    alloc: Global,
-    pipeline: &Pipeline,
-    schedule: &Schedule,
-    boxes: &Boxes,
-) -> Result<Places, AllocError>
-    requires accepted { IsAccepted pipeline.now schedule.now }
-    requires boxes { inferred pipeline.now schedule.now ≡ Ok boxes.now }
-    ensures { IfOk result (λ places. places ≡ spec.places_of pipeline.now schedule.now boxes.now.funcs
-        boxes.now.layout) }
+pub fn places(alloc: Global, plan: &Plan<'_>) -> Result<Places, AllocError>
+    requires plan { IsPlan plan.now }
+    ensures { IfOk result (λ places. places ≡ spec.places_of plan.now.pipeline.now plan.now.schedule.now
+        plan.now.boxes.now.funcs plan.now.boxes.now.layout) }
 {
-    let layout = &boxes.layout;
-    let inputs = input_places(alloc, layout.inputs.as_slice(), pipeline.inputs())?;
+    let layout = &plan.boxes.layout;
+    let inputs = input_places(alloc, layout.inputs.as_slice(), plan.pipeline.inputs())?;
     let funcs = func_places(
         alloc,
-        schedule.standings.as_slice(),
-        boxes.funcs.as_slice(),
+        plan.schedule.standings.as_slice(),
+        plan.boxes.funcs.as_slice(),
         layout.roots.as_slice(),
         layout.privates.as_slice(),
     )?;

@@ -9,7 +9,7 @@ use crate::areas::{area_text, func_area, input_area};
 use crate::names::name_at;
 use bounds::boxes::points;
 use bounds::layout::{DATA_START, FRAME};
-use bounds::{Boxes, Layout, SourceBox};
+use bounds::{Boxes, Layout, Plan, SourceBox};
 use disassembler::push_hexadecimal;
 use halide_pipeline::{Func, Input};
 use schedule::{LoopPlace, Place, Schedule};
@@ -159,29 +159,35 @@ fn copies_text(alloc: Global, distance: u64) -> Result<String, AllocError>
     Ok(text)
 }
 
+/// A loop that a Func is computed at, by names.
+#[derive(Clone, Copy)]
+struct NamedLoop<'a> {
+    consumer: &'a [u8],
+    name: &'a [u8],
+}
+
 /// `func NAME at CONSUMER LOOP`, where the box of hart 0 lies, and how far the others'.
 #[tactic(auto, unfolding(crate::specs::Lines::copies_line))]
 fn push_copies_line(
     alloc: Global,
     out: &mut Vec<u8>,
     name: &[u8],
-    consumer: &[u8],
-    inside: &[u8],
+    around: &NamedLoop<'_>,
     at: u64,
     own: &SourceBox,
 ) -> Result<(), AllocError>
     requires { IsBox own.now }
-    ensures { OnOk result (out.new.items ≡ out.old.items ++ spec.copies_line name.now consumer.now inside.now at
-        own.now) }
+    ensures { OnOk result (out.new.items ≡ out.old.items ++ spec.copies_line name.now around.now.consumer.now
+        around.now.name.now at own.now) }
 {
     let area = area_text(alloc, func_area(at, own))?;
     let copies = copies_text(alloc, 4 * points(own))?;
     out.extend_from_slice(b"func ")?;
     out.extend_from_slice(name)?;
     out.extend_from_slice(b" at ")?;
-    out.extend_from_slice(consumer)?;
+    out.extend_from_slice(around.consumer)?;
     out.extend_from_slice(b" ")?;
-    out.extend_from_slice(inside)?;
+    out.extend_from_slice(around.name)?;
     out.extend_from_slice(area.as_bytes())?;
     out.extend_from_slice(copies.as_bytes())?;
     Ok(())
@@ -223,22 +229,22 @@ fn push_copies(
     alloc: Global,
     out: &mut Vec<u8>,
     names: &Items<Items<u8>>,
-    schedule: &Schedule,
-    boxes: &Boxes,
+    plan: &Plan<'_>,
     place: usize,
     at: LoopPlace,
 ) -> Result<(), AllocError>
-    ensures { OnOk result (out.new.items ≡ out.old.items ++ spec.copies_if names.now schedule.now boxes.now place at
-        (box_in (slice_get boxes.now.funcs place))) }
+    ensures { OnOk result (out.new.items ≡ out.old.items ++ spec.copies_if names.now plan.now.schedule.now
+        plan.now.boxes.now place at (box_in (slice_get plan.now.boxes.now.funcs place))) }
 {
-    let Some(own) = box_at(boxes.funcs.as_slice(), place) else {
+    let Some(own) = box_at(plan.boxes.funcs.as_slice(), place) else {
         return Ok(());
     };
-    let inside = loop_name_in(at.inside, schedule, at.func);
-    let address = address_at(&boxes.layout.privates, place);
-    let name = name_at(names, place);
-    let consumer = name_at(names, at.func);
-    push_copies_line(alloc, out, name, consumer, inside, address, &own)?;
+    let around = NamedLoop {
+        consumer: name_at(names, at.func),
+        name: loop_name_in(at.inside, plan.schedule, at.func),
+    };
+    let address = address_at(&plan.boxes.layout.privates, place);
+    push_copies_line(alloc, out, name_at(names, place), &around, address, &own)?;
     Ok(())
 }
 
@@ -248,18 +254,18 @@ fn push_func_line(
     alloc: Global,
     out: &mut Vec<u8>,
     names: &Items<Items<u8>>,
-    schedule: &Schedule,
-    boxes: &Boxes,
+    plan: &Plan<'_>,
     place: usize,
 ) -> Result<(), AllocError>
-    ensures { OnOk result (out.new.items ≡ out.old.items ++ spec.func_line names.now schedule.now boxes.now place) }
+    ensures { OnOk result (out.new.items ≡ out.old.items ++ spec.func_line names.now plan.now.schedule.now
+        plan.now.boxes.now place) }
 {
-    let Some(standing) = schedule.standing(place) else {
+    let Some(standing) = plan.schedule.standing(place) else {
         return Ok(());
     };
     match standing.place {
-        Place::Root => push_root(alloc, out, names, boxes, place)?,
-        Place::At(at) => push_copies(alloc, out, names, schedule, boxes, place, at)?,
+        Place::Root => push_root(alloc, out, names, plan.boxes, place)?,
+        Place::At(at) => push_copies(alloc, out, names, plan, place, at)?,
         Place::Inlined | Place::Nowhere => {}
     }
     Ok(())
@@ -271,20 +277,20 @@ pub(crate) fn push_func_lines(
     alloc: Global,
     out: &mut Vec<u8>,
     names: &Items<Items<u8>>,
-    schedule: &Schedule,
-    boxes: &Boxes,
+    plan: &Plan<'_>,
     place: usize,
     funcs: &[Func],
 ) -> Result<(), AllocError>
     requires { place + length funcs.now < 2 ^ 64 }
-    ensures { OnOk result (out.new.items ≡ out.old.items ++ spec.func_lines names.now schedule.now boxes.now place
+    ensures { OnOk result (out.new.items ≡ out.old.items ++ spec.func_lines names.now plan.now.schedule.now
+        plan.now.boxes.now place
         funcs.now) }
 {
     let [_, others @ ..] = funcs else {
         return Ok(());
     };
-    push_func_line(alloc, out, names, schedule, boxes, place)?;
-    push_func_lines(alloc, out, names, schedule, boxes, place + 1, others)?;
+    push_func_line(alloc, out, names, plan, place)?;
+    push_func_lines(alloc, out, names, plan, place + 1, others)?;
     Ok(())
 }
 

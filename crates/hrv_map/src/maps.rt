@@ -8,9 +8,7 @@ ghost use Rattle.hrv_map.specs.Maps as spec;
 use crate::lines::{control_line, push_frames_line, push_func_lines, push_input_lines};
 use crate::names::{Names, names_of};
 use crate::phases::{CodePhase, push_phase_lines, push_phases, push_tasks, stages_of};
-use bounds::Boxes;
-use halide_pipeline::Pipeline;
-use schedule::Schedule;
+use bounds::Plan;
 use std::alloc::{AllocError, Global};
 use task_code_statements::stages::CodeStage;
 
@@ -41,15 +39,14 @@ fn push_layout(
     alloc: Global,
     out: &mut Vec<u8>,
     names: &Names,
-    pipeline: &Pipeline,
-    schedule: &Schedule,
-    boxes: &Boxes,
+    plan: &Plan<'_>,
 ) -> Result<(), AllocError>
-    requires { boxes.now.layout.phases ≤ 4194304 }
-    ensures { OnOk result (out.new.items ≡ out.old.items ++ spec.layout_text names.now pipeline.now schedule.now
-        boxes.now) }
+    requires { plan.now.boxes.now.layout.phases ≤ 4194304 }
+    ensures { OnOk result (out.new.items ≡ out.old.items ++ spec.layout_text names.now plan.now.pipeline.now
+        plan.now.schedule.now
+        plan.now.boxes.now) }
 {
-    let layout = &boxes.layout;
+    let layout = &plan.boxes.layout;
     push_control_lines(alloc, out, layout.phases)?;
     push_input_lines(
         alloc,
@@ -57,43 +54,23 @@ fn push_layout(
         &names.inputs,
         &layout.inputs,
         0,
-        pipeline.inputs(),
+        plan.pipeline.inputs(),
     )?;
-    push_func_lines(
-        alloc,
-        out,
-        &names.funcs,
-        schedule,
-        boxes,
-        0,
-        pipeline.funcs(),
-    )?;
+    push_func_lines(alloc, out, &names.funcs, plan, 0, plan.pipeline.funcs())?;
     push_frames_line(alloc, out, layout)?;
     Ok(())
 }
 
 /// The phases in the order of their code.
 #[tactic(auto, unfolding(crate::specs::Maps::phases_of))]
-fn phases_of(
-    alloc: Global,
-    pipeline: &Pipeline,
-    schedule: &Schedule,
-    boxes: &Boxes,
-    ends: &[u32],
-) -> Result<Vec<CodePhase>, AllocError>
-    requires { IsAccepted pipeline.now schedule.now }
-    ensures { IfOk result (λ phases. phases.items ≡ spec.phases_of pipeline.now schedule.now boxes.now ends.now) }
+fn phases_of(alloc: Global, plan: &Plan<'_>, ends: &[u32]) -> Result<Vec<CodePhase>, AllocError>
+    requires { IsAccepted plan.now.pipeline.now plan.now.schedule.now }
+    ensures { IfOk result (λ phases. phases.items ≡ spec.phases_of plan.now.pipeline.now plan.now.schedule.now
+        plan.now.boxes.now ends.now) }
 {
-    let stages = stages_of(alloc, pipeline, schedule, boxes)?;
+    let stages = stages_of(alloc, plan)?;
     let mut tasks = Vec::new(alloc);
-    push_tasks(
-        alloc,
-        &mut tasks,
-        pipeline,
-        schedule,
-        boxes,
-        stages.as_slice(),
-    )?;
+    push_tasks(alloc, &mut tasks, plan, stages.as_slice())?;
     let mut phases = Vec::new(alloc);
     push_phases(&mut phases, 0, 0, stages.as_slice(), tasks.as_slice(), ends)?;
     Ok(phases)
@@ -111,21 +88,20 @@ fn phases_of(
 pub fn map_text(
     alloc: Global,
     algorithm: &str,
-    pipeline: &Pipeline,
-    schedule: &Schedule,
-    boxes: &Boxes,
+    plan: &Plan<'_>,
     ends: &[u32],
     stages: &[CodeStage],
 ) -> Result<Vec<u8>, AllocError>
-    requires accepted { IsAccepted pipeline.now schedule.now }
-    requires phases { boxes.now.layout.phases ≤ 4194304 }
-    ensures { IfOk result (λ text. text.items ≡ spec.map_text algorithm.now pipeline.now schedule.now boxes.now
+    requires accepted { IsAccepted plan.now.pipeline.now plan.now.schedule.now }
+    requires phases { plan.now.boxes.now.layout.phases ≤ 4194304 }
+    ensures { IfOk result (λ text. text.items ≡ spec.map_text algorithm.now plan.now.pipeline.now plan.now.schedule.now
+        plan.now.boxes.now
         ends.now stages.now) }
 {
     let names = names_of(alloc, algorithm)?;
-    let phases = phases_of(alloc, pipeline, schedule, boxes, ends)?;
+    let phases = phases_of(alloc, plan, ends)?;
     let mut out = Vec::new(alloc);
-    push_layout(alloc, &mut out, &names, pipeline, schedule, boxes)?;
+    push_layout(alloc, &mut out, &names, plan)?;
     push_phase_lines(alloc, &mut out, &names.funcs, phases.as_slice(), stages)?;
     Ok(out)
 }

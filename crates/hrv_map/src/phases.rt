@@ -15,10 +15,10 @@ ghost use Rattle.hrv_map.specs.Stages.{phase_lines};
 use crate::lines::box_at;
 use crate::names::name_at;
 use crate::stages::push_stage_lines;
-use bounds::Boxes;
 use bounds::tasks::tasks;
+use bounds::{Boxes, Plan};
 use disassembler::push_hexadecimal;
-use halide_pipeline::{Func, Pipeline, Update};
+use halide_pipeline::{Func, Update};
 use memory::TEXT_START;
 use schedule::{Place, Schedule};
 use schedule_lines::stages::StageName;
@@ -127,32 +127,35 @@ fn push_stages(
 }
 
 /// The stages that are phases, in order.
-pub(crate) fn stages_of(
-    alloc: Global,
-    pipeline: &Pipeline,
-    schedule: &Schedule,
-    boxes: &Boxes,
-) -> Result<Vec<StageName>, AllocError>
-    ensures { IfOk result (λ stages. stages.items ≡ spec.stages_from schedule.now boxes.now 0 pipeline.now.funcs) }
+pub(crate) fn stages_of(alloc: Global, plan: &Plan<'_>) -> Result<Vec<StageName>, AllocError>
+    ensures { IfOk result (λ stages. stages.items ≡ spec.stages_from plan.now.schedule.now plan.now.boxes.now 0
+        plan.now.pipeline.now.funcs) }
 {
     let mut stages = Vec::new(alloc);
-    push_stages(&mut stages, schedule, boxes, 0, pipeline.funcs())?;
+    push_stages(
+        &mut stages,
+        plan.schedule,
+        plan.boxes,
+        0,
+        plan.pipeline.funcs(),
+    )?;
     Ok(stages)
 }
 
 /// How many tasks the phase of a stage has.
-fn tasks_of(
-    alloc: Global,
-    pipeline: &Pipeline,
-    schedule: &Schedule,
-    boxes: &Boxes,
-    stage: StageName,
-) -> Result<u32, AllocError>
-    requires { IsAccepted pipeline.now schedule.now }
-    ensures { IfOk result (λ count. count ≡ unwrap_or (counts.tasks pipeline.now schedule.now boxes.now.funcs stage)
+fn tasks_of(alloc: Global, plan: &Plan<'_>, stage: StageName) -> Result<u32, AllocError>
+    requires { IsAccepted plan.now.pipeline.now plan.now.schedule.now }
+    ensures { IfOk result (λ count. count ≡ unwrap_or (counts.tasks plan.now.pipeline.now plan.now.schedule.now
+        plan.now.boxes.now.funcs stage)
         0) }
 {
-    let count = tasks(alloc, pipeline, schedule, &boxes.funcs, stage)?;
+    let count = tasks(
+        alloc,
+        plan.pipeline,
+        plan.schedule,
+        &plan.boxes.funcs,
+        stage,
+    )?;
     Ok(count.unwrap_or(0))
 }
 
@@ -161,21 +164,20 @@ fn tasks_of(
 pub(crate) fn push_tasks(
     alloc: Global,
     list: &mut Vec<u32>,
-    pipeline: &Pipeline,
-    schedule: &Schedule,
-    boxes: &Boxes,
+    plan: &Plan<'_>,
     stages: &[StageName],
 ) -> Result<(), AllocError>
-    requires { IsAccepted pipeline.now schedule.now }
-    ensures { OnOk result (list.new.items ≡ list.old.items ++ spec.tasks_each pipeline.now schedule.now boxes.now
+    requires { IsAccepted plan.now.pipeline.now plan.now.schedule.now }
+    ensures { OnOk result (list.new.items ≡ list.old.items ++ spec.tasks_each plan.now.pipeline.now
+        plan.now.schedule.now plan.now.boxes.now
         stages.now) }
 {
     let [stage, others @ ..] = stages else {
         return Ok(());
     };
-    let count = tasks_of(alloc, pipeline, schedule, boxes, *stage)?;
+    let count = tasks_of(alloc, plan, *stage)?;
     list.push(count)?;
-    push_tasks(alloc, list, pipeline, schedule, boxes, others)?;
+    push_tasks(alloc, list, plan, others)?;
     Ok(())
 }
 

@@ -11,7 +11,6 @@ pub mod HostedFuncs
 pub mod PurePhases
 pub mod Hosting
 pub mod Updates
-pub mod Bounded
 pub mod Lowered
 pub mod Using
 pub mod Rounds

@@ -1,17 +1,8 @@
-//! What stands around a stage that is lowered.
+//! A Func that is lowered, with what is known of it.
 
-use bounds::{Boxes, SourceBox};
-use halide_pipeline::{Func, Pipeline};
-use schedule::{FuncPlan, Schedule};
-
-/// A pipeline, a schedule and boxes: where it is an `IsBounded` (`specs/Bounded.antt`) the schedule is accepted, and the
-/// boxes are those that are inferred.
-#[derive(Clone, Copy)]
-pub struct Bounded<'a> {
-    pub pipeline: &'a Pipeline,
-    pub schedule: &'a Schedule,
-    pub boxes: &'a Boxes,
-}
+use bounds::SourceBox;
+use halide_pipeline::Func;
+use schedule::FuncPlan;
 
 /// A Func that is computed.
 #[derive(Clone, Copy)]

@@ -13,7 +13,7 @@ ghost use Rattle.loop_ir.specs.Runs.{is_about};
 ghost use Rattle.loop_ir.specs.Sizes.{whole_size};
 ghost use Rattle.bounds_weights.specs.Weight.{flags_of};
 ghost use Rattle.lowering_nests.specs.Nests.{AreFew};
-ghost use Rattle.lowering.specs.Bounded.{IsBounded};
+ghost use Rattle.bounds.specs.Plans.{IsPlan};
 ghost use Rattle.lowering.specs.HostedFuncs as hosted;
 ghost use Rattle.lowering.specs.Hosting as spec;
 ghost use Rattle.lowering.specs.PurePhases.{IsComputedAt, inside_of};
@@ -22,11 +22,11 @@ ghost use Rattle.lowering.specs.Rounds.{MayAlwaysBeAtOnce};
 ghost use Rattle.lowering.specs.Sizes.{shares};
 ghost use Rattle.lowering.specs.Updates.{IsUpdateAt};
 
-use crate::computed::{Bounded, ComputedFunc};
+use crate::computed::ComputedFunc;
 use crate::corners::{corner_at, corners_of};
 use crate::nests::pure_nest;
 use crate::updates::{UpdateOf, update_nest};
-use bounds::SourceBox;
+use bounds::{Plan, SourceBox};
 use loop_ir::statements::Stmt;
 use lowering_nests::loops::loop_once;
 use lowering_nests::splits::with_splits;
@@ -121,47 +121,47 @@ pub fn box_at(boxes: &[Option<SourceBox>], place: usize) -> Option<&SourceBox>
 /// The nest of an update of a Func that is computed at a loop, behind the nests of the stages before it.
 fn with_update(
     alloc: Global,
-    bounded: &Bounded<'_>,
+    plan: &Plan<'_>,
     at: LoopPlace,
     of: &UpdateOf<'_>,
     before: Stmt,
 ) -> Result<Stmt, AllocError>
-    requires bounded { IsBounded bounded.now }
-    requires parts { IsComputedAt bounded.now.pipeline.now bounded.now.schedule.now bounded.now.boxes.now (places.At at)
+    requires plan { IsPlan plan.now }
+    requires parts { IsComputedAt plan.now.pipeline.now plan.now.schedule.now plan.now.boxes.now (places.At at)
         of.now.computed.place of.now.computed.func.now of.now.computed.plan.now of.now.computed.own.now }
-    requires update { IsUpdateAt bounded.now.schedule.now of.now.computed.place of.now.computed.func.now
+    requires update { IsUpdateAt plan.now.schedule.now of.now.computed.place of.now.computed.func.now
         of.now.computed.plan.now of.now.at of.now.update.now of.now.stage.now }
-    requires before { spec.DoesNests bounded.now.pipeline.now bounded.now.schedule.now bounded.now.boxes.now at
+    requires before { spec.DoesNests plan.now.pipeline.now plan.now.schedule.now plan.now.boxes.now at
         of.now.computed.place of.now.computed.func.now of.now.computed.own.now of.now.at before }
     requires alone { spec.StoresInIt of.now.computed.place before }
-    requires sound { spec.IsSoundNest bounded.now.pipeline.now bounded.now.schedule.now bounded.now.boxes.now at
+    requires sound { spec.IsSoundNest plan.now.pipeline.now plan.now.schedule.now plan.now.boxes.now at
         of.now.computed.place of.now.computed.func.now of.now.computed.own.now before }
     requires few { depth before ≤ 9 }
-    requires needs { greatest_need before ≤ most_need bounded.now.pipeline.now bounded.now.schedule.now }
-    requires sizes { whole_size before ≤ 64 * shares (flags_of bounded.now.schedule.now.standings)
-        bounded.now.pipeline.now.funcs of.now.computed.func.now of.now.computed.plan.now of.now.at }
+    requires needs { greatest_need before ≤ most_need plan.now.pipeline.now plan.now.schedule.now }
+    requires sizes { whole_size before ≤ 64 * shares (flags_of plan.now.schedule.now.standings)
+        plan.now.pipeline.now.funcs of.now.computed.func.now of.now.computed.plan.now of.now.at }
     requires at_once { MayAlwaysBeAtOnce before }
     requires about { is_about of.now.computed.place before ≡ true }
-    ensures does { IfOk result (spec.DoesNests bounded.now.pipeline.now bounded.now.schedule.now bounded.now.boxes.now
+    ensures does { IfOk result (spec.DoesNests plan.now.pipeline.now plan.now.schedule.now plan.now.boxes.now
         at of.now.computed.place of.now.computed.func.now of.now.computed.own.now (suc of.now.at)) }
     ensures alone { IfOk result (spec.StoresInIt of.now.computed.place) }
-    ensures sound { IfOk result (spec.IsSoundNest bounded.now.pipeline.now bounded.now.schedule.now
-        bounded.now.boxes.now at of.now.computed.place of.now.computed.func.now of.now.computed.own.now) }
+    ensures sound { IfOk result (spec.IsSoundNest plan.now.pipeline.now plan.now.schedule.now
+        plan.now.boxes.now at of.now.computed.place of.now.computed.func.now of.now.computed.own.now) }
     ensures few { IfOk result (λ made. depth made ≤ 9) }
-    ensures needs { IfOk result (λ made. greatest_need made ≤ most_need bounded.now.pipeline.now
-        bounded.now.schedule.now) }
-    ensures sizes { IfOk result (λ made. whole_size made ≤ 64 * shares (flags_of bounded.now.schedule.now.standings)
-        bounded.now.pipeline.now.funcs of.now.computed.func.now of.now.computed.plan.now (suc of.now.at)) }
+    ensures needs { IfOk result (λ made. greatest_need made ≤ most_need plan.now.pipeline.now
+        plan.now.schedule.now) }
+    ensures sizes { IfOk result (λ made. whole_size made ≤ 64 * shares (flags_of plan.now.schedule.now.standings)
+        plan.now.pipeline.now.funcs of.now.computed.func.now of.now.computed.plan.now (suc of.now.at)) }
     ensures at_once { IfOk result MayAlwaysBeAtOnce }
     ensures about { IfOk result (λ made. is_about of.now.computed.place made ≡ true) }
 {
-    let plans = bounded.schedule.funcs.as_slice();
-    let standings = bounded.schedule.standings.as_slice();
-    let corners = corners_of(alloc, plans, bounded.boxes.funcs.as_slice(), standings)?;
+    let plans = plan.schedule.funcs.as_slice();
+    let standings = plan.schedule.standings.as_slice();
+    let corners = corners_of(alloc, plans, plan.boxes.funcs.as_slice(), standings)?;
     let Some(corner) = corner_at(&corners, of.computed.place) else {
         return Ok(before);
     };
-    let next = update_nest(alloc, bounded, &corners, corner, of)?;
+    let next = update_nest(alloc, plan, &corners, corner, of)?;
     let made = in_order(alloc, Some(before), next)?;
     Ok(made)
 }
@@ -170,33 +170,33 @@ fn with_update(
 /// other.
 fn nests_upto(
     alloc: Global,
-    bounded: &Bounded<'_>,
+    plan: &Plan<'_>,
     at: LoopPlace,
     computed: &ComputedFunc<'_>,
     count: usize,
 ) -> Result<Stmt, AllocError>
-    requires bounded { IsBounded bounded.now }
-    requires parts { IsComputedAt bounded.now.pipeline.now bounded.now.schedule.now bounded.now.boxes.now (places.At at)
+    requires plan { IsPlan plan.now }
+    requires parts { IsComputedAt plan.now.pipeline.now plan.now.schedule.now plan.now.boxes.now (places.At at)
         computed.now.place computed.now.func.now computed.now.plan.now computed.now.own.now }
     requires count { count ≤ length computed.now.func.now.updates }
-    ensures does { IfOk result (spec.DoesNests bounded.now.pipeline.now bounded.now.schedule.now bounded.now.boxes.now
+    ensures does { IfOk result (spec.DoesNests plan.now.pipeline.now plan.now.schedule.now plan.now.boxes.now
         at computed.now.place computed.now.func.now computed.now.own.now count) }
     ensures alone { IfOk result (spec.StoresInIt computed.now.place) }
-    ensures sound { IfOk result (spec.IsSoundNest bounded.now.pipeline.now bounded.now.schedule.now
-        bounded.now.boxes.now at computed.now.place computed.now.func.now computed.now.own.now) }
+    ensures sound { IfOk result (spec.IsSoundNest plan.now.pipeline.now plan.now.schedule.now
+        plan.now.boxes.now at computed.now.place computed.now.func.now computed.now.own.now) }
     ensures few { IfOk result (λ made. depth made ≤ 9) }
-    ensures needs { IfOk result (λ made. greatest_need made ≤ most_need bounded.now.pipeline.now
-        bounded.now.schedule.now) }
-    ensures sizes { IfOk result (λ made. whole_size made ≤ 64 * shares (flags_of bounded.now.schedule.now.standings)
-        bounded.now.pipeline.now.funcs computed.now.func.now computed.now.plan.now count) }
+    ensures needs { IfOk result (λ made. greatest_need made ≤ most_need plan.now.pipeline.now
+        plan.now.schedule.now) }
+    ensures sizes { IfOk result (λ made. whole_size made ≤ 64 * shares (flags_of plan.now.schedule.now.standings)
+        plan.now.pipeline.now.funcs computed.now.func.now computed.now.plan.now count) }
     ensures at_once { IfOk result MayAlwaysBeAtOnce }
     ensures about { IfOk result (λ made. is_about computed.now.place made ≡ true) }
 {
     let Some(number) = count.checked_sub(1) else {
-        let made = pure_nest(alloc, bounded, at, computed)?;
+        let made = pure_nest(alloc, plan, at, computed)?;
         return Ok(made);
     };
-    let before = nests_upto(alloc, bounded, at, computed, number)?;
+    let before = nests_upto(alloc, plan, at, computed, number)?;
     let Some(update) = computed.func.updates.get(number) else {
         return Ok(before);
     };
@@ -209,61 +209,61 @@ fn nests_upto(
         update,
         stage,
     };
-    let made = with_update(alloc, bounded, at, &of, before)?;
+    let made = with_update(alloc, plan, at, &of, before)?;
     Ok(made)
 }
 
 /// The nests of the stages of a Func that is computed at a loop, one after the other.
 fn stage_nests(
     alloc: Global,
-    bounded: &Bounded<'_>,
+    plan: &Plan<'_>,
     at: LoopPlace,
     computed: &ComputedFunc<'_>,
 ) -> Result<Stmt, AllocError>
-    requires bounded { IsBounded bounded.now }
-    requires parts { IsComputedAt bounded.now.pipeline.now bounded.now.schedule.now bounded.now.boxes.now (places.At at)
+    requires plan { IsPlan plan.now }
+    requires parts { IsComputedAt plan.now.pipeline.now plan.now.schedule.now plan.now.boxes.now (places.At at)
         computed.now.place computed.now.func.now computed.now.plan.now computed.now.own.now }
-    ensures { IfOk result (λ made. spec.IsNestOf bounded.now.pipeline.now bounded.now.schedule.now bounded.now.boxes.now
+    ensures { IfOk result (λ made. spec.IsNestOf plan.now.pipeline.now plan.now.schedule.now plan.now.boxes.now
         at computed.now.place made) }
 {
     let count = computed.func.updates.len();
-    let made = nests_upto(alloc, bounded, at, computed, count)?;
+    let made = nests_upto(alloc, plan, at, computed, count)?;
     Ok(made)
 }
 
 /// The nests of the Func at a place, if it is computed at this loop.
 fn nests_of(
     alloc: Global,
-    bounded: &Bounded<'_>,
+    plan: &Plan<'_>,
     at: LoopPlace,
     place: usize,
 ) -> Result<Option<Stmt>, AllocError>
-    requires bounded { IsBounded bounded.now }
-    ensures { IfOk result (spec.IsNestAt bounded.now.pipeline.now bounded.now.schedule.now bounded.now.boxes.now at
+    requires plan { IsPlan plan.now }
+    ensures { IfOk result (spec.IsNestAt plan.now.pipeline.now plan.now.schedule.now plan.now.boxes.now at
         place) }
 {
-    let Some(standing) = bounded.schedule.standing(place) else {
+    let Some(standing) = plan.schedule.standing(place) else {
         return Ok(None);
     };
     if !is_computed_at(at, standing) {
         return Ok(None);
     }
-    let Some(func) = bounded.pipeline.func(place) else {
+    let Some(func) = plan.pipeline.func(place) else {
         return Ok(None);
     };
-    let Some(plan) = bounded.schedule.funcs.get(place) else {
+    let Some(func_plan) = plan.schedule.funcs.get(place) else {
         return Ok(None);
     };
-    let Some(own) = box_at(bounded.boxes.funcs.as_slice(), place) else {
+    let Some(own) = box_at(plan.boxes.funcs.as_slice(), place) else {
         return Ok(None);
     };
     let computed = ComputedFunc {
         place,
         func,
-        plan,
+        plan: func_plan,
         own,
     };
-    let made = stage_nests(alloc, bounded, at, &computed)?;
+    let made = stage_nests(alloc, plan, at, &computed)?;
     Ok(Some(made))
 }
 
@@ -284,20 +284,20 @@ fn in_order(alloc: Global, first: Option<Stmt>, rest: Stmt) -> Result<Stmt, Allo
 /// The nests of the Funcs from a place on that are computed at a loop, in order, and then what stands inside.
 fn nests_before(
     alloc: Global,
-    bounded: &Bounded<'_>,
+    plan: &Plan<'_>,
     at: LoopPlace,
     from: usize,
     inside: Stmt,
 ) -> Result<Stmt, AllocError>
-    requires bounded { IsBounded bounded.now }
-    ensures { IfOk result (λ made. spec.HasNests bounded.now.pipeline.now bounded.now.schedule.now bounded.now.boxes.now
+    requires plan { IsPlan plan.now }
+    ensures { IfOk result (λ made. spec.HasNests plan.now.pipeline.now plan.now.schedule.now plan.now.boxes.now
         at from inside made) }
 {
-    if bounded.schedule.standings.len() <= from {
+    if plan.schedule.standings.len() <= from {
         return Ok(inside);
     }
-    let rest = nests_before(alloc, bounded, at, from + 1, inside)?;
-    let found = nests_of(alloc, bounded, at, from)?;
+    let rest = nests_before(alloc, plan, at, from + 1, inside)?;
+    let found = nests_of(alloc, plan, at, from)?;
     let made = in_order(alloc, found, rest)?;
     Ok(made)
 }
@@ -306,27 +306,27 @@ fn nests_before(
 /// computed at it.
 fn loops_around(
     alloc: Global,
-    bounded: &Bounded<'_>,
+    plan: &Plan<'_>,
     host: usize,
     sizes: &LoopSizes,
     loops: &[Loop],
     leaf: Stmt,
 ) -> Result<Stmt, AllocError>
-    requires bounded { IsBounded bounded.now }
+    requires plan { IsPlan plan.now }
     requires splits { AreSplits sizes.now.splits }
     requires few { AreFew sizes.now.extents }
-    ensures { IfOk result (λ made. spec.HasLoops bounded.now.pipeline.now bounded.now.schedule.now bounded.now.boxes.now
+    ensures { IfOk result (λ made. spec.HasLoops plan.now.pipeline.now plan.now.schedule.now plan.now.boxes.now
         host (counts sizes.now.extents sizes.now.splits) leaf loops.now made) }
 {
     match loops {
         [] => Ok(leaf),
         [inside @ .., own] => {
-            let inner = loops_around(alloc, bounded, host, sizes, inside, leaf)?;
+            let inner = loops_around(alloc, plan, host, sizes, inside, leaf)?;
             let at = LoopPlace {
                 func: host,
                 inside: own.id,
             };
-            let body = nests_before(alloc, bounded, at, 0, inner)?;
+            let body = nests_before(alloc, plan, at, 0, inner)?;
             let made = loop_once(alloc, host, sizes, own, body)?;
             Ok(made)
         }
@@ -350,14 +350,14 @@ pub(crate) fn inside_parallel(stage: &Stage) -> &[Loop]
 /// First the nests of the Funcs that are computed at the parallel loop, where there is one.
 fn outermost(
     alloc: Global,
-    bounded: &Bounded<'_>,
+    plan: &Plan<'_>,
     host: usize,
     stage: &Stage,
     inner: Stmt,
 ) -> Result<Stmt, AllocError>
-    requires bounded { IsBounded bounded.now }
-    ensures { IfOk result (λ made. spec.HasOutermost bounded.now.pipeline.now bounded.now.schedule.now
-        bounded.now.boxes.now host (parallel stage.now) inner made) }
+    requires plan { IsPlan plan.now }
+    ensures { IfOk result (λ made. spec.HasOutermost plan.now.pipeline.now plan.now.schedule.now
+        plan.now.boxes.now host (parallel stage.now) inner made) }
 {
     match stage.parallel() {
         None => Ok(inner),
@@ -366,7 +366,7 @@ fn outermost(
                 func: host,
                 inside: own.id,
             };
-            let made = nests_before(alloc, bounded, at, 0, inner)?;
+            let made = nests_before(alloc, plan, at, 0, inner)?;
             Ok(made)
         }
     }
@@ -380,23 +380,23 @@ fn outermost(
 /// Memory ran out.
 pub fn body_of(
     alloc: Global,
-    bounded: &Bounded<'_>,
+    plan: &Plan<'_>,
     host: usize,
     stage: &Stage,
     extents: Extents,
     store: Stmt,
 ) -> Result<Stmt, AllocError>
-    requires bounded { IsBounded bounded.now }
+    requires plan { IsPlan plan.now }
     requires splits { AreSplits stage.now.splits }
     requires few { AreFew extents }
-    ensures { IfOk result (λ made. spec.IsBody bounded.now.pipeline.now bounded.now.schedule.now bounded.now.boxes.now
+    ensures { IfOk result (λ made. spec.IsBody plan.now.pipeline.now plan.now.schedule.now plan.now.boxes.now
         host stage.now extents store made) }
 {
     let splits = stage.splits.as_slice();
     let sizes = LoopSizes::new(alloc, extents, splits)?;
     let leaf = with_splits(alloc, host, extents, splits, store)?;
     let inside = inside_parallel(stage);
-    let inner = loops_around(alloc, bounded, host, &sizes, inside, leaf)?;
-    let made = outermost(alloc, bounded, host, stage, inner)?;
+    let inner = loops_around(alloc, plan, host, &sizes, inside, leaf)?;
+    let made = outermost(alloc, plan, host, stage, inner)?;
     Ok(made)
 }

@@ -6,7 +6,7 @@
 //! - [`pure_phases`]: **the phase of a pure definition** (`specs/PurePhases.antt`).
 //! - [`hosting`]: loops of a host, with the nests of the Funcs computed at them (`specs/Hosting.antt`).
 //! - [`nests`]: **the nest of a pure definition** of a Func that is computed at a loop fills its box of one iteration.
-//! - [`computed`]: what stands around a stage (`specs/Bounded.antt`).
+//! - [`computed`]: a Func that is lowered, with what is known of it.
 //! - [`corners`]: corners of boxes, also of those that begin elsewhere in each iteration (`specs/Corners.antt`).
 //! - [`updates`]: **the phase of an update**, and its loops where the Func is computed at a loop
 //!   (`specs/Updates.antt`).

@@ -8,7 +8,7 @@ ghost use Rattle.loop_ir.specs.Depths.{depth};
 ghost use Rattle.loop_ir.specs.Needs.{greatest_need};
 ghost use Rattle.loop_ir.specs.Runs.{is_about};
 ghost use Rattle.loop_ir.specs.Sizes.{whole_size};
-ghost use Rattle.lowering.specs.Bounded.{IsBounded};
+ghost use Rattle.bounds.specs.Plans.{IsPlan};
 ghost use Rattle.lowering.specs.Hosting.{DoesNest, IsSoundNest, StoresInIt};
 ghost use Rattle.lowering.specs.PurePhases.{IsComputedAt, IsStoreOf};
 ghost use Rattle.lowering.specs.Rounds.{MayAlwaysBeAtOnce};
@@ -16,9 +16,10 @@ ghost use Rattle.lowering_nests.specs.Rounds.{IsLeaf};
 ghost use Rattle.lowering.specs.Registers.{most_need, taken};
 ghost use Rattle.lowering.specs.Sizes.{counted};
 
-use crate::computed::{Bounded, ComputedFunc};
+use crate::computed::ComputedFunc;
 use crate::corners::{corner_of, corners_of};
 use crate::stores::{LoweredFunc, pure_store};
+use bounds::Plan;
 use bounds::boxes::extents_of;
 use bounds_weights::weighing::inlined_flags;
 use loop_ir::statements::Stmt;
@@ -29,27 +30,27 @@ use std::alloc::{AllocError, Global};
 /// The store of the pure definition of a Func that is computed there.
 pub(crate) fn store_of(
     alloc: Global,
-    bounded: &Bounded<'_>,
+    plan: &Plan<'_>,
     placed: Place,
     computed: &ComputedFunc<'_>,
 ) -> Result<Stmt, AllocError>
-    ensures rules { IsWellFormed bounded.now.pipeline.now }
-    ensures stores { IfOk result (λ made. IsStoreOf bounded.now.pipeline.now bounded.now.schedule.now
-        bounded.now.boxes.now placed computed.now.place computed.now.func.now computed.now.own.now made) }
+    ensures rules { IsWellFormed plan.now.pipeline.now }
+    ensures stores { IfOk result (λ made. IsStoreOf plan.now.pipeline.now plan.now.schedule.now
+        plan.now.boxes.now placed computed.now.place computed.now.func.now computed.now.own.now made) }
     ensures leaf { IfOk result IsLeaf }
     ensures about { IfOk result (λ made. is_about computed.now.place made ≡ true) }
     ensures depth { IfOk result (λ made. depth made ≡ 0) }
-    ensures needs { IfOk result (λ made. greatest_need made ≤ max 1 (taken (flags_of bounded.now.schedule.now.standings)
-        bounded.now.pipeline.now.funcs computed.now.place computed.now.func.now.pure)) }
+    ensures needs { IfOk result (λ made. greatest_need made ≤ max 1 (taken (flags_of plan.now.schedule.now.standings)
+        plan.now.pipeline.now.funcs computed.now.place computed.now.func.now.pure)) }
     ensures sizes { IfOk result (λ made. whole_size made + 12 ≤ 64 * counted
-        (flags_of bounded.now.schedule.now.standings) bounded.now.pipeline.now.funcs computed.now.place
+        (flags_of plan.now.schedule.now.standings) plan.now.pipeline.now.funcs computed.now.place
         computed.now.func.now.pure) }
 {
-    let funcs = bounded.pipeline.funcs();
-    let plans = bounded.schedule.funcs.as_slice();
-    let standings = bounded.schedule.standings.as_slice();
+    let funcs = plan.pipeline.funcs();
+    let plans = plan.schedule.funcs.as_slice();
+    let standings = plan.schedule.standings.as_slice();
     let flags = inlined_flags(alloc, standings)?;
-    let corners = corners_of(alloc, plans, bounded.boxes.funcs.as_slice(), standings)?;
+    let corners = corners_of(alloc, plans, plan.boxes.funcs.as_slice(), standings)?;
     let corner = corner_of(alloc, plans, placed, computed.own)?;
     let reader = LoweredFunc {
         funcs,
@@ -68,30 +69,30 @@ pub(crate) fn store_of(
 /// Memory ran out.
 pub fn pure_nest(
     alloc: Global,
-    bounded: &Bounded<'_>,
+    plan: &Plan<'_>,
     at: LoopPlace,
     computed: &ComputedFunc<'_>,
 ) -> Result<Stmt, AllocError>
-    requires bounded { IsBounded bounded.now }
-    requires parts { IsComputedAt bounded.now.pipeline.now bounded.now.schedule.now bounded.now.boxes.now (places.At at)
+    requires plan { IsPlan plan.now }
+    requires parts { IsComputedAt plan.now.pipeline.now plan.now.schedule.now plan.now.boxes.now (places.At at)
         computed.now.place computed.now.func.now computed.now.plan.now computed.now.own.now }
-    ensures does { IfOk result (λ made. DoesNest bounded.now.pipeline.now bounded.now.schedule.now bounded.now.boxes.now
+    ensures does { IfOk result (λ made. DoesNest plan.now.pipeline.now plan.now.schedule.now plan.now.boxes.now
         at computed.now.place computed.now.func.now computed.now.own.now 0 made) }
     ensures alone { IfOk result (StoresInIt computed.now.place) }
     ensures about { IfOk result (λ made. is_about computed.now.place made ≡ true) }
-    ensures sound { IfOk result (λ made. IsSoundNest bounded.now.pipeline.now bounded.now.schedule.now
-        bounded.now.boxes.now at computed.now.place computed.now.func.now computed.now.own.now made) }
+    ensures sound { IfOk result (λ made. IsSoundNest plan.now.pipeline.now plan.now.schedule.now
+        plan.now.boxes.now at computed.now.place computed.now.func.now computed.now.own.now made) }
     ensures few { IfOk result (λ made. depth made ≤ 9) }
     ensures at_once { IfOk result MayAlwaysBeAtOnce }
-    ensures needs { IfOk result (λ made. greatest_need made ≤ most_need bounded.now.pipeline.now
-        bounded.now.schedule.now) }
+    ensures needs { IfOk result (λ made. greatest_need made ≤ most_need plan.now.pipeline.now
+        plan.now.schedule.now) }
     ensures sizes { IfOk result (λ made. whole_size made ≤ 64 * stage_weight
-        (nodes_in (flags_of bounded.now.schedule.now.standings) bounded.now.pipeline.now.funcs
+        (nodes_in (flags_of plan.now.schedule.now.standings) plan.now.pipeline.now.funcs
         computed.now.func.now.pure) computed.now.plan.now.pure) }
 {
     let placed = Place::At(at);
     let extents = extents_of(computed.own);
-    let store = store_of(alloc, bounded, placed, computed)?;
+    let store = store_of(alloc, plan, placed, computed)?;
     let made = with_nest(
         alloc,
         computed.place,

@@ -4,18 +4,18 @@ ghost use Rattle.std.specs.Prelude.{◌≡◌, ◌≤◌, ◌*◌, List, IfOk, O
 ghost use Rattle.schedule.specs.Accepted.{IsAccepted};
 ghost use Rattle.bounds.specs.Verdict.{inferred};
 ghost use Rattle.loop_ir.specs.declared.statements.Phase.{Phase as MadePhase};
-ghost use Rattle.lowering.specs.Bounded.{IsBounded};
+ghost use Rattle.bounds.specs.Plans.{IsPlan};
 ghost use Rattle.lowering.specs.Lowered as spec;
 ghost use Rattle.lowering.specs.PurePhases.{IsAtRoot};
 ghost use Rattle.lowering.specs.Registers.{TakeFew};
 ghost use Rattle.lowering.specs.Sizes.{words_of};
 ghost use Rattle.bounds_weights.specs.Weight.{weight};
 
-use crate::computed::{Bounded, ComputedFunc};
+use crate::computed::ComputedFunc;
 use crate::hosting::box_at;
 use crate::pure_phases::{is_at_root, pure_phase};
 use crate::updates::{UpdateOf, update_phase};
-use bounds::Boxes;
+use bounds::{Boxes, Plan};
 use halide_pipeline::Pipeline;
 use loop_ir::statements::Phase;
 use schedule::Schedule;
@@ -24,19 +24,19 @@ use std::alloc::{AllocError, Global};
 /// The phase of the stage with this number of a Func that is computed at root, if it has that stage.
 fn stage_phase(
     alloc: Global,
-    bounded: &Bounded<'_>,
+    plan: &Plan<'_>,
     computed: &ComputedFunc<'_>,
     number: usize,
 ) -> Result<Option<Phase>, AllocError>
-    requires bounded { IsBounded bounded.now }
-    requires at { IsAtRoot bounded.now.pipeline.now bounded.now.schedule.now bounded.now.boxes.now computed.now.place
+    requires plan { IsPlan plan.now }
+    requires at { IsAtRoot plan.now.pipeline.now plan.now.schedule.now plan.now.boxes.now computed.now.place
         computed.now.func.now computed.now.plan.now computed.now.own.now }
-    ensures { IfOk result (spec.IsStagePhaseIfThere bounded.now.pipeline.now bounded.now.schedule.now
-        bounded.now.boxes.now computed.now.place computed.now.func.now computed.now.plan.now computed.now.own.now
+    ensures { IfOk result (spec.IsStagePhaseIfThere plan.now.pipeline.now plan.now.schedule.now
+        plan.now.boxes.now computed.now.place computed.now.func.now computed.now.plan.now computed.now.own.now
         number) }
 {
     let Some(at) = number.checked_sub(1) else {
-        let phase = pure_phase(alloc, bounded, computed)?;
+        let phase = pure_phase(alloc, plan, computed)?;
         return Ok(Some(phase));
     };
     let Some(update) = computed.func.updates.get(at) else {
@@ -51,29 +51,29 @@ fn stage_phase(
         update,
         stage,
     };
-    let phase = update_phase(alloc, bounded, &of)?;
+    let phase = update_phase(alloc, plan, &of)?;
     Ok(Some(phase))
 }
 
 /// Puts the phase of a stage of a Func that is computed at root behind those of the stages before it.
 fn with_stage(
     alloc: Global,
-    bounded: &Bounded<'_>,
+    plan: &Plan<'_>,
     computed: &ComputedFunc<'_>,
     number: usize,
     before: Vec<Phase>,
 ) -> Result<Vec<Phase>, AllocError>
-    requires bounded { IsBounded bounded.now }
-    requires at { IsAtRoot bounded.now.pipeline.now bounded.now.schedule.now bounded.now.boxes.now computed.now.place
+    requires plan { IsPlan plan.now }
+    requires at { IsAtRoot plan.now.pipeline.now plan.now.schedule.now plan.now.boxes.now computed.now.place
         computed.now.func.now computed.now.plan.now computed.now.own.now }
     requires number { number ≤ length computed.now.func.now.updates }
     ensures { IfOk result (λ made. (others : List MadePhase)
-        → spec.ArePhasesOf bounded.now.pipeline.now bounded.now.schedule.now bounded.now.boxes.now computed.now.place
+        → spec.ArePhasesOf plan.now.pipeline.now plan.now.schedule.now plan.now.boxes.now computed.now.place
         computed.now.func.now computed.now.plan.now computed.now.own.now others number before.items
-        → spec.ArePhasesOf bounded.now.pipeline.now bounded.now.schedule.now bounded.now.boxes.now computed.now.place
+        → spec.ArePhasesOf plan.now.pipeline.now plan.now.schedule.now plan.now.boxes.now computed.now.place
         computed.now.func.now computed.now.plan.now computed.now.own.now others (suc number) made.items) }
 {
-    let found = stage_phase(alloc, bounded, computed, number)?;
+    let found = stage_phase(alloc, plan, computed, number)?;
     let Some(phase) = found else {
         return Ok(before);
     };
@@ -85,77 +85,77 @@ fn with_stage(
 /// Puts the phases of the stages of a Func that is computed at root, up to the one with this number, behind others.
 fn with_stages(
     alloc: Global,
-    bounded: &Bounded<'_>,
+    plan: &Plan<'_>,
     computed: &ComputedFunc<'_>,
     last: usize,
     others: Vec<Phase>,
 ) -> Result<Vec<Phase>, AllocError>
-    requires bounded { IsBounded bounded.now }
-    requires at { IsAtRoot bounded.now.pipeline.now bounded.now.schedule.now bounded.now.boxes.now computed.now.place
+    requires plan { IsPlan plan.now }
+    requires at { IsAtRoot plan.now.pipeline.now plan.now.schedule.now plan.now.boxes.now computed.now.place
         computed.now.func.now computed.now.plan.now computed.now.own.now }
     requires last { last ≤ length computed.now.func.now.updates }
-    ensures { IfOk result (λ phases. spec.ArePhasesOf bounded.now.pipeline.now bounded.now.schedule.now
-        bounded.now.boxes.now computed.now.place computed.now.func.now computed.now.plan.now computed.now.own.now
+    ensures { IfOk result (λ phases. spec.ArePhasesOf plan.now.pipeline.now plan.now.schedule.now
+        plan.now.boxes.now computed.now.place computed.now.func.now computed.now.plan.now computed.now.own.now
         others.items (suc last) phases.items) }
 {
     let before = match last.checked_sub(1) {
         None => others,
-        Some(before) => with_stages(alloc, bounded, computed, before, others)?,
+        Some(before) => with_stages(alloc, plan, computed, before, others)?,
     };
-    let phases = with_stage(alloc, bounded, computed, last, before)?;
+    let phases = with_stage(alloc, plan, computed, last, before)?;
     Ok(phases)
 }
 
 /// Puts the phases of the Func at a place behind those of the Funcs before it.
 fn with_func(
     alloc: Global,
-    bounded: &Bounded<'_>,
+    plan: &Plan<'_>,
     place: usize,
     others: Vec<Phase>,
 ) -> Result<Vec<Phase>, AllocError>
-    requires bounded { IsBounded bounded.now }
-    requires others { spec.AreLowered bounded.now.pipeline.now bounded.now.schedule.now bounded.now.boxes.now place
+    requires plan { IsPlan plan.now }
+    requires others { spec.AreLowered plan.now.pipeline.now plan.now.schedule.now plan.now.boxes.now place
         others.items }
-    ensures { IfOk result (λ phases. spec.AreLowered bounded.now.pipeline.now bounded.now.schedule.now
-        bounded.now.boxes.now (suc place) phases.items) }
+    ensures { IfOk result (λ phases. spec.AreLowered plan.now.pipeline.now plan.now.schedule.now
+        plan.now.boxes.now (suc place) phases.items) }
 {
-    let Some(standing) = bounded.schedule.standing(place) else {
+    let Some(standing) = plan.schedule.standing(place) else {
         return Ok(others);
     };
     if !is_at_root(standing) {
         return Ok(others);
     }
-    let Some(func) = bounded.pipeline.func(place) else {
+    let Some(func) = plan.pipeline.func(place) else {
         return Ok(others);
     };
-    let Some(plan) = bounded.schedule.funcs.get(place) else {
+    let Some(func_plan) = plan.schedule.funcs.get(place) else {
         return Ok(others);
     };
-    let Some(own) = box_at(bounded.boxes.funcs.as_slice(), place) else {
+    let Some(own) = box_at(plan.boxes.funcs.as_slice(), place) else {
         return Ok(others);
     };
     let last = func.updates.len();
     let computed = ComputedFunc {
         place,
         func,
-        plan,
+        plan: func_plan,
         own,
     };
-    let phases = with_stages(alloc, bounded, &computed, last, others)?;
+    let phases = with_stages(alloc, plan, &computed, last, others)?;
     Ok(phases)
 }
 
 /// The phases of the first so many Funcs.
-fn lower_first(alloc: Global, bounded: &Bounded<'_>, count: usize) -> Result<Vec<Phase>, AllocError>
-    requires bounded { IsBounded bounded.now }
-    ensures { IfOk result (λ phases. spec.AreLowered bounded.now.pipeline.now bounded.now.schedule.now
-        bounded.now.boxes.now count phases.items) }
+fn lower_first(alloc: Global, plan: &Plan<'_>, count: usize) -> Result<Vec<Phase>, AllocError>
+    requires plan { IsPlan plan.now }
+    ensures { IfOk result (λ phases. spec.AreLowered plan.now.pipeline.now plan.now.schedule.now
+        plan.now.boxes.now count phases.items) }
 {
     if count == 0 {
         return Ok(Vec::new(alloc));
     }
-    let before = lower_first(alloc, bounded, count - 1)?;
-    let phases = with_func(alloc, bounded, count - 1, before)?;
+    let before = lower_first(alloc, plan, count - 1)?;
+    let phases = with_func(alloc, plan, count - 1, before)?;
     Ok(phases)
 }
 
@@ -186,11 +186,11 @@ pub fn lower(
     ensures output { IfOk result (λ phases. spec.LeaveOutput pipeline.now schedule.now boxes.now phases.items) }
 {
     let count = pipeline.funcs().len();
-    let bounded = Bounded {
+    let plan = Plan {
         pipeline,
         schedule,
         boxes,
     };
-    let phases = lower_first(alloc, &bounded, count)?;
+    let phases = lower_first(alloc, &plan, count)?;
     Ok(phases)
 }

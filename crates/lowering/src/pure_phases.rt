@@ -7,7 +7,7 @@ ghost use Rattle.bounds.specs.Views as views;
 ghost use Rattle.loop_ir.specs.Depths.{task_depth};
 ghost use Rattle.loop_ir.specs.Needs.{greatest_need};
 ghost use Rattle.lowering_nests.specs.Nests.{AreFew};
-ghost use Rattle.lowering.specs.Bounded.{IsBounded};
+ghost use Rattle.bounds.specs.Plans.{IsPlan};
 ghost use Rattle.lowering.specs.HostedFuncs.{hosted_from};
 ghost use Rattle.lowering.specs.Planes.{owns};
 ghost use Rattle.lowering.specs.PurePhases as spec;
@@ -19,9 +19,10 @@ ghost use Rattle.lowering.specs.Stages.{DoesStage};
 ghost use Rattle.lowering.specs.Stored.{StoresItsOwn};
 ghost use Rattle.lowering.specs.Touching.{TouchesItsOwn};
 
-use crate::computed::{Bounded, ComputedFunc};
+use crate::computed::ComputedFunc;
 use crate::hosting::{body_of, hosted_places};
 use crate::nests::store_of;
+use bounds::Plan;
 use bounds::boxes::extents_of;
 use halide_pipeline::Input;
 use loop_ir::expressions::Counter;
@@ -92,45 +93,45 @@ pub(crate) fn task_count(alloc: Global, stage: &Stage, extents: Extents) -> Resu
 /// Memory ran out.
 pub fn pure_phase(
     alloc: Global,
-    bounded: &Bounded<'_>,
+    plan: &Plan<'_>,
     computed: &ComputedFunc<'_>,
 ) -> Result<Phase, AllocError>
-    requires bounded { IsBounded bounded.now }
-    requires at { spec.IsAtRoot bounded.now.pipeline.now bounded.now.schedule.now bounded.now.boxes.now
+    requires plan { IsPlan plan.now }
+    requires at { spec.IsAtRoot plan.now.pipeline.now plan.now.schedule.now plan.now.boxes.now
         computed.now.place computed.now.func.now computed.now.plan.now computed.now.own.now }
     ensures tasks { IfOk result (λ phase. phase.tasks ≡ iterations.iteration_count
         (views.extents_of computed.now.own.now) computed.now.plan.now.pure) }
     ensures private { IfOk result (λ phase. phase.private ≡ hosted_from computed.now.place 0
-        bounded.now.schedule.now.standings) }
-    ensures bytes { IfOk result (λ phase. phase.bytes ≡ spec.byte_places 0 bounded.now.pipeline.now.inputs) }
-    ensures does { IfOk result (spec.DoesPure bounded.now.pipeline.now bounded.now.schedule.now bounded.now.boxes.now
+        plan.now.schedule.now.standings) }
+    ensures bytes { IfOk result (λ phase. phase.bytes ≡ spec.byte_places 0 plan.now.pipeline.now.inputs) }
+    ensures does { IfOk result (spec.DoesPure plan.now.pipeline.now plan.now.schedule.now plan.now.boxes.now
         computed.now.place computed.now.func.now computed.now.plan.now computed.now.own.now) }
-    ensures stage { IfOk result (DoesStage bounded.now.pipeline.now bounded.now.schedule.now bounded.now.boxes.now
+    ensures stage { IfOk result (DoesStage plan.now.pipeline.now plan.now.schedule.now plan.now.boxes.now
         computed.now.place computed.now.func.now 0 (owns (views.extents_of computed.now.own.now)
         computed.now.plan.now.pure)) }
-    ensures touches { IfOk result (TouchesItsOwn bounded.now.pipeline.now bounded.now.schedule.now bounded.now.boxes.now
+    ensures touches { IfOk result (TouchesItsOwn plan.now.pipeline.now plan.now.schedule.now plan.now.boxes.now
         computed.now.place (owns (views.extents_of computed.now.own.now) computed.now.plan.now.pure)) }
     ensures few { IfOk result (λ phase. task_depth phase ≤ 14) }
-    ensures needs { IfOk result (λ phase. greatest_need phase.body ≤ most_need bounded.now.pipeline.now
-        bounded.now.schedule.now) }
-    ensures light { IfOk result (IsLight bounded.now.pipeline.now bounded.now.schedule.now computed.now.place
+    ensures needs { IfOk result (λ phase. greatest_need phase.body ≤ most_need plan.now.pipeline.now
+        plan.now.schedule.now) }
+    ensures light { IfOk result (IsLight plan.now.pipeline.now plan.now.schedule.now computed.now.place
         computed.now.func.now computed.now.plan.now 0) }
     ensures few_tasks { IfOk result (λ phase. phase.tasks ≤ 2 ^ 31) }
     ensures rounds { IfOk result RoundsMayBeAtOnce }
     ensures in_runs { IfOk result (StoresInRuns computed.now.place (views.extents_of computed.now.own.now)
         computed.now.plan.now.pure) }
-    ensures stores { IfOk result (StoresItsOwn bounded.now.boxes.now computed.now.place
+    ensures stores { IfOk result (StoresItsOwn plan.now.boxes.now computed.now.place
         (owns (views.extents_of computed.now.own.now) computed.now.plan.now.pure)) }
 {
     let stage = &computed.plan.pure;
     let extents = extents_of(computed.own);
     let root = Place::Root;
-    let store = store_of(alloc, bounded, root, computed)?;
-    let body = body_of(alloc, bounded, computed.place, stage, extents, store)?;
+    let store = store_of(alloc, plan, root, computed)?;
+    let body = body_of(alloc, plan, computed.place, stage, extents, store)?;
     let tasks = task_count(alloc, stage, extents)?;
-    let bytes = byte_inputs(alloc, bounded.pipeline.inputs())?;
+    let bytes = byte_inputs(alloc, plan.pipeline.inputs())?;
     let counter = task_counter(computed.place, stage);
-    let private = hosted_places(alloc, computed.place, bounded.schedule.standings.as_slice())?;
+    let private = hosted_places(alloc, computed.place, plan.schedule.standings.as_slice())?;
     Ok(Phase {
         tasks,
         counter,

@@ -21,7 +21,7 @@ use halide_pipeline::{Expr, Func, Variable};
 use loop_ir::expressions as terms;
 use loop_ir::expressions::{Counter, Linear};
 use loop_ir::statements::{Stmt, Store};
-use lowering_expressions::{Arguments, Corner, lowered};
+use lowering_expressions::{Arguments, Callees, Corner, lowered};
 use schedule_lines::LoopId;
 use std::alloc::{AllocError, Global};
 
@@ -114,15 +114,13 @@ pub fn pure_store(
         → whole_size made + 12 ≤ 64 * counted reader.now.flags.now reader.now.funcs.now reader.now.place pure.now) }
 {
     let arguments = arguments_of(alloc, reader.place, corner)?;
-    let value = lowered(
-        alloc,
-        reader.funcs,
-        reader.flags,
-        reader.place,
-        reader.corners,
-        &arguments,
-        pure,
-    )?;
+    let callees = Callees {
+        funcs: reader.funcs,
+        flags: reader.flags,
+        count: reader.place,
+        corners: reader.corners,
+    };
+    let value = lowered(alloc, &callees, &arguments, pure)?;
     let x = whole_of(alloc, reader.place, Variable::FirstArgument)?;
     let y = whole_of(alloc, reader.place, Variable::SecondArgument)?;
     Ok(Stmt::Store(Store {

@@ -26,7 +26,7 @@ use loop_ir::expressions as terms;
 use loop_ir::expressions::Linear;
 use loop_ir::statements::{Stmt, Store};
 use lowering_expressions::calls::counted_from;
-use lowering_expressions::{Arguments, Corner, lowered};
+use lowering_expressions::{Arguments, Callees, Corner, lowered};
 use std::alloc::{AllocError, Global};
 
 /// The sum of two.
@@ -106,15 +106,13 @@ fn second_index(
     match index {
         None => Ok(terms::Expr::Number(0)),
         Some(index) => {
-            let made = lowered(
-                alloc,
-                reader.funcs,
-                reader.flags,
-                reader.place,
-                reader.corners,
-                arguments,
-                index,
-            )?;
+            let callees = Callees {
+                funcs: reader.funcs,
+                flags: reader.flags,
+                count: reader.place,
+                corners: reader.corners,
+            };
+            let made = lowered(alloc, &callees, arguments, index)?;
             Ok(made)
         }
     }
@@ -149,25 +147,19 @@ pub fn update_store(
         update.now) }
 {
     let arguments = arguments_of(alloc, reader.place, corner, update)?;
-    let column = lowered(
-        alloc,
-        reader.funcs,
-        reader.flags,
-        reader.place,
-        reader.corners,
-        &arguments,
-        &update.left_x,
-    )?;
+    let callees = Callees {
+        funcs: reader.funcs,
+        flags: reader.flags,
+        count: reader.place,
+        corners: reader.corners,
+    };
+    let column = lowered(alloc, &callees, &arguments, &update.left_x)?;
     let row = second_index(alloc, reader, &arguments, &update.left_y)?;
-    let value = lowered(
-        alloc,
-        reader.funcs,
-        reader.flags,
-        reader.place + 1,
-        reader.corners,
-        &arguments,
-        &update.right,
-    )?;
+    let with_own = Callees {
+        count: reader.place + 1,
+        ..callees
+    };
+    let value = lowered(alloc, &with_own, &arguments, &update.right)?;
     let x = counted_from(alloc, column, &corner.x)?;
     let y = counted_from(alloc, row, &corner.y)?;
     Ok(Stmt::Store(Store {

@@ -18,7 +18,7 @@ ghost use Rattle.lowering_nests.specs.Nests.{AreFew, Repeats};
 ghost use Rattle.lowering_nests.specs.Rounds.{IsLeaf, MayBeAtOnce, MayBeUnder};
 ghost use Rattle.lowering_nests.specs.Sizes.{nest_size};
 ghost use Rattle.schedule_lines.specs.declared.stages.Loop.{Loop};
-ghost use Rattle.lowering.specs.Bounded.{IsBounded};
+ghost use Rattle.bounds.specs.Plans.{IsPlan};
 ghost use Rattle.lowering.specs.Hosting.{StoresInIt};
 ghost use Rattle.lowering.specs.PurePhases as pure;
 ghost use Rattle.lowering.specs.Registers.{most_need, update_taken};
@@ -29,14 +29,14 @@ ghost use Rattle.lowering.specs.Stored.{StoresWhatItNames};
 ghost use Rattle.lowering.specs.Touching.{TouchesItsOwn};
 ghost use Rattle.lowering.specs.Updates as spec;
 
-use crate::computed::{Bounded, ComputedFunc};
+use crate::computed::ComputedFunc;
 use crate::corners::{corner_of, corners_of};
 use crate::hosting::inside_parallel;
 use crate::pure_phases::{byte_inputs, task_count, task_counter};
 use crate::stores::LoweredFunc;
 use crate::update_stores::update_store;
-use bounds::SourceBox;
 use bounds::boxes::extents_of;
+use bounds::{Plan, SourceBox};
 use bounds_weights::weighing::inlined_flags;
 use halide_pipeline::{Reduction, Update};
 use loop_ir::statements::{Phase, Stmt};
@@ -85,33 +85,33 @@ fn update_extents(own: &SourceBox, update: &Update) -> Extents
 /// The store of an update of a Func, where the schedule's inlined Funcs are put in place.
 fn store_at(
     alloc: Global,
-    bounded: &Bounded<'_>,
+    plan: &Plan<'_>,
     corners: &[Corner],
     corner: &Corner,
     of: &UpdateOf<'_>,
 ) -> Result<Stmt, AllocError>
     requires { of.now.computed.place + 1 < 2 ^ 64 }
     ensures stores { IfOk result (λ made. spec.StoresUpdate corners.now (flagged
-        (flags_of bounded.now.schedule.now.standings)) bounded.now.pipeline.now.funcs of.now.computed.place corner.now
+        (flags_of plan.now.schedule.now.standings)) plan.now.pipeline.now.funcs of.now.computed.place corner.now
         of.now.update.now made) }
     ensures leaf { IfOk result IsLeaf }
     ensures about { IfOk result (λ made. is_about of.now.computed.place made ≡ true) }
     ensures hits { IfOk result (λ made. spec.HitsUpdate corners.now (flagged
-        (flags_of bounded.now.schedule.now.standings)) bounded.now.pipeline.now.funcs of.now.computed.place corner.now
+        (flags_of plan.now.schedule.now.standings)) plan.now.pipeline.now.funcs of.now.computed.place corner.now
         of.now.update.now made) }
     ensures sound { IfOk result (λ made. spec.IsSoundUpdate corners.now (flagged
-        (flags_of bounded.now.schedule.now.standings)) bounded.now.pipeline.now.funcs of.now.computed.place corner.now
+        (flags_of plan.now.schedule.now.standings)) plan.now.pipeline.now.funcs of.now.computed.place corner.now
         of.now.update.now made) }
     ensures depth { IfOk result (λ made. depth made ≡ 0) }
-    ensures needs { IfOk result (λ made. greatest_need made ≤ update_taken (flags_of bounded.now.schedule.now.standings)
-        bounded.now.pipeline.now.funcs of.now.computed.place of.now.update.now) }
+    ensures needs { IfOk result (λ made. greatest_need made ≤ update_taken (flags_of plan.now.schedule.now.standings)
+        plan.now.pipeline.now.funcs of.now.computed.place of.now.update.now) }
     ensures sizes { IfOk result (λ made. AreShort corners.now → IsShort corner.now
-        → whole_size made + 12 ≤ 64 * update_counted (flags_of bounded.now.schedule.now.standings)
-        bounded.now.pipeline.now.funcs of.now.computed.place of.now.update.now) }
+        → whole_size made + 12 ≤ 64 * update_counted (flags_of plan.now.schedule.now.standings)
+        plan.now.pipeline.now.funcs of.now.computed.place of.now.update.now) }
 {
-    let flags = inlined_flags(alloc, bounded.schedule.standings.as_slice())?;
+    let flags = inlined_flags(alloc, plan.schedule.standings.as_slice())?;
     let reader = LoweredFunc {
-        funcs: bounded.pipeline.funcs(),
+        funcs: plan.pipeline.funcs(),
         flags: flags.as_slice(),
         corners,
         place: of.computed.place,
@@ -121,23 +121,23 @@ fn store_at(
 }
 
 /// The store of an update of a Func that is computed at root.
-fn root_store(alloc: Global, bounded: &Bounded<'_>, of: &UpdateOf<'_>) -> Result<Stmt, AllocError>
+fn root_store(alloc: Global, plan: &Plan<'_>, of: &UpdateOf<'_>) -> Result<Stmt, AllocError>
     requires { of.now.computed.place + 1 < 2 ^ 64 }
     ensures leaf { IfOk result IsLeaf }
-    ensures stores { IfOk result (λ made. spec.IsUpdateStoreOf bounded.now.pipeline.now bounded.now.schedule.now
-        bounded.now.boxes.now of.now.computed.place of.now.computed.own.now of.now.update.now made) }
+    ensures stores { IfOk result (λ made. spec.IsUpdateStoreOf plan.now.pipeline.now plan.now.schedule.now
+        plan.now.boxes.now of.now.computed.place of.now.computed.own.now of.now.update.now made) }
     ensures depth { IfOk result (λ made. depth made ≡ 0) }
-    ensures needs { IfOk result (λ made. greatest_need made ≤ update_taken (flags_of bounded.now.schedule.now.standings)
-        bounded.now.pipeline.now.funcs of.now.computed.place of.now.update.now) }
+    ensures needs { IfOk result (λ made. greatest_need made ≤ update_taken (flags_of plan.now.schedule.now.standings)
+        plan.now.pipeline.now.funcs of.now.computed.place of.now.update.now) }
     ensures sizes { IfOk result (λ made. whole_size made + 12 ≤ 64 * update_counted
-        (flags_of bounded.now.schedule.now.standings) bounded.now.pipeline.now.funcs of.now.computed.place
+        (flags_of plan.now.schedule.now.standings) plan.now.pipeline.now.funcs of.now.computed.place
         of.now.update.now) }
 {
-    let plans = bounded.schedule.funcs.as_slice();
-    let standings = bounded.schedule.standings.as_slice();
-    let corners = corners_of(alloc, plans, bounded.boxes.funcs.as_slice(), standings)?;
+    let plans = plan.schedule.funcs.as_slice();
+    let standings = plan.schedule.standings.as_slice();
+    let corners = corners_of(alloc, plans, plan.boxes.funcs.as_slice(), standings)?;
     let corner = corner_of(alloc, plans, Place::Root, of.computed.own)?;
-    let made = store_at(alloc, bounded, corners.as_slice(), &corner, of)?;
+    let made = store_at(alloc, plan, corners.as_slice(), &corner, of)?;
     Ok(made)
 }
 
@@ -212,40 +212,36 @@ fn nest_of(
 /// # Errors
 ///
 /// Memory ran out.
-pub fn update_phase(
-    alloc: Global,
-    bounded: &Bounded<'_>,
-    of: &UpdateOf<'_>,
-) -> Result<Phase, AllocError>
-    requires bounded { IsBounded bounded.now }
-    requires root { pure.IsAtRoot bounded.now.pipeline.now bounded.now.schedule.now bounded.now.boxes.now
+pub fn update_phase(alloc: Global, plan: &Plan<'_>, of: &UpdateOf<'_>) -> Result<Phase, AllocError>
+    requires plan { IsPlan plan.now }
+    requires root { pure.IsAtRoot plan.now.pipeline.now plan.now.schedule.now plan.now.boxes.now
         of.now.computed.place of.now.computed.func.now of.now.computed.plan.now of.now.computed.own.now }
-    requires at { spec.IsUpdateAt bounded.now.schedule.now of.now.computed.place of.now.computed.func.now
+    requires at { spec.IsUpdateAt plan.now.schedule.now of.now.computed.place of.now.computed.func.now
         of.now.computed.plan.now of.now.at of.now.update.now of.now.stage.now }
     ensures tasks { IfOk result (λ phase. phase.tasks
         ≡ iterations.iteration_count (spec.update_extents of.now.computed.own.now of.now.update.now) of.now.stage.now) }
     ensures private { IfOk result (λ phase. phase.private ≡ []) }
-    ensures bytes { IfOk result (λ phase. phase.bytes ≡ pure.byte_places 0 bounded.now.pipeline.now.inputs) }
-    ensures does { IfOk result (DoesStage bounded.now.pipeline.now bounded.now.schedule.now bounded.now.boxes.now
+    ensures bytes { IfOk result (λ phase. phase.bytes ≡ pure.byte_places 0 plan.now.pipeline.now.inputs) }
+    ensures does { IfOk result (DoesStage plan.now.pipeline.now plan.now.schedule.now plan.now.boxes.now
         of.now.computed.place of.now.computed.func.now (suc of.now.at) (spec.owns_update of.now.computed.own.now
         of.now.update.now of.now.stage.now)) }
-    ensures touches { IfOk result (TouchesItsOwn bounded.now.pipeline.now bounded.now.schedule.now bounded.now.boxes.now
+    ensures touches { IfOk result (TouchesItsOwn plan.now.pipeline.now plan.now.schedule.now plan.now.boxes.now
         of.now.computed.place (spec.owns_update of.now.computed.own.now of.now.update.now of.now.stage.now)) }
     ensures few { IfOk result (λ phase. task_depth phase ≤ 14) }
-    ensures needs { IfOk result (λ phase. greatest_need phase.body ≤ most_need bounded.now.pipeline.now
-        bounded.now.schedule.now) }
+    ensures needs { IfOk result (λ phase. greatest_need phase.body ≤ most_need plan.now.pipeline.now
+        plan.now.schedule.now) }
     ensures sizes { IfOk result (λ phase. whole_size phase.body + 24 ≤ 64 * stage_weight
-        (update_nodes (flags_of bounded.now.schedule.now.standings) bounded.now.pipeline.now.funcs of.now.update.now)
+        (update_nodes (flags_of plan.now.schedule.now.standings) plan.now.pipeline.now.funcs of.now.update.now)
         of.now.stage.now) }
     ensures few_tasks { IfOk result (λ phase. phase.tasks ≤ 2 ^ 31) }
     ensures rounds { IfOk result RoundsMayBeAtOnce }
-    ensures stores { IfOk result (StoresWhatItNames bounded.now.pipeline.now bounded.now.schedule.now
-        bounded.now.boxes.now of.now.computed.place of.now.computed.func.now of.now.at of.now.computed.own.now
+    ensures stores { IfOk result (StoresWhatItNames plan.now.pipeline.now plan.now.schedule.now
+        plan.now.boxes.now of.now.computed.place of.now.computed.func.now of.now.at of.now.computed.own.now
         of.now.update.now of.now.stage.now) }
 {
-    let bytes = byte_inputs(alloc, bounded.pipeline.inputs())?;
+    let bytes = byte_inputs(alloc, plan.pipeline.inputs())?;
     let extents = update_extents(of.computed.own, of.update);
-    let store = root_store(alloc, bounded, of)?;
+    let store = root_store(alloc, plan, of)?;
     let body = body_of(alloc, of.computed.place, of.stage, extents, store)?;
     let tasks = task_count(alloc, of.stage, extents)?;
     let counter = task_counter(of.computed.place, of.stage);
@@ -270,35 +266,35 @@ pub fn update_phase(
 /// Memory ran out.
 pub fn update_nest(
     alloc: Global,
-    bounded: &Bounded<'_>,
+    plan: &Plan<'_>,
     corners: &[Corner],
     corner: &Corner,
     of: &UpdateOf<'_>,
 ) -> Result<Stmt, AllocError>
-    requires bounded { IsBounded bounded.now }
-    requires computed { spec.IsComputedIn bounded.now.pipeline.now bounded.now.schedule.now bounded.now.boxes.now
+    requires plan { IsPlan plan.now }
+    requires computed { spec.IsComputedIn plan.now.pipeline.now plan.now.schedule.now plan.now.boxes.now
         of.now.computed.place of.now.computed.func.now of.now.computed.plan.now of.now.computed.own.now }
-    requires at { spec.IsUpdateAt bounded.now.schedule.now of.now.computed.place of.now.computed.func.now
+    requires at { spec.IsUpdateAt plan.now.schedule.now of.now.computed.place of.now.computed.func.now
         of.now.computed.plan.now of.now.at of.now.update.now of.now.stage.now }
     requires corner { slice_get corners.now of.now.computed.place ≡ Some corner.now }
-    ensures does { IfOk result (spec.DoesUpdate bounded.now.pipeline.now bounded.now.schedule.now bounded.now.boxes.now
+    ensures does { IfOk result (spec.DoesUpdate plan.now.pipeline.now plan.now.schedule.now plan.now.boxes.now
         corners.now of.now.computed.place of.now.computed.func.now corner.now of.now.computed.own.now of.now.at
         of.now.update.now) }
     ensures alone { IfOk result (StoresInIt of.now.computed.place) }
-    ensures sound { IfOk result (spec.AreSoundLoops bounded.now.pipeline.now bounded.now.schedule.now
-        bounded.now.boxes.now corners.now of.now.computed.place corner.now of.now.computed.own.now of.now.update.now) }
+    ensures sound { IfOk result (spec.AreSoundLoops plan.now.pipeline.now plan.now.schedule.now
+        plan.now.boxes.now corners.now of.now.computed.place corner.now of.now.computed.own.now of.now.update.now) }
     ensures few { IfOk result (λ made. depth made ≤ 9) }
     ensures at_once { IfOk result MayAlwaysBeAtOnce }
     ensures about { IfOk result (λ made. is_about of.now.computed.place made ≡ true) }
-    ensures needs { IfOk result (λ made. greatest_need made ≤ most_need bounded.now.pipeline.now
-        bounded.now.schedule.now) }
+    ensures needs { IfOk result (λ made. greatest_need made ≤ most_need plan.now.pipeline.now
+        plan.now.schedule.now) }
     ensures sizes { IfOk result (λ made. AreShort corners.now
-        → whole_size made ≤ 64 * stage_weight (update_nodes (flags_of bounded.now.schedule.now.standings)
-        bounded.now.pipeline.now.funcs of.now.update.now) of.now.stage.now) }
+        → whole_size made ≤ 64 * stage_weight (update_nodes (flags_of plan.now.schedule.now.standings)
+        plan.now.pipeline.now.funcs of.now.update.now) of.now.stage.now) }
 {
     // What every pipeline keeps is known once its parts are read.
-    let _funcs = bounded.pipeline.funcs();
-    let store = store_at(alloc, bounded, corners, corner, of)?;
+    let _funcs = plan.pipeline.funcs();
+    let store = store_at(alloc, plan, corners, corner, of)?;
     let extents = update_extents(of.computed.own, of.update);
     let made = nest_of(alloc, of.computed.place, of.stage, extents, store)?;
     Ok(made)

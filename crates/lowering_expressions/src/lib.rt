@@ -11,4 +11,4 @@ pub mod lowering;
 pub mod parts;
 
 pub use crate::calls::Corner;
-pub use crate::lowering::{Arguments, lowered};
+pub use crate::lowering::{Arguments, Callees, lowered};

@@ -95,64 +95,74 @@ fn variable_of(
     }
 }
 
-/// A definition that calls the first so many Funcs, of which the flagged ones are put in place.
+/// The Funcs that a definition may call, and where they lie.
+#[derive(Clone, Copy)]
+pub struct Callees<'a> {
+    pub funcs: &'a [Func],
+    /// Which Funcs are inlined.
+    pub flags: &'a [bool],
+    /// How many of the Funcs the definition may call, the first ones.
+    pub count: usize,
+    /// The corner of each Func's box.
+    pub corners: &'a [Corner],
+}
+
+/// A definition, with inlined Funcs put in place.
 #[cycle(lowering)]
 fn lowered_in(
     alloc: Global,
-    funcs: &[Func],
-    flags: &[bool],
-    count: usize,
-    corners: &[Corner],
+    callees: &Callees<'_>,
     variables: &Terms<'_>,
     expr: &Expr,
 ) -> Result<terms::Expr, AllocError>
     ensures follows { IfOk result (λ made. (values : Values) (reads : Reads)
-        → Follows corners.now values reads (term_loads reads values variables.now) made
-        (inlined (algebra corners.now values reads) (flagged flags.now) funcs.now count
+        → Follows callees.now.corners.now values reads (term_loads reads values variables.now) made
+        (inlined (algebra callees.now.corners.now values reads) (flagged callees.now.flags.now) callees.now.funcs.now
+        callees.now.count
         (variable_terms reads values variables.now) expr.now)) }
     ensures needs { IfOk result (λ made. (most : Variables → ℕ) → AreTaken variables.now most
-        → need made ≤ inlined taking (flagged flags.now) funcs.now count most expr.now) }
-    ensures sizes { IfOk result (λ made. AreShort corners.now → (nodes : Variables → ℕ) → AreGiven variables.now nodes
-        → IsGiven (size made) (inlined counting (flagged flags.now) funcs.now count nodes expr.now)) }
+        → need made ≤ inlined taking (flagged callees.now.flags.now) callees.now.funcs.now callees.now.count most
+        expr.now) }
+    ensures sizes { IfOk result (λ made. AreShort callees.now.corners.now → (nodes : Variables → ℕ) → AreGiven
+        variables.now nodes
+        → IsGiven (size made) (inlined counting (flagged callees.now.flags.now) callees.now.funcs.now callees.now.count
+        nodes expr.now)) }
 {
     match expr {
         Expr::Number(own) => Ok(number(*own)),
-        Expr::Variable(own) => {
-            let made = variable_of(alloc, variables, *own)?;
-            Ok(made)
-        }
+        Expr::Variable(own) => variable_of(alloc, variables, *own),
         Expr::Binary(operation, a, b) => {
-            let a = lowered_in(alloc, funcs, flags, count, corners, variables, a.get())?;
-            let b = lowered_in(alloc, funcs, flags, count, corners, variables, b.get())?;
+            let a = lowered_in(alloc, callees, variables, a.get())?;
+            let b = lowered_in(alloc, callees, variables, b.get())?;
             let made = binary(alloc, *operation, a, b)?;
             Ok(made)
         }
         Expr::Divide(a, divisor) => {
-            let a = lowered_in(alloc, funcs, flags, count, corners, variables, a.get())?;
+            let a = lowered_in(alloc, callees, variables, a.get())?;
             let made = divide(alloc, a, *divisor)?;
             Ok(made)
         }
         Expr::Remainder(a, divisor) => {
-            let a = lowered_in(alloc, funcs, flags, count, corners, variables, a.get())?;
+            let a = lowered_in(alloc, callees, variables, a.get())?;
             let made = remainder(alloc, a, *divisor)?;
             Ok(made)
         }
         Expr::Select(c, a, b) => {
-            let c = lowered_in(alloc, funcs, flags, count, corners, variables, c.get())?;
-            let a = lowered_in(alloc, funcs, flags, count, corners, variables, a.get())?;
-            let b = lowered_in(alloc, funcs, flags, count, corners, variables, b.get())?;
+            let c = lowered_in(alloc, callees, variables, c.get())?;
+            let a = lowered_in(alloc, callees, variables, a.get())?;
+            let b = lowered_in(alloc, callees, variables, b.get())?;
             let made = select(alloc, c, a, b)?;
             Ok(made)
         }
         Expr::Call1(source, x) => {
-            let x = lowered_in(alloc, funcs, flags, count, corners, variables, x.get())?;
-            let made = called(alloc, funcs, flags, count, corners, *source, x, number(0))?;
+            let x = lowered_in(alloc, callees, variables, x.get())?;
+            let made = called(alloc, callees, *source, x, number(0))?;
             Ok(made)
         }
         Expr::Call2(source, x, y) => {
-            let x = lowered_in(alloc, funcs, flags, count, corners, variables, x.get())?;
-            let y = lowered_in(alloc, funcs, flags, count, corners, variables, y.get())?;
-            let made = called(alloc, funcs, flags, count, corners, *source, x, y)?;
+            let x = lowered_in(alloc, callees, variables, x.get())?;
+            let y = lowered_in(alloc, callees, variables, y.get())?;
+            let made = called(alloc, callees, *source, x, y)?;
             Ok(made)
         }
     }
@@ -162,46 +172,56 @@ fn lowered_in(
 #[cycle(lowering)]
 fn called(
     alloc: Global,
-    funcs: &[Func],
-    flags: &[bool],
-    count: usize,
-    corners: &[Corner],
+    callees: &Callees<'_>,
     source: Source,
     x: terms::Expr,
     y: terms::Expr,
 ) -> Result<terms::Expr, AllocError>
     ensures follows { IfOk result (λ made. (values : Values) (reads : Reads) (given : List Point) (left right : Seen)
-        → Follows corners.now values reads given x left → Follows corners.now values reads given y right
-        → Follows corners.now values reads given made
-        (answered ((algebra corners.now values reads).level (layer.Call2 source left right)) left (Some right)
-        (answer (inside (algebra corners.now values reads) (flagged flags.now) funcs.now count) source))) }
+        → Follows callees.now.corners.now values reads given x left → Follows callees.now.corners.now values reads
+        given y right
+        → Follows callees.now.corners.now values reads given made
+        (answered ((algebra callees.now.corners.now values reads).level (layer.Call2 source left right)) left (Some
+        right)
+        (answer (inside (algebra callees.now.corners.now values reads) (flagged callees.now.flags.now)
+        callees.now.funcs.now callees.now.count) source))) }
     ensures needs { IfOk result (λ made. (left : ℕ) (right : Option ℕ) → need x ≤ left → IsSecond y right
         → need made ≤ answered (call_need left right) left right
-        (answer (inside taking (flagged flags.now) funcs.now count) source)) }
-    ensures sizes { IfOk result (λ made. AreShort corners.now → (left : ℕ) (right : Option ℕ) → IsGiven (size x) left
+        (answer (inside taking (flagged callees.now.flags.now) callees.now.funcs.now callees.now.count) source)) }
+    ensures sizes { IfOk result (λ made. AreShort callees.now.corners.now → (left : ℕ) (right : Option ℕ) → IsGiven
+        (size x) left
         → IsGivenSecond y right
         → IsGiven (size made) (answered (call_nodes left right) left right
-        (answer (inside counting (flagged flags.now) funcs.now count) source))) }
+        (answer (inside counting (flagged callees.now.flags.now) callees.now.funcs.now callees.now.count) source))) }
 {
     match source {
         Source::Input(_) => {
-            let made = load(alloc, corners, source, x, y)?;
+            let made = load(alloc, callees.corners, source, x, y)?;
             Ok(made)
         }
-        Source::Func(place) => match inlined_func(funcs, flags, count, place) {
+        Source::Func(place) => match inlined_func(
+            callees.funcs,
+            callees.flags,
+            callees.count,
+            place,
+        ) {
             None => {
-                let made = load(alloc, corners, source, x, y)?;
+                let made = load(alloc, callees.corners, source, x, y)?;
                 Ok(made)
             }
             Some(func) => {
                 let zero = number(0);
+                let earlier = Callees {
+                    count: place,
+                    ..*callees
+                };
                 let variables = Terms {
                     first_argument: &x,
                     second_argument: &y,
                     first_reduction: &zero,
                     second_reduction: &zero,
                 };
-                let made = lowered_in(alloc, funcs, flags, place, corners, &variables, &func.pure)?;
+                let made = lowered_in(alloc, &earlier, &variables, &func.pure)?;
                 Ok(made)
             }
         },
@@ -265,35 +285,37 @@ fn terms_of<'a>(sums: &'a Sums) -> Terms<'a>
     }
 }
 
-/// What a definition comes to that calls the first so many Funcs: those whose flags are set are put in place, and
-/// what it reads of inputs and of all others is loaded from their buffers, counted from their corners.
+/// What a definition comes to that may call these Funcs: those that are inlined are put in place, and what it reads of
+/// inputs and of all others is loaded from their buffers, counted from their corners.
 ///
 /// # Errors
 ///
 /// Memory ran out.
 pub fn lowered(
     alloc: Global,
-    funcs: &[Func],
-    flags: &[bool],
-    count: usize,
-    corners: &[Corner],
+    callees: &Callees<'_>,
     variables: &Arguments,
     expr: &Expr,
 ) -> Result<terms::Expr, AllocError>
     ensures value { IfOk result (λ made. (reads : Reads) (values : Values) → value reads values made
-        ≡ inlined (valuing (placed corners.now values reads)) (flagged flags.now) funcs.now count
+        ≡ inlined (valuing (placed callees.now.corners.now values reads)) (flagged callees.now.flags.now)
+        callees.now.funcs.now callees.now.count
         (variable_in (environment values variables.now)) expr.now) }
     ensures loads { IfOk result (λ made. (reads : Reads) (values : Values) (test : Point → Bool)
-        → Hold (λ point. test (place corners.now values point)) (inlined (seeing (placed corners.now values reads))
-        (flagged flags.now) funcs.now count (seen_variable (environment values variables.now)) expr.now).points
+        → Hold (λ point. test (place callees.now.corners.now values point)) (inlined (seeing (placed
+        callees.now.corners.now values reads))
+        (flagged callees.now.flags.now) callees.now.funcs.now callees.now.count (seen_variable (environment values
+        variables.now)) expr.now).points
         → Hold test (loads reads values made)) }
-    ensures needs { IfOk result (λ made. need made ≤ inlined taking (flagged flags.now) funcs.now count (λ v. 1)
+    ensures needs { IfOk result (λ made. need made ≤ inlined taking (flagged callees.now.flags.now)
+        callees.now.funcs.now callees.now.count (λ v. 1)
         expr.now) }
-    ensures sizes { IfOk result (λ made. AreShort corners.now → AreShortArguments variables.now
-        → IsGiven (size made) (inlined counting (flagged flags.now) funcs.now count (λ v. 1) expr.now)) }
+    ensures sizes { IfOk result (λ made. AreShort callees.now.corners.now → AreShortArguments variables.now
+        → IsGiven (size made) (inlined counting (flagged callees.now.flags.now) callees.now.funcs.now callees.now.count
+        (λ v. 1) expr.now)) }
 {
     let sums = sums_of(alloc, variables)?;
     let standing = terms_of(&sums);
-    let made = lowered_in(alloc, funcs, flags, count, corners, &standing, expr)?;
+    let made = lowered_in(alloc, callees, &standing, expr)?;
     Ok(made)
 }

@@ -4,10 +4,10 @@ use Rattle.hrv_compiler.proofs.Low.{lies_low, privates_low, roots_low}
 use Rattle.hrv_compiler.proofs.places.places.Goals as goal
 
 pub func_places-requires-clause-roots : goal.func_places-requires-clause-roots
-func_places-requires-clause-roots c = subst AreAddresses (sym c.as_slice-4.ensures) (roots_low c.args.pipeline.now c.args.schedule.now c.args.boxes.now c.requires.boxes)
+func_places-requires-clause-roots c = subst AreAddresses (sym c.as_slice-4.ensures) (roots_low c.args.plan.now.pipeline.now c.args.plan.now.schedule.now c.args.plan.now.boxes.now c.requires.plan.boxes)
 
 pub func_places-requires-clause-privates : goal.func_places-requires-clause-privates
-func_places-requires-clause-privates c = subst AreAddresses (sym c.as_slice-5.ensures) (privates_low c.args.pipeline.now c.args.schedule.now c.args.boxes.now c.requires.boxes)
+func_places-requires-clause-privates c = subst AreAddresses (sym c.as_slice-5.ensures) (privates_low c.args.plan.now.pipeline.now c.args.plan.now.schedule.now c.args.plan.now.boxes.now c.requires.plan.boxes)
 
 pub overflow_cast-frames : goal.overflow_cast-frames
-overflow_cast-frames c = let l = (lies_low c.args.pipeline.now c.args.schedule.now c.args.boxes.now c.requires.boxes).frames in omega (arith, l)
+overflow_cast-frames c = let l = (lies_low c.args.plan.now.pipeline.now c.args.plan.now.schedule.now c.args.plan.now.boxes.now c.requires.plan.boxes).frames in omega (arith, l)

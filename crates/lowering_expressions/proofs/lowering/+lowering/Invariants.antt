@@ -4,7 +4,7 @@ use Rattle.bounds_inlining.proofs.Steps.{size}
 use Rattle.lowering_expressions.proofs.lowering.+lowering.Given as goal
 
 abbrev pub decreases-called : goal.decreases-called
-decreases-called l = size l.funcs.now l.count 0
+decreases-called l = size l.callees.now.funcs.now l.callees.now.count 0
 
 abbrev pub decreases-lowered_in : goal.decreases-lowered_in
-decreases-lowered_in l = size l.funcs.now l.count (nodes l.expr.now)
+decreases-lowered_in l = size l.callees.now.funcs.now l.callees.now.count (nodes l.expr.now)

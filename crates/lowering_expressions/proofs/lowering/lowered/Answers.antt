@@ -8,15 +8,15 @@ use Rattle.lowering_expressions.proofs.lowering.lowered.Goals as goal
 pub returns-clause-value : goal.returns-clause-value
 returns-clause-value c = λ reads values.
     let terms = c.terms_of-standing.result in
-    lowered_value c.args.corners.now values reads c.args.variables.now terms.first_argument.now terms.second_argument.now terms.first_reduction.now terms.second_reduction.now
-    (c.terms_of-standing.ensures.first_argument ∙ c.in_ok-sums.ensures.first_argument) (c.terms_of-standing.ensures.second_argument ∙ c.in_ok-sums.ensures.second_argument) (c.terms_of-standing.ensures.first_reduction ∙ c.in_ok-sums.ensures.first_reduction) (c.terms_of-standing.ensures.second_reduction ∙ c.in_ok-sums.ensures.second_reduction) (flagged c.args.flags.now) c.args.funcs.now c.args.count c.args.expr.now c.in_ok-made.made
+    lowered_value c.args.callees.now.corners.now values reads c.args.variables.now terms.first_argument.now terms.second_argument.now terms.first_reduction.now terms.second_reduction.now
+    (c.terms_of-standing.ensures.first_argument ∙ c.in_ok-sums.ensures.first_argument) (c.terms_of-standing.ensures.second_argument ∙ c.in_ok-sums.ensures.second_argument) (c.terms_of-standing.ensures.first_reduction ∙ c.in_ok-sums.ensures.first_reduction) (c.terms_of-standing.ensures.second_reduction ∙ c.in_ok-sums.ensures.second_reduction) (flagged c.args.callees.now.flags.now) c.args.callees.now.funcs.now c.args.callees.now.count c.args.expr.now c.in_ok-made.made
     (c.in_ok-made.ensures.follows values reads)
 
 pub returns-clause-loads : goal.returns-clause-loads
 returns-clause-loads c = λ reads values.
     let terms = c.terms_of-standing.result in
-    lowered_loads c.args.corners.now values reads c.args.variables.now terms.first_argument.now terms.second_argument.now terms.first_reduction.now terms.second_reduction.now
-    (c.terms_of-standing.ensures.first_argument ∙ c.in_ok-sums.ensures.first_argument) (c.terms_of-standing.ensures.second_argument ∙ c.in_ok-sums.ensures.second_argument) (c.terms_of-standing.ensures.first_reduction ∙ c.in_ok-sums.ensures.first_reduction) (c.terms_of-standing.ensures.second_reduction ∙ c.in_ok-sums.ensures.second_reduction) (flagged c.args.flags.now) c.args.funcs.now c.args.count c.args.expr.now c.in_ok-made.made
+    lowered_loads c.args.callees.now.corners.now values reads c.args.variables.now terms.first_argument.now terms.second_argument.now terms.first_reduction.now terms.second_reduction.now
+    (c.terms_of-standing.ensures.first_argument ∙ c.in_ok-sums.ensures.first_argument) (c.terms_of-standing.ensures.second_argument ∙ c.in_ok-sums.ensures.second_argument) (c.terms_of-standing.ensures.first_reduction ∙ c.in_ok-sums.ensures.first_reduction) (c.terms_of-standing.ensures.second_reduction ∙ c.in_ok-sums.ensures.second_reduction) (flagged c.args.callees.now.flags.now) c.args.callees.now.funcs.now c.args.callees.now.count c.args.expr.now c.in_ok-made.made
     (c.in_ok-made.ensures.follows values reads)
 
 pub returns-clause-needs : goal.returns-clause-needs
