@@ -94,6 +94,10 @@ module _ (places : Places) where
   whole-is : {part whole : Stmt} {inner scope : List Counter} (own : Stmt) → own ≡ whole → IsPart part inner whole scope → IsPart part inner own scope
   whole-is {part} {whole} {inner} {scope} own e is = subst (λ (y : Stmt). IsPart part inner y scope) (sym e) is
 
+  -- a statement among counters that are these
+  pub same-part : (own : Stmt) (view items scope : List Counter) → view ≡ items → items ≡ scope → IsPart own view own scope
+  same-part own view items scope ev ei = of-same own view refl (ev ∙ ei) (record { long = λ long. long; room = λ fits. fits })
+
   pub no-store : (own : Stmt) (store : Store) (scope : List Counter) → own ≡ s.Store store → (FitsStore places store → ⊥) → FitsStmt places own (length scope) → ⊥
   no-store own store scope e none is =
       none (is.0, subst (λ (n : ℕ). HasRoom places.frames n 0) (ap greatest_need e ∙ greatest_store store) is.1.0)

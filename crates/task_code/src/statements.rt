@@ -1,6 +1,6 @@
 //! The code of statements and of a task.
 
-ghost use Rattle.std.specs.Prelude.{◌≡◌, ◌+◌, ◌^◌, ◌<◌, ◌&&◌, nat_le, nat_lt, OnErr, OnOk, IfErr, IfOk, true};
+ghost use Rattle.std.specs.Prelude.{◌≡◌, ◌+◌, ◌^◌, ◌<◌, ◌&&◌, [], ◌∷◌, nat_le, nat_lt, OnErr, OnOk, IfErr, IfOk, true};
 ghost use Rattle.task_code_scalar.specs.Code.{store_code};
 ghost use Rattle.task_code.specs.inner.Code as spec;
 ghost use Rattle.task_code_scalar.specs.Faults.{FitsStore, IsFault};
@@ -27,12 +27,22 @@ use task_code_scalar::loops::{append, emit_bind, emit_move, emit_turns, next_sea
 use task_code_scalar::operations::emit_addressed;
 use task_code_scalar::places::Places;
 use task_code_statements::stages::{
-    CodeStage, Stages, add_first, add_last, add_moved, add_second, no_stages, none_beside,
+    Code, CodeStage, Stages, add_first, add_last, add_moved, add_second, no_stages, none_beside,
 };
 use task_code_statements::tasks;
 use task_code_statements::tasks::emit_restored;
 use task_code_vector::collecting::{emit_collected, is_one_store};
 use task_code_vector::rounds::emit_rounds;
+use task_code_vector::vector_loops::VectorLoop;
+
+/// A loop taken apart: its variable, how often it runs, of which kind it is, and what it does each time.
+#[derive(Clone, Copy)]
+struct Loop<'a> {
+    counter: Counter,
+    count: u32,
+    kind: LoopKind,
+    body: &'a Stmt,
+}
 
 fn emit_store(
     code: &mut Vec<u32>,
@@ -60,27 +70,30 @@ fn emit_at_once(
     code: &mut Vec<u32>,
     places: &Places,
     scope: &[Counter],
-    counter: Counter,
-    count: u32,
-    kind: LoopKind,
-    body: &Stmt,
+    own: &Loop<'_>,
 ) -> Result<bool, AllocError>
-    ensures { IfOk result (λ found. EmitsAtOnce code.old.items code.new.items places.now scope.now counter count
-        body.now found (spec.group_of_loop places.now scope.now counter count kind body.now)) }
+    ensures { IfOk result (λ found. EmitsAtOnce code.old.items code.new.items places.now scope.now own.now.counter
+        own.now.count own.now.body.now found
+        (spec.group_of_loop places.now scope.now own.now.counter own.now.count own.now.kind own.now.body.now)) }
 {
-    match kind {
+    match own.kind {
         LoopKind::Serial => Ok(false),
         LoopKind::Unrolled => Ok(false),
-        LoopKind::Vectorized => match Group::of_rounds(count) {
+        LoopKind::Vectorized => match Group::of_rounds(own.count) {
             None => Ok(false),
-            Some(group) => match emit_rounds(
-                alloc, code, group, places, scope, counter, count, body,
-            ) {
-                Ok(()) => Ok(true),
-                Err(CodeFault::OutOfMemory(error)) => Err(error),
-                Err(CodeFault::TooLong) => Ok(false),
-                Err(CodeFault::TooDeep) => Ok(false),
-            },
+            Some(group) => {
+                let rounds = VectorLoop {
+                    counter: own.counter,
+                    count: own.count,
+                    body: own.body,
+                };
+                match emit_rounds(alloc, code, group, places, scope, &rounds) {
+                    Ok(()) => Ok(true),
+                    Err(CodeFault::OutOfMemory(error)) => Err(error),
+                    Err(CodeFault::TooLong) => Ok(false),
+                    Err(CodeFault::TooDeep) => Ok(false),
+                }
+            }
         },
     }
 }
@@ -116,19 +129,24 @@ fn emit_otherwise(
     code: &mut Vec<u32>,
     places: &Places,
     scope: &[Counter],
-    counter: Counter,
-    count: u32,
-    kind: LoopKind,
-    body: &Stmt,
+    own: &Loop<'_>,
     in_turn: &[u32],
 ) -> Result<(), CodeFault>
-    ensures ok { OnOk result (EmitsOtherwise code.old.items code.new.items places.now scope.now counter count kind
-        body.now in_turn.now) }
-    ensures err { IfErr result (IsOtherwiseFault places.now scope.now counter count kind body.now in_turn.now) }
+    ensures ok { OnOk result (EmitsOtherwise code.old.items code.new.items places.now scope.now own.now.counter
+        own.now.count own.now.kind own.now.body.now in_turn.now) }
+    ensures err { IfErr result (IsOtherwiseFault places.now scope.now own.now.counter own.now.count own.now.kind
+        own.now.body.now in_turn.now) }
 {
-    match group_collected(count, kind, body) {
+    match group_collected(own.count, own.kind, own.body) {
         None => append(code, in_turn)?,
-        Some(group) => emit_collected(alloc, code, group, places, scope, counter, count, body)?,
+        Some(group) => {
+            let rounds = VectorLoop {
+                counter: own.counter,
+                count: own.count,
+                body: own.body,
+            };
+            emit_collected(alloc, code, group, places, scope, &rounds)?
+        }
     }
     Ok(())
 }
@@ -140,39 +158,28 @@ fn emit_taken(
     code: &mut Vec<u32>,
     places: &Places,
     scope: &[Counter],
-    counter: Counter,
-    count: u32,
-    kind: LoopKind,
-    body: &Stmt,
+    own: &Loop<'_>,
     in_turn: &[u32],
 ) -> Result<(), CodeFault>
-    ensures ok { OnOk result (EmitsTaken code.old.items code.new.items places.now scope.now counter count kind body.now
-        in_turn.now) }
-    ensures err { IfErr result (IsTakenFault places.now scope.now counter count kind body.now in_turn.now) }
+    ensures ok { OnOk result (EmitsTaken code.old.items code.new.items places.now scope.now own.now.counter
+        own.now.count
+        own.now.kind own.now.body.now in_turn.now) }
+    ensures err { IfErr result (IsTakenFault places.now scope.now own.now.counter own.now.count own.now.kind
+        own.now.body.now in_turn.now) }
 {
     let mut at_once = Vec::new(alloc);
-    let found = emit_at_once(
-        alloc,
-        &mut at_once,
-        places,
-        scope,
-        counter,
-        count,
-        kind,
-        body,
-    )?;
-    let most = at_once_size(body);
+    let found = emit_at_once(alloc, &mut at_once, places, scope, own)?;
+    let most = at_once_size(own.body);
     if is_taken(found, at_once.len(), in_turn.len(), most) {
         append(code, at_once.as_slice())?;
         return Ok(());
     }
-    emit_otherwise(
-        alloc, code, places, scope, counter, count, kind, body, in_turn,
-    )?;
+    emit_otherwise(alloc, code, places, scope, own, in_turn)?;
     Ok(())
 }
 
 /// Appends the code of a statement among these counters.
+#[cycle(nesting)]
 fn emit_stmt(
     alloc: Global,
     code: &mut Vec<u32>,
@@ -200,58 +207,60 @@ fn emit_stmt(
         }
         Stmt::For(counter, count, kind, body) => {
             let r = next_seat(scope)?;
-            let within = with_counter(alloc, scope, *counter)?;
-            let mut inner = Vec::new(alloc);
-            let mut inside = none_beside(alloc, stages);
-            emit_stmt(
-                alloc,
-                &mut inner,
-                places,
-                within.as_slice(),
-                body.get(),
-                &mut inside,
-            )?;
+            let inner = emit_inside(alloc, places, scope, *counter, body.get(), stages)?;
             let mut in_turn = Vec::new(alloc);
             let is_laid = is_laid_out(*kind);
-            emit_turns(&mut in_turn, is_laid, r, *count, inner.as_slice())?;
-            emit_taken(
-                alloc,
-                code,
-                places,
-                scope,
-                *counter,
-                *count,
-                *kind,
-                body.get(),
-                in_turn.as_slice(),
-            )?;
-            let turns = turns_of(is_laid, *count, inner.len());
-            add_turns(stages, inside.list.as_slice(), turns, code.len())?;
+            emit_turns(&mut in_turn, is_laid, r, *count, inner.words.as_slice())?;
+            let own = Loop {
+                counter: *counter,
+                count: *count,
+                kind: *kind,
+                body: body.get(),
+            };
+            emit_taken(alloc, code, places, scope, &own, in_turn.as_slice())?;
+            let turns = turns_of(is_laid, *count, inner.words.len());
+            add_turns(stages, inner.stages.list.as_slice(), turns, code.len())?;
             Ok(())
         }
         Stmt::Bind(counter, whole, extent, body) => {
             let r = next_seat(scope)?;
-            let within = with_counter(alloc, scope, *counter)?;
-            let mut inner = Vec::new(alloc);
-            let mut inside = none_beside(alloc, stages);
-            emit_stmt(
-                alloc,
-                &mut inner,
-                places,
-                within.as_slice(),
-                body.get(),
-                &mut inside,
-            )?;
-            emit_bind(code, scope, whole, *extent, r, inner.as_slice())?;
-            add_last(
-                &mut stages.list,
-                inside.list.as_slice(),
-                inner.len(),
-                code.len(),
-            )?;
+            let inner = emit_inside(alloc, places, scope, *counter, body.get(), stages)?;
+            emit_bind(code, scope, whole, *extent, r, inner.words.as_slice())?;
+            let found = inner.stages.list.as_slice();
+            add_last(&mut stages.list, found, inner.words.len(), code.len())?;
             Ok(())
         }
     }
+}
+
+/// The code of a statement among these counters and one more, beside that of a phase with these stages.
+#[cycle(nesting)]
+fn emit_inside(
+    alloc: Global,
+    places: &Places,
+    scope: &[Counter],
+    counter: Counter,
+    body: &Stmt,
+    stages: &Stages,
+) -> Result<Code, CodeFault>
+    ensures ok { IfOk result (λ made. EmitsStmt [] made.words.items places.now body.now (counter ∷ scope.now)) }
+    ensures err { IfErr result (IsStmtFault places.now body.now (counter ∷ scope.now)) }
+{
+    let within = with_counter(alloc, scope, counter)?;
+    let mut words = Vec::new(alloc);
+    let mut inside = none_beside(alloc, stages);
+    emit_stmt(
+        alloc,
+        &mut words,
+        places,
+        within.as_slice(),
+        body,
+        &mut inside,
+    )?;
+    Ok(Code {
+        words,
+        stages: inside,
+    })
 }
 
 fn task_scope(alloc: Global, counter: Option<Counter>) -> Result<Vec<Counter>, AllocError>

@@ -214,6 +214,14 @@ module _ (places : Places) (bounds : List Bound) where
 
   -- ---- other expressions
 
+  pub ranged-anywhere : (own x : Expr) (made : Ranged) → made.e ≡ x → made.is_word ≡ false
+      → IsRanged places bounds own (record { e = x; range = made.range; is_word = false }) → IsRanged places bounds own made
+  ranged-anywhere own x made is none all = record {
+    same = subst (λ t. IsSame places bounds own t) (sym is) all.same;
+    lies = all.lies;
+    word = λ reads values below bytes w. absurd (true≢false (sym w ∙ none));
+  }
+
   pub ranged-divide : (own x gx made : Expr) (c : ℕ) (range : Range) → own ≡ e.Divide x c → gx ≡ x → IsSame places bounds gx made
       → ((v : ℕ) → LiesIn range v) → IsRanged places bounds own (record { e = e.Divide made c; range = range; is_word = false })
   ranged-divide own x gx made c range is ex same l =

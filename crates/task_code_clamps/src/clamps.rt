@@ -1,6 +1,6 @@
 //! Expressions and stores without clamps that cut nothing off.
 
-ghost use Rattle.std.specs.Prelude.{◌&&◌, ◌<◌, ◌^◌, ◌≡◌, ℕ, List, IfOk, [], true};
+ghost use Rattle.std.specs.Prelude.{◌&&◌, ◌<◌, ◌^◌, ◌≡◌, ℕ, List, IfOk, [], false, true};
 ghost use Rattle.halide_pipeline.specs.Words as word;
 ghost use Rattle.halide_pipeline.specs.Pixel.{Reads};
 ghost use Rattle.loop_ir.specs.Counters.{Values};
@@ -170,6 +170,30 @@ fn of_both(alloc: Global, operation: Operation, a: Ranged, b: Ranged) -> Result<
     })
 }
 
+/// An expression whose value is a word in this range.
+fn word_in(e: Expr, range: Range) -> Ranged
+    ensures { result ≡ record { e = e; range = range; is_word = true } }
+{
+    Ranged {
+        e,
+        range,
+        is_word: true,
+    }
+}
+
+/// An expression of whose value nothing is known.
+fn anywhere(e: Expr) -> Ranged
+    ensures same { result.e ≡ e }
+    ensures lies { (v : ℕ) → LiesIn result.range v }
+    ensures word { result.is_word ≡ false }
+{
+    Ranged {
+        e,
+        range: any(),
+        is_word: false,
+    }
+}
+
 /// So it is with an expression behind a pointer, whose range is not asked for.
 #[cycle(ranging)]
 fn part(
@@ -201,19 +225,11 @@ pub fn unclamped(
     ensures { IfOk result (IsRanged places.now bounds.now e.now) }
 {
     match e {
-        Expr::Number(n) => Ok(Ranged {
-            e: Expr::Number(*n),
-            range: only(*n),
-            is_word: true,
-        }),
+        Expr::Number(n) => Ok(word_in(Expr::Number(*n), only(*n))),
         Expr::Linear(own) => {
             let sum = own.copy(alloc)?;
             let range = of_sum(own, bounds);
-            Ok(Ranged {
-                e: Expr::Linear(sum),
-                range,
-                is_word: true,
-            })
+            Ok(word_in(Expr::Linear(sum), range))
         }
         Expr::Binary(operation, a, b) => {
             let first = unclamped(alloc, places, bounds, a.get())?;
@@ -223,29 +239,17 @@ pub fn unclamped(
         }
         Expr::Divide(a, divisor) => {
             let first = part(alloc, places, bounds, a.get())?;
-            Ok(Ranged {
-                e: Expr::Divide(first, *divisor),
-                range: any(),
-                is_word: false,
-            })
+            Ok(anywhere(Expr::Divide(first, *divisor)))
         }
         Expr::Remainder(a, divisor) => {
             let first = part(alloc, places, bounds, a.get())?;
-            Ok(Ranged {
-                e: Expr::Remainder(first, *divisor),
-                range: any(),
-                is_word: false,
-            })
+            Ok(anywhere(Expr::Remainder(first, *divisor)))
         }
         Expr::Select(c, a, b) => {
             let condition = part(alloc, places, bounds, c.get())?;
             let first = part(alloc, places, bounds, a.get())?;
             let second = part(alloc, places, bounds, b.get())?;
-            Ok(Ranged {
-                e: Expr::Select(condition, first, second),
-                range: any(),
-                is_word: false,
-            })
+            Ok(anywhere(Expr::Select(condition, first, second)))
         }
         Expr::Load(source, x, y) => {
             let column = part(alloc, places, bounds, x.get())?;

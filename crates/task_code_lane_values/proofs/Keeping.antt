@@ -37,6 +37,7 @@ use Rattle.task_code_lanes.proofs.Slots.{slot-lies}
 use Rattle.task_code_lanes.proofs.Rows as rows
 use Rattle.task_code_lanes.proofs.Operations.{arithmetic-writes}
 use Rattle.task_code_lane_values.specs.declared.sharing.Sharing.{Sharing}
+use Rattle.task_code_lane_values.specs.declared.vectorized.LaneSite.{LaneSite}
 use Rattle.task_code_lane_values.specs.declared.vectorized.Lanes.{Lanes}
 use Rattle.task_code_lane_values.specs.Leaving.{IsUnder, LeavesLanes, MakesLanes}
 use Rattle.task_code_lane_values.specs.inner.Sharing.{AreParts, Begins, HoldsKept, HoldsValue, IsKeptAt, IsPart, IsTwo, Keeps, Leads, MakesOperand, MakesShared}
@@ -131,29 +132,29 @@ value-still own reads values n f g s k x l few same h = record {
   small = h.small;
 }
 
-kept-still : (own : Sharing) (reads : Reads) (values : Values) (n : ℕ) (f g : ℕ → ℕ) (k : ℕ) → 2 ≤ k → n ≤ 4 * registers own.lanes.group
-    → ((q : ℕ) → IsUnder own.lanes.group k q → g q ≡ f q) → HoldsKept own reads values n f → HoldsKept own reads values n g
+kept-still : (own : Sharing) (reads : Reads) (values : Values) (n : ℕ) (f g : ℕ → ℕ) (k : ℕ) → 2 ≤ k → n ≤ 4 * registers own.site.lanes.group
+    → ((q : ℕ) → IsUnder own.site.lanes.group k q → g q ≡ f q) → HoldsKept own reads values n f → HoldsKept own reads values n g
 kept-still own reads values n f g k two few same h = record {
-  first = value-still own.lanes reads values n f g 0 k own.first.now (omega (arith, two)) few same h.first;
-  second = value-still own.lanes reads values n f g 1 k own.second.now (omega (arith, two)) few same h.second;
+  first = value-still own.site.lanes reads values n f g 0 k own.first.now (omega (arith, two)) few same h.first;
+  second = value-still own.site.lanes reads values n f g 1 k own.second.now (omega (arith, two)) few same h.second;
 }
 
 begins-still : (own : Sharing) (w : World) (m : List ℕ) (values : Values) (n : ℕ) (f g : ℕ → ℕ) (k : ℕ)
-    → ((q : ℕ) → IsUnder own.lanes.group k q → g q ≡ f q) → Begins own w m values n f → Begins own w m values n g
+    → ((q : ℕ) → IsUnder own.site.lanes.group k q → g q ≡ f q) → Begins own w m values n f → Begins own w m values n g
 begins-still own w m values n f g k same b = record {
   size = b.size;
   are_places = b.are_places;
   holders = b.holders;
-  knows = knows-still w.hart own.scope.now (with own.lanes.counter 0 values) f g
-      (λ q h. same q (kept-under own.lanes.group k own.scope.now q b.holders h)) b.knows;
-  has = lanes-under w m b.size own.lanes.group n k f g same b.has;
+  knows = knows-still w.hart own.site.scope.now (with own.site.lanes.counter 0 values) f g
+      (λ q h. same q (kept-under own.site.lanes.group k own.site.scope.now q b.holders h)) b.knows;
+  has = lanes-under w m b.size own.site.lanes.group n k f g same b.has;
   some = b.some;
   few = b.few;
 }
 
 -- ---- operands
 
-pub lanes-operand : (own : Sharing) (k : ℕ) (x : Expr) (c0 c1 : List ℕ) → MakesLanes c0 c1 own.places.now own.scope.now own.lanes k x
+pub lanes-operand : (own : Sharing) (k : ℕ) (x : Expr) (c0 c1 : List ℕ) → MakesLanes c0 c1 own.site.places.now own.site.scope.now own.site.lanes k x
     → MakesOperand c0 c1 own k k x
 lanes-operand own k x c0 c1 made = record {
   insns = made.insns;
@@ -182,11 +183,11 @@ kept-operand own k s x c0 two is = record {
     low (inr h) = let a = h.0 in omega (arith, a, two)
 
     holds : IsKeptAt own x s → (reads : Reads) (values : Values) (n : ℕ) (f : ℕ → ℕ) → HoldsKept own reads values n f
-        → HoldsValue own.lanes reads values n f s x
+        → HoldsValue own.site.lanes reads values n f s x
     holds (inl h) reads values n f kept =
-        subst (λ t. HoldsValue own.lanes reads values n f t x) (sym h.0) (subst (HoldsValue own.lanes reads values n f 0) (sym h.1) kept.first)
+        subst (λ t. HoldsValue own.site.lanes reads values n f t x) (sym h.0) (subst (HoldsValue own.site.lanes reads values n f 0) (sym h.1) kept.first)
     holds (inr h) reads values n f kept =
-        subst (λ t. HoldsValue own.lanes reads values n f t x) (sym h.0) (subst (HoldsValue own.lanes reads values n f 1) (sym h.1) kept.second)
+        subst (λ t. HoldsValue own.site.lanes reads values n f t x) (sym h.0) (subst (HoldsValue own.site.lanes reads values n f 1) (sym h.1) kept.second)
 
 pub operand-as : (own : Sharing) (k s : ℕ) (p a : Expr) (c0 c1 : List ℕ) → p ≡ a → MakesOperand c0 c1 own k s p → MakesOperand c0 c1 own k s a
 operand-as own k s p a c0 c1 is made = subst (MakesOperand c0 c1 own k s) is made
@@ -194,11 +195,11 @@ operand-as own k s p a c0 c1 is made = subst (MakesOperand c0 c1 own k s) is mad
 -- ---- an operation on two groups
 
 module _ (own : Sharing) (o : Operation) (vv : ArithmeticVvOp) (two : IsTwo o vv) (k s next t d : ℕ) (some : 2 ≤ k) (sn : s < next) (kn : k ≤ next)
-    (in-next : next < slots own.lanes.group) (dk : d ≤ k) (a b : Expr) (c0 c1 c2 c3 : List ℕ) (first : MakesOperand c0 c1 own k s a)
+    (in-next : next < slots own.site.lanes.group) (dk : d ≤ k) (a b : Expr) (c0 c1 c2 c3 : List ℕ) (first : MakesOperand c0 c1 own k s a)
     (second : MakesOperand c1 c2 own next t b)
-    (last : Emits c2 c3 (Vector (v.ArithmeticVv vv (slot own.lanes.group d) (slot own.lanes.group s) (slot own.lanes.group t) true) ∷ [])) where
+    (last : Emits c2 c3 (Vector (v.ArithmeticVv vv (slot own.site.lanes.group d) (slot own.site.lanes.group s) (slot own.site.lanes.group t) true) ∷ [])) where
   abbrev group : Group
-  group = own.lanes.group
+  group = own.site.lanes.group
 
   abbrev insn : List Insn
   insn = Vector (v.ArithmeticVv vv (slot group d) (slot group s) (slot group t) true) ∷ []
@@ -214,35 +215,36 @@ module _ (own : Sharing) (o : Operation) (vv : ArithmeticVvOp) (two : IsTwo o vv
 
   module _ (w : World) (m : List ℕ) (values : Values) (reads : Reads) (n : ℕ) (f : ℕ → ℕ) (begins : Begins own w m values n f)
       (kept : HoldsKept own reads values n f) (may : MayLoad own w m reads values n (e.Binary o a b)) where
-    parts : (i : ℕ) → i < n → AllByRecursion (Loads w own.places.now m reads) (loads reads (with own.lanes.counter i values) a)
-        × AllByRecursion (Loads w own.places.now m reads) (loads reads (with own.lanes.counter i values) b)
+    parts : (i : ℕ) → i < n → AllByRecursion (Loads w own.site.places.now m reads) (loads reads (with own.site.lanes.counter i values) a)
+        × AllByRecursion (Loads w own.site.places.now m reads) (loads reads (with own.site.lanes.counter i values) b)
     parts i l =
-        all_parts (Loads w own.places.now m reads) (loads reads (with own.lanes.counter i values) a) (loads reads (with own.lanes.counter i values) b)
-        (subst (AllByRecursion (Loads w own.places.now m reads)) (loads_binary reads (with own.lanes.counter i values) o a b) (may i l))
+        all_parts (Loads w own.site.places.now m reads) (loads reads (with own.site.lanes.counter i values) a)
+        (loads reads (with own.site.lanes.counter i values) b)
+        (subst (AllByRecursion (Loads w own.site.places.now m reads)) (loads_binary reads (with own.site.lanes.counter i values) o a b) (may i l))
 
-    abbrev one : Leads own w m first.insns f k (λ g. HoldsValue own.lanes reads values n g s a)
+    abbrev one : Leads own w m first.insns f k (λ g. HoldsValue own.site.lanes reads values n g s a)
     one = first.does w m values reads n f begins kept (λ i l. (parts i l).0)
 
-    abbrev other : Leads own w m second.insns one.after next (λ g. HoldsValue own.lanes reads values n g t b)
+    abbrev other : Leads own w m second.insns one.after next (λ g. HoldsValue own.site.lanes reads values n g t b)
     other =
         second.does w m values reads n one.after (begins-still own w m values n f one.after k one.keeps begins)
         (kept-still own reads values n f one.after k some begins.few one.keeps kept) (λ i l. (parts i l).1)
 
     abbrev x : ℕ → ℕ
-    x i = value reads (with own.lanes.counter i values) a
+    x i = value reads (with own.site.lanes.counter i values) a
 
     abbrev y : ℕ → ℕ
-    y i = value reads (with own.lanes.counter i values) b
+    y i = value reads (with own.site.lanes.counter i values) b
 
-    pub done : LeavesLanes w m whole f group d n (λ i. value reads (with own.lanes.counter i values) (e.Binary o a b))
+    pub done : LeavesLanes w m whole f group d n (λ i. value reads (with own.site.lanes.counter i values) (e.Binary o a b))
     done =
         let l = begins.size in
         let h1 = begins-still own w m values n f one.after k one.keeps begins in
         let h2 = begins-still own w m values n one.after other.after next other.keeps h1 in
-        let xs = value-still own.lanes reads values n one.after other.after s next a sn begins.few other.keeps one.so in
+        let xs = value-still own.site.lanes reads values n one.after other.after s next a sn begins.few other.keeps one.so in
         let ys = other.so in
-        let same : (i : ℕ) → word.applied o (x i) (y i) ≡ value reads (with own.lanes.counter i values) (e.Binary o a b) =
-        (λ i. sym (value_binary reads (with own.lanes.counter i values) o a b)) in
+        let same : (i : ℕ) → word.applied o (x i) (y i) ≡ value reads (with own.site.lanes.counter i values) (e.Binary o a b) =
+        (λ i. sym (value_binary reads (with own.site.lanes.counter i values) o a b)) in
         let low : t ≤ next = second.low in
         let dl = slot-lies group d (in-stack d (omega (arith, dk, kn))) in
         let sl = slot-lies group s (in-stack s (omega (arith, sn))) in
@@ -269,7 +271,7 @@ module _ (own : Sharing) (o : Operation) (vv : ArithmeticVvOp) (two : IsTwo o vv
     emits = whole-emits;
     low = omega arith;
     does = λ w m values reads n f begins kept may.
-        let r = subst (λ j. LeavesLanes w m whole f group j n (λ i. value reads (with own.lanes.counter i values) (e.Binary o a b))) ed
+        let r = subst (λ j. LeavesLanes w m whole f group j n (λ i. value reads (with own.site.lanes.counter i values) (e.Binary o a b))) ed
         (done w m values reads n f begins kept may) in
         record { after = r.after; line = r.line; keeps = r.keeps; so = record { value_is = r.value; small = r.small } };
   })
@@ -279,14 +281,14 @@ module _ (own : Sharing) (o : Operation) (vv : ArithmeticVvOp) (two : IsTwo o vv
     insns = whole;
     emits = whole-emits;
     does = λ w m values reads n f begins kept may.
-        subst (λ j. LeavesLanes w m whole f group j n (λ i. value reads (with own.lanes.counter i values) (e.Binary o a b))) ed
+        subst (λ j. LeavesLanes w m whole f group j n (λ i. value reads (with own.site.lanes.counter i values) (e.Binary o a b))) ed
         (done w m values reads n f begins kept may);
   })
 
 -- ---- both loads, and what is made with them
 
-pub both-kept : (own : Sharing) (c0 c1 c2 : List ℕ) → MakesLanes c0 c1 own.places.now own.scope.now own.lanes 0 own.first.now
-    → MakesLanes c1 c2 own.places.now own.scope.now own.lanes 1 own.second.now → Keeps c0 c2 own
+pub both-kept : (own : Sharing) (c0 c1 c2 : List ℕ) → MakesLanes c0 c1 own.site.places.now own.site.scope.now own.site.lanes 0 own.first.now
+    → MakesLanes c1 c2 own.site.places.now own.site.scope.now own.site.lanes 1 own.second.now → Keeps c0 c2 own
 both-kept own c0 c1 c2 first second = record {
   insns = first.insns ++ second.insns;
   emits = emits_then first.emits second.emits;
@@ -294,33 +296,32 @@ both-kept own c0 c1 c2 first second = record {
       let p = first.does w m values reads n f b.size b.are_places b.holders b.knows b.has b.some b.few may-first in
       let h = begins-still own w m values n f p.after 0 p.keeps b in
       let q = second.does w m values reads n p.after h.size h.are_places h.holders h.knows h.has h.some h.few may-second in
-      let up : (u : ℕ) → IsUnder own.lanes.group 0 u → IsUnder own.lanes.group 1 u = (λ u k. under-up own.lanes.group 0 1 u (omega arith) k) in
+      let up : (u : ℕ) → IsUnder own.site.lanes.group 0 u → IsUnder own.site.lanes.group 1 u = (λ u k. under-up own.site.lanes.group 0 1 u (omega arith) k) in
       record {
         after = q.after;
         line = line-then w first.insns second.insns f p.after q.after m m m p.line q.line;
         keeps = λ u k. q.keeps u (up u k) ∙ p.keeps u k;
         so = record {
-          first = value-still own.lanes reads values n p.after q.after 0 1 own.first.now (omega arith) b.few q.keeps
+          first = value-still own.site.lanes reads values n p.after q.after 0 1 own.first.now (omega arith) b.few q.keeps
               (record { value_is = p.value; small = p.small });
           second = record { value_is = q.value; small = q.small };
         };
       };
 }
 
-pub shared-lanes : (places : Places) (scope : List Held) (lanes : Lanes) (x : Expr) (own : Sharing) (c0 c1 c2 : List ℕ) → AreParts places scope lanes x own
-    → Keeps c0 c1 own → MakesShared c1 c2 own x → MakesLanes c0 c2 places scope lanes 0 x
-shared-lanes places scope lanes x own c0 c1 c2 are kept shared =
-    subst (λ p. MakesLanes c0 c2 p scope lanes 0 x) are.places_are
-    (subst (λ s. MakesLanes c0 c2 own.places.now s lanes 0 x) are.scope_is
-    (subst (λ z. MakesLanes c0 c2 own.places.now own.scope.now z 0 x) are.lanes_are (record {
+pub shared-lanes : (site : LaneSite) (x : Expr) (own : Sharing) (c0 c1 c2 : List ℕ) → AreParts site x own → Keeps c0 c1 own → MakesShared c1 c2 own x
+    → MakesLanes c0 c2 site.places.now site.scope.now site.lanes 0 x
+shared-lanes site x own c0 c1 c2 are kept shared =
+    subst (λ z. MakesLanes c0 c2 z.places.now z.scope.now z.lanes 0 x) are.site_is (record {
       insns = kept.insns ++ shared.insns;
       emits = emits_then kept.emits shared.emits;
       does = λ w m values reads n f size are-places holders knows has some few may.
           let b : Begins own w m values n f =
           record { size = size; are_places = are-places; holders = holders; knows = knows; has = has; some = some; few = few } in
           let part = λ (y : Expr) (is : IsPart x y) (i : ℕ) (l : i < n).
-          part-all (Loads w own.places.now m reads) (loads reads (with own.lanes.counter i values) x) (loads reads (with own.lanes.counter i values) y)
-          (is reads (with own.lanes.counter i values)) (may i l) in
+          part-all (Loads w own.site.places.now m reads) (loads reads (with own.site.lanes.counter i values) x)
+          (loads reads (with own.site.lanes.counter i values) y)
+          (is reads (with own.site.lanes.counter i values)) (may i l) in
           let p = kept.does w m values reads n f b (part own.first.now are.first) (part own.second.now are.second) in
           let r = shared.does w m values reads n p.after (begins-still own w m values n f p.after 0 p.keeps b) p.so may in
           record {
@@ -330,7 +331,7 @@ shared-lanes places scope lanes x own c0 c1 c2 are kept shared =
             small = r.small;
             keeps = λ u k. r.keeps u k ∙ p.keeps u k;
           };
-    })))
+    })
 
 -- ---- as the functions call it
 
@@ -339,10 +340,11 @@ some-of None P Q each h = h
 some-of (Some x) P Q each h = each x h
 
 -- what both operands leave, where the emitters call it by slots' registers
-pub slot-three : (own : Sharing) (vv : ArithmeticVvOp) (d s t rd rs rt : ℕ) (c0 c1 : List ℕ) → rd ≡ slot own.lanes.group d → rs ≡ slot own.lanes.group s
-    → rt ≡ slot own.lanes.group t → Emits c0 c1 (Vector (v.ArithmeticVv vv rd rs rt true) ∷ [])
-    → Emits c0 c1 (Vector (v.ArithmeticVv vv (slot own.lanes.group d) (slot own.lanes.group s) (slot own.lanes.group t) true) ∷ [])
+pub slot-three : (own : Sharing) (vv : ArithmeticVvOp) (d s t rd rs rt : ℕ) (c0 c1 : List ℕ) → rd ≡ slot own.site.lanes.group d → rs ≡ slot own.site.lanes.group
+    s
+    → rt ≡ slot own.site.lanes.group t → Emits c0 c1 (Vector (v.ArithmeticVv vv rd rs rt true) ∷ [])
+    → Emits c0 c1 (Vector (v.ArithmeticVv vv (slot own.site.lanes.group d) (slot own.site.lanes.group s) (slot own.site.lanes.group t) true) ∷ [])
 slot-three own vv d s t rd rs rt c0 c1 ed es et x =
-    subst (λ z. Emits c0 c1 (Vector (v.ArithmeticVv vv z (slot own.lanes.group s) (slot own.lanes.group t) true) ∷ [])) ed
-    (subst (λ z. Emits c0 c1 (Vector (v.ArithmeticVv vv rd z (slot own.lanes.group t) true) ∷ [])) es
+    subst (λ z. Emits c0 c1 (Vector (v.ArithmeticVv vv z (slot own.site.lanes.group s) (slot own.site.lanes.group t) true) ∷ [])) ed
+    (subst (λ z. Emits c0 c1 (Vector (v.ArithmeticVv vv rd z (slot own.site.lanes.group t) true) ∷ [])) es
     (subst (λ z. Emits c0 c1 (Vector (v.ArithmeticVv vv rd rs z true) ∷ [])) et x))

@@ -14,7 +14,7 @@ use crate::loads::{emit_along, emit_from, emit_offsets, emit_strided};
 use crate::operations::{emit_by, emit_two};
 use crate::scalars::{emit_form_operand, emit_literal, emit_steady};
 use crate::sums::emit_steps;
-use crate::vectorized::Lanes;
+use crate::vectorized::{LaneSite, Lanes};
 use halide_pipeline::{Operation, Source, words};
 use loop_ir::expressions::{Counter, Expr, Linear};
 use rv_insn::AluOp;
@@ -27,47 +27,74 @@ use task_code_registers::scopes::Held;
 use task_code_scalar::CodeFault;
 use task_code_scalar::expressions::place_of;
 use task_code_scalar::instructions::alu;
-use task_code_scalar::places::{Pixels, Place, Places};
+use task_code_scalar::places::{Pixels, Place};
 use task_code_values::accesses::bytes_of;
 use task_code_values::expressions::sum_of;
 
 // ---- points of two sums
 
+/// The column and the row of a point, where both are sums.
+#[derive(Debug)]
+pub(crate) struct Sums {
+    pub x: Linear,
+    pub y: Linear,
+}
+
+/// Written out, so that a check sees a call wherever one is dropped, and not the drops of its parts.
+impl Drop for Sums {
+    fn drop(self) {
+        let Sums { x, y } = self;
+        drop(x);
+        drop(y);
+    }
+}
+
+/// Both of a point's indexes as sums, where they are.
+pub(crate) fn both_sums(alloc: Global, x: &Expr, y: &Expr) -> Result<Option<Sums>, AllocError>
+    ensures { IfOk result (λ found. IfSome found (λ sums. IsSum x.now sums.x × IsSum y.now sums.y)) }
+{
+    match sum_of(alloc, x)? {
+        None => Ok(None),
+        Some(column) => match sum_of(alloc, y)? {
+            None => Ok(None),
+            Some(row) => Ok(Some(Sums { x: column, y: row })),
+        },
+    }
+}
+
 /// Appends a load of the pixels at two sums: they lie one behind the other, or at another stride.
 pub(crate) fn emit_point(
     alloc: Global,
     code: &mut Vec<u32>,
-    places: &Places,
-    scope: &[Held],
-    own: Lanes,
+    site: &LaneSite<'_>,
     source: Source,
-    x: &Linear,
-    y: &Linear,
+    sums: &Sums,
     k: u8,
 ) -> Result<(), CodeFault>
-    requires { k < slots own.group }
-    ensures { OnOk result (MakesPoint code.old.items code.new.items places.now scope.now own k source x.now y.now) }
+    requires { k < slots site.now.lanes.group }
+    ensures { OnOk result (MakesPoint code.old.items code.new.items site.now.places.now site.now.scope.now
+        site.now.lanes k source sums.now.x sums.now.y) }
 {
-    let place = place_of(places, source);
-    let form = point_form(alloc, &place, x, y)?;
-    let stride = stride_of(form.sum.terms.as_slice(), own.counter);
-    let start = at_value(alloc, &form, own.counter, 0)?;
+    let place = place_of(site.places, source);
+    let form = point_form(alloc, &place, &sums.x, &sums.y)?;
+    let stride = stride_of(form.sum.terms.as_slice(), site.lanes.counter);
+    let start = at_value(alloc, &form, site.lanes.counter, 0)?;
     if stride == bytes_of(place.pixels) {
-        let b = emit_form_operand(alloc, code, scope, &start)?;
-        emit_along(code, own.group, place.pixels, k, b)?;
+        let b = emit_form_operand(alloc, code, site.scope, &start)?;
+        emit_along(code, site.lanes.group, place.pixels, k, b)?;
         return Ok(());
     }
     match place.pixels {
         Pixels::Words => {
             emit_number(code, FIRST_VALUE, stride)?;
-            let b = emit_form_operand(alloc, code, scope, &start)?;
-            emit_strided(code, own.group, k, b, FIRST_VALUE)?;
+            let b = emit_form_operand(alloc, code, site.scope, &start)?;
+            emit_strided(code, site.lanes.group, k, b, FIRST_VALUE)?;
             Ok(())
         }
         Pixels::Bytes => {
-            emit_steps(alloc, code, scope, own, stride, k)?;
-            let b = emit_form_operand(alloc, code, scope, &start)?;
-            emit_from(code, own.group, place.pixels, k, b)?;
+            emit_steps(alloc, code, site.scope, site.lanes, stride, k)?;
+            let b = emit_form_operand(alloc, code, site.scope, &start)?;
+            emit_from(code, site.lanes.group, place.pixels, k, b)?;
             Ok(())
         }
     }
@@ -75,35 +102,40 @@ pub(crate) fn emit_point(
 
 // ---- points of a row that all iterations have
 
+/// A row of a buffer that all iterations have.
+#[derive(Clone, Copy)]
+pub(crate) struct Row<'a> {
+    pub source: Source,
+    pub y: &'a Expr,
+}
+
 /// Appends what makes a register point to a column of the first iteration in a row that all have.
 fn emit_row_pointer(
     alloc: Global,
     code: &mut Vec<u32>,
-    places: &Places,
-    scope: &[Held],
-    own: Lanes,
+    site: &LaneSite<'_>,
     place: &Place,
     x: &Linear,
     y: &Expr,
 ) -> Result<u8, CodeFault>
-    ensures { IfOk result (λ s. MakesRowPointer code.old.items code.new.items places.now
-        scope.now own s place.now x.now y.now) }
+    ensures { IfOk result (λ s. MakesRowPointer code.old.items code.new.items site.now.places.now
+        site.now.scope.now site.now.lanes s place.now x.now y.now) }
 {
     match sum_of(alloc, y)? {
         Some(row) => {
             let form = point_form(alloc, place, x, &row)?;
-            let start = at_value(alloc, &form, own.counter, 0)?;
-            let s = emit_form_operand(alloc, code, scope, &start)?;
+            let start = at_value(alloc, &form, site.lanes.counter, 0)?;
+            let s = emit_form_operand(alloc, code, site.scope, &start)?;
             Ok(s)
         }
         None => {
             let row = words::multiply(bytes_of(place.pixels), place.width);
             let zero = Linear::of_number(alloc, 0);
             let form = point_form(alloc, place, x, &zero)?;
-            let start = at_value(alloc, &form, own.counter, 0)?;
-            let t = emit_steady(alloc, code, places, scope, own, y)?;
+            let start = at_value(alloc, &form, site.lanes.counter, 0)?;
+            let t = emit_steady(alloc, code, site, y)?;
             emit_times(code, FIRST_VALUE, t, row)?;
-            let b = emit_form_operand(alloc, code, scope, &start)?;
+            let b = emit_form_operand(alloc, code, site.scope, &start)?;
             alu(code, AluOp::Add, ADDRESS, b, FIRST_VALUE)?;
             Ok(ADDRESS)
         }
@@ -134,23 +166,21 @@ pub(crate) fn dense_column(
 pub(crate) fn emit_row(
     alloc: Global,
     code: &mut Vec<u32>,
-    places: &Places,
-    scope: &[Held],
-    own: Lanes,
-    source: Source,
+    site: &LaneSite<'_>,
+    row: &Row<'_>,
     column: &Linear,
-    y: &Expr,
     k: u8,
 ) -> Result<(), CodeFault>
-    requires slot { k < slots own.group }
-    requires stride { strides own.counter column.now.terms % 2 ^ 32 ≡ 1 }
-    requires row { IsSteady own.counter y.now }
+    requires slot { k < slots site.now.lanes.group }
+    requires stride { strides site.now.lanes.counter column.now.terms % 2 ^ 32 ≡ 1 }
+    requires row { IsSteady site.now.lanes.counter row.now.y.now }
     ensures { OnOk result ((x : Exprs) → IsSum x column.now
-        → MakesLanes code.old.items code.new.items places.now scope.now own k (loaded source x y.now)) }
+        → MakesLanes code.old.items code.new.items site.now.places.now site.now.scope.now site.now.lanes k
+        (loaded row.now.source x row.now.y.now)) }
 {
-    let place = place_of(places, source);
-    let b = emit_row_pointer(alloc, code, places, scope, own, &place, column, y)?;
-    emit_along(code, own.group, place.pixels, k, b)?;
+    let place = place_of(site.places, row.source);
+    let b = emit_row_pointer(alloc, code, site, &place, column, row.y)?;
+    emit_along(code, site.lanes.group, place.pixels, k, b)?;
     Ok(())
 }
 
@@ -158,23 +188,22 @@ pub(crate) fn emit_row(
 pub(crate) fn emit_gather(
     alloc: Global,
     code: &mut Vec<u32>,
-    places: &Places,
-    scope: &[Held],
-    own: Lanes,
-    source: Source,
-    y: &Expr,
+    site: &LaneSite<'_>,
+    row: &Row<'_>,
     k: u8,
 ) -> Result<(), CodeFault>
-    requires slot { k < slots own.group }
-    requires row { IsSteady own.counter y.now }
-    ensures { OnOk result ((before : List ℕ) (x : Exprs) → MakesLanes before code.old.items places.now scope.now own k x
-        → MakesLanes before code.new.items places.now scope.now own k (loaded source x y.now)) }
+    requires slot { k < slots site.now.lanes.group }
+    requires row { IsSteady site.now.lanes.counter row.now.y.now }
+    ensures { OnOk result ((before : List ℕ) (x : Exprs) → MakesLanes before code.old.items site.now.places.now
+        site.now.scope.now site.now.lanes k x
+        → MakesLanes before code.new.items site.now.places.now site.now.scope.now site.now.lanes k
+        (loaded row.now.source x row.now.y.now)) }
 {
-    let place = place_of(places, source);
-    emit_offsets(code, own.group, place.pixels, k)?;
+    let place = place_of(site.places, row.source);
+    emit_offsets(code, site.lanes.group, place.pixels, k)?;
     let zero = Linear::of_number(alloc, 0);
-    let b = emit_row_pointer(alloc, code, places, scope, own, &place, &zero, y)?;
-    emit_from(code, own.group, place.pixels, k, b)?;
+    let b = emit_row_pointer(alloc, code, site, &place, &zero, row.y)?;
+    emit_from(code, site.lanes.group, place.pixels, k, b)?;
     Ok(())
 }
 
@@ -207,25 +236,23 @@ pub(crate) fn emit_distances(
 pub(crate) fn emit_scattered(
     alloc: Global,
     code: &mut Vec<u32>,
-    places: &Places,
-    scope: &[Held],
-    own: Lanes,
+    site: &LaneSite<'_>,
     source: Source,
     k: u8,
 ) -> Result<(), CodeFault>
-    requires { k + 1 < slots own.group }
-
+    requires { k + 1 < slots site.now.lanes.group }
     ensures { OnOk result ((before middle : List ℕ) (x y : Exprs)
-        → MakesLanes before middle places.now scope.now own k x
-        → MakesLanes middle code.old.items places.now scope.now own (k + 1) y
-        → MakesLanes before code.new.items places.now scope.now own k (loaded source x y)) }
+        → MakesLanes before middle site.now.places.now site.now.scope.now site.now.lanes k x
+        → MakesLanes middle code.old.items site.now.places.now site.now.scope.now site.now.lanes (k + 1) y
+        → MakesLanes before code.new.items site.now.places.now site.now.scope.now site.now.lanes k
+        (loaded source x y)) }
 {
-    let place = place_of(places, source);
+    let place = place_of(site.places, source);
     let zero = Linear::of_number(alloc, 0);
     let form = point_form(alloc, &place, &zero, &zero)?;
-    let start = at_value(alloc, &form, own.counter, 0)?;
-    emit_distances(alloc, code, scope, own, &place, k)?;
-    let b = emit_form_operand(alloc, code, scope, &start)?;
-    emit_from(code, own.group, place.pixels, k, b)?;
+    let start = at_value(alloc, &form, site.lanes.counter, 0)?;
+    emit_distances(alloc, code, site.scope, site.lanes, &place, k)?;
+    let b = emit_form_operand(alloc, code, site.scope, &start)?;
+    emit_from(code, site.lanes.group, place.pixels, k, b)?;
     Ok(())
 }

@@ -7,7 +7,7 @@ ghost use Rattle.task_code_registers.specs.Scopes.{form_value};
 ghost use Rattle.task_code_values.specs.Making.{MakesHeld};
 ghost use Rattle.task_code_lane_values.specs.inner.Parts.{IsSteady, MakesScalar, MakesSteady, Nothing};
 
-use crate::vectorized::Lanes;
+use crate::vectorized::{LaneSite, Lanes};
 use loop_ir::expressions::{Counter, Expr};
 use std::alloc::{AllocError, Global};
 use task_code_registers::holding::stride_of;
@@ -15,10 +15,10 @@ use task_code_registers::registers::{ADDRESS, FIRST_VALUE};
 use task_code_registers::scopes::{Form, Held};
 use task_code_registers::sums::find;
 use task_code_scalar::CodeFault;
-use task_code_scalar::places::Places;
 use task_code_values::expressions::emit_operand;
 use task_code_values::needs::need;
 use task_code_values::operands::{emit_number_operand, emit_reached};
+use task_code_values::sites::Site;
 
 /// How many registers the scalar stack has.
 const STACK: u32 = 12;
@@ -92,17 +92,20 @@ pub(crate) fn first_moving(e: &Expr, counter: Counter, known: u32) -> u32 {
 pub(crate) fn emit_steady(
     alloc: Global,
     code: &mut Vec<u32>,
-    places: &Places,
-    scope: &[Held],
-    own: Lanes,
+    site: &LaneSite<'_>,
     e: &Expr,
 ) -> Result<u8, CodeFault>
-    ensures { IfOk result (λ s. MakesSteady code.old.items code.new.items places.now scope.now own s e.now) }
+    ensures { IfOk result (λ s. MakesSteady code.old.items code.new.items site.now.places.now
+        site.now.scope.now site.now.lanes s e.now) }
 {
     if need(e) > STACK {
         return Err(CodeFault::TooDeep);
     }
-    let s = emit_operand(alloc, code, places, scope, e, FIRST_VALUE, ADDRESS)?;
+    let around = Site {
+        places: site.places,
+        scope: site.scope,
+    };
+    let s = emit_operand(alloc, code, &around, e, FIRST_VALUE, ADDRESS)?;
     Ok(s)
 }
 

@@ -9,16 +9,14 @@ ghost use Rattle.task_code_lane_values.specs.inner.Sharing.{MakesShared};
 
 use crate::scalars::{first_moving, known_steady};
 use crate::values::emit_lanes;
-use crate::vectorized::Lanes;
+use crate::vectorized::LaneSite;
 use halide_pipeline::Operation;
 use loop_ir::expressions::Expr;
 use rv_insn::ArithmeticVvOp;
 use std::alloc::Global;
 use task_code_lanes::groups::Group;
 use task_code_lanes::vectors::arithmetic;
-use task_code_registers::scopes::Held;
 use task_code_scalar::CodeFault;
-use task_code_scalar::places::Places;
 use task_code_values::updates::same_index;
 
 /// How many groups the loads that stay take.
@@ -27,9 +25,7 @@ const KEPT: u8 = 2;
 /// What values are made of: the values of two loads stay in the first two groups of the stack.
 #[derive(Clone, Copy)]
 pub(crate) struct Sharing<'a> {
-    pub places: &'a Places,
-    pub scope: &'a [Held],
-    pub lanes: Lanes,
+    pub site: LaneSite<'a>,
     pub first: &'a Expr,
     pub second: &'a Expr,
 }
@@ -115,26 +111,19 @@ fn behind(first: u8, second: u8, others: u8) -> u8 {
 }
 
 /// The first two loads of an expression, where it has each of them more than once and groups suffice.
-fn shared<'a>(
-    places: &'a Places,
-    scope: &'a [Held],
-    lanes: Lanes,
-    e: &'a Expr,
-) -> Option<Sharing<'a>>
-    ensures { IfSome result (AreParts places.now scope.now lanes e.now) }
+fn shared<'a>(site: &LaneSite<'a>, e: &'a Expr) -> Option<Sharing<'a>>
+    ensures { IfSome result (AreParts site.now e.now) }
 {
     let first = first_load(e)?;
     let second = other_load(e, first)?;
     if times(e, first) < 2 || times(e, second) < 2 {
         return None;
     }
-    if groups_of(e).saturating_add(KEPT) > lanes.group.slots() {
+    if groups_of(e).saturating_add(KEPT) > site.lanes.group.slots() {
         return None;
     }
     Some(Sharing {
-        places,
-        scope,
-        lanes,
+        site: *site,
         first,
         second,
     })
@@ -173,11 +162,11 @@ fn free_behind(group: Group, s: u8, k: u8) -> Result<u8, CodeFault>
 fn emit_kept(alloc: Global, code: &mut Vec<u32>, own: &Sharing) -> Result<(), CodeFault>
     ensures { OnOk result (Keeps code.old.items code.new.items own.now) }
 {
-    if own.lanes.group.slots() <= KEPT {
+    if own.site.lanes.group.slots() <= KEPT {
         return Err(CodeFault::TooDeep);
     }
-    emit_lanes(alloc, code, own.places, own.scope, own.lanes, own.first, 0)?;
-    emit_lanes(alloc, code, own.places, own.scope, own.lanes, own.second, 1)?;
+    emit_lanes(alloc, code, &own.site, own.first, 0)?;
+    emit_lanes(alloc, code, &own.site, own.second, 1)?;
     Ok(())
 }
 
@@ -191,7 +180,7 @@ fn emit_operand(
     k: u8,
     known: u32,
 ) -> Result<u8, CodeFault>
-    requires { (2 ≤ k) × (k < slots own.now.lanes.group) }
+    requires { (2 ≤ k) × (k < slots own.now.site.lanes.group) }
     ensures { IfOk result (λ s. MakesOperand code.old.items code.new.items own.now k s e.now) }
 {
     if let Some(slot) = slot_of(own, e) {
@@ -199,19 +188,19 @@ fn emit_operand(
     }
     match e {
         Expr::Binary(operation, a, b) => {
-            let counter = own.lanes.counter;
+            let counter = own.site.lanes.counter;
             let moving = first_moving(e, counter, known);
             if known_steady(a.get(), counter, moving) || known_steady(b.get(), counter, 0) {
-                emit_lanes(alloc, code, own.places, own.scope, own.lanes, e, k)?;
+                emit_lanes(alloc, code, &own.site, e, k)?;
                 return Ok(k);
             }
             match instruction_of(*operation) {
                 None => {
-                    emit_lanes(alloc, code, own.places, own.scope, own.lanes, e, k)?;
+                    emit_lanes(alloc, code, &own.site, e, k)?;
                     Ok(k)
                 }
                 Some(op) => {
-                    let group = own.lanes.group;
+                    let group = own.site.lanes.group;
                     let s = emit_operand(alloc, code, own, a.get(), k, moving)?;
                     let next = free_behind(group, s, k)?;
                     let t = emit_operand(alloc, code, own, b.get(), next, 0)?;
@@ -221,7 +210,7 @@ fn emit_operand(
             }
         }
         _ => {
-            emit_lanes(alloc, code, own.places, own.scope, own.lanes, e, k)?;
+            emit_lanes(alloc, code, &own.site, e, k)?;
             Ok(k)
         }
     }
@@ -235,7 +224,7 @@ fn emit_shared(alloc: Global, code: &mut Vec<u32>, own: &Sharing, e: &Expr) -> R
         Expr::Binary(operation, a, b) => match instruction_of(*operation) {
             None => Err(CodeFault::TooDeep),
             Some(op) => {
-                let group = own.lanes.group;
+                let group = own.site.lanes.group;
                 let s = emit_operand(alloc, code, own, a.get(), KEPT, 0)?;
                 let next = free_behind(group, s, KEPT)?;
                 let t = emit_operand(alloc, code, own, b.get(), next, 0)?;
@@ -256,16 +245,15 @@ fn emit_shared(alloc: Global, code: &mut Vec<u32>, own: &Sharing, e: &Expr) -> R
 pub fn emit_values(
     alloc: Global,
     code: &mut Vec<u32>,
-    places: &Places,
-    scope: &[Held],
-    own: Lanes,
+    site: &LaneSite<'_>,
     e: &Expr,
 ) -> Result<(), CodeFault>
-    ensures { OnOk result (MakesLanes code.old.items code.new.items places.now scope.now own 0 e.now) }
+    ensures { OnOk result (MakesLanes code.old.items code.new.items site.now.places.now site.now.scope.now
+        site.now.lanes 0 e.now) }
 {
-    match shared(places, scope, own, e) {
+    match shared(site, e) {
         None => {
-            emit_lanes(alloc, code, places, scope, own, e, 0)?;
+            emit_lanes(alloc, code, site, e, 0)?;
             Ok(())
         }
         Some(sharing) => {

@@ -1,7 +1,6 @@
 //! The values of an expression in all iterations of a vectorized loop at once.
 
-ghost use Rattle.std.specs.Prelude.{◌<◌, ◌≡◌, ◌+◌, IfOk, IfSome, OnOk};
-ghost use Rattle.task_code_values.specs.Operands.{IsSum};
+ghost use Rattle.std.specs.Prelude.{◌<◌, ◌≡◌, ◌+◌, IfOk, OnOk};
 ghost use Rattle.task_code_lanes.specs.Groups.{slots};
 ghost use Rattle.task_code_lane_values.specs.Leaving.{MakesDistances, MakesLanes};
 
@@ -10,48 +9,18 @@ use crate::operations::{
     emit_two, takes_first, takes_second,
 };
 use crate::points::{
-    dense_column, emit_distances, emit_gather, emit_point, emit_row, emit_scattered,
+    Row, both_sums, dense_column, emit_distances, emit_gather, emit_point, emit_row, emit_scattered,
 };
 use crate::scalars::{emit_literal, emit_steady, first_moving, is_steady, known_steady};
 use crate::sums::emit_sum;
-use crate::vectorized::Lanes;
-use loop_ir::expressions::{Expr, Linear};
-use std::alloc::{AllocError, Global};
+use crate::vectorized::LaneSite;
+use loop_ir::expressions::Expr;
+use std::alloc::Global;
 use task_code_lanes::groups::Group;
 use task_code_lanes::vectors::spread;
 use task_code_registers::numbers::power_of_two;
-use task_code_registers::scopes::Held;
 use task_code_scalar::CodeFault;
-use task_code_scalar::places::{Place, Places};
-use task_code_values::expressions::sum_of;
-
-/// The column and the row of a point, where both are sums.
-#[derive(Debug)]
-struct Sums {
-    x: Linear,
-    y: Linear,
-}
-
-/// Written out, so that a check sees a call wherever one is dropped, and not the drops of its parts.
-impl Drop for Sums {
-    fn drop(self) {
-        let Sums { x, y } = self;
-        drop(x);
-        drop(y);
-    }
-}
-
-fn both_sums(alloc: Global, x: &Expr, y: &Expr) -> Result<Option<Sums>, AllocError>
-    ensures { IfOk result (λ found. IfSome found (λ sums. IsSum x.now sums.x × IsSum y.now sums.y)) }
-{
-    match sum_of(alloc, x)? {
-        None => Ok(None),
-        Some(column) => match sum_of(alloc, y)? {
-            None => Ok(None),
-            Some(row) => Ok(Some(Sums { x: column, y: row })),
-        },
-    }
-}
+use task_code_scalar::places::Place;
 
 /// A group of the stack for an expression's values, and of how many, the expression itself, its first operand and so
 /// on, it is known that iterations differ: they are not asked again.
@@ -81,14 +50,13 @@ fn above(group: Group, k: u8) -> Result<Spot, CodeFault>
 fn emit_results(
     alloc: Global,
     code: &mut Vec<u32>,
-    places: &Places,
-    scope: &[Held],
-    own: Lanes,
+    site: &LaneSite<'_>,
     e: &Expr,
     spot: Spot,
 ) -> Result<(), CodeFault>
-    requires { spot.k < slots own.group }
-    ensures { OnOk result (MakesLanes code.old.items code.new.items places.now scope.now own spot.k e.now) }
+    requires { spot.k < slots site.now.lanes.group }
+    ensures { OnOk result (MakesLanes code.old.items code.new.items site.now.places.now site.now.scope.now
+        site.now.lanes spot.k e.now) }
 {
     let Expr::Binary(operation, a, b) = e else {
         return Err(CodeFault::TooDeep);
@@ -96,25 +64,25 @@ fn emit_results(
     let k = spot.k;
     let first = a.get();
     let second = b.get();
-    let first_stays = known_steady(first, own.counter, spot.moving);
+    let first_stays = known_steady(first, site.lanes.counter, spot.moving);
     let moving = u32::from(first_stays);
-    if takes_second(*operation) && known_steady(second, own.counter, moving) {
-        emit_at(alloc, code, places, scope, own, first, spot)?;
-        let s = emit_steady(alloc, code, places, scope, own, second)?;
-        emit_by(code, own.group, *operation, k, s)?;
+    if takes_second(*operation) && known_steady(second, site.lanes.counter, moving) {
+        emit_at(alloc, code, site, first, spot)?;
+        let s = emit_steady(alloc, code, site, second)?;
+        emit_by(code, site.lanes.group, *operation, k, s)?;
         return Ok(());
     }
     if takes_first(*operation) && first_stays {
         let beside = Spot { k, moving };
-        emit_at(alloc, code, places, scope, own, second, beside)?;
-        let s = emit_steady(alloc, code, places, scope, own, first)?;
-        emit_turned(code, own.group, *operation, k, s)?;
+        emit_at(alloc, code, site, second, beside)?;
+        let s = emit_steady(alloc, code, site, first)?;
+        emit_turned(code, site.lanes.group, *operation, k, s)?;
         return Ok(());
     }
-    let next = above(own.group, k)?;
-    emit_at(alloc, code, places, scope, own, first, spot)?;
-    emit_at(alloc, code, places, scope, own, second, next)?;
-    emit_two(code, own.group, *operation, k)?;
+    let next = above(site.lanes.group, k)?;
+    emit_at(alloc, code, site, first, spot)?;
+    emit_at(alloc, code, site, second, next)?;
+    emit_two(code, site.lanes.group, *operation, k)?;
     Ok(())
 }
 
@@ -123,14 +91,13 @@ fn emit_results(
 fn emit_quotients(
     alloc: Global,
     code: &mut Vec<u32>,
-    places: &Places,
-    scope: &[Held],
-    own: Lanes,
+    site: &LaneSite<'_>,
     e: &Expr,
     spot: Spot,
 ) -> Result<(), CodeFault>
-    requires { spot.k < slots own.group }
-    ensures { OnOk result (MakesLanes code.old.items code.new.items places.now scope.now own spot.k e.now) }
+    requires { spot.k < slots site.now.lanes.group }
+    ensures { OnOk result (MakesLanes code.old.items code.new.items site.now.places.now site.now.scope.now
+        site.now.lanes spot.k e.now) }
 {
     let Expr::Divide(a, divisor) = e else {
         return Err(CodeFault::TooDeep);
@@ -139,13 +106,13 @@ fn emit_quotients(
         return Err(CodeFault::TooDeep);
     }
     let k = spot.k;
-    emit_at(alloc, code, places, scope, own, a.get(), spot)?;
+    emit_at(alloc, code, site, a.get(), spot)?;
     if let Some(bits) = power_of_two(*divisor) {
-        emit_shifted(code, own.group, *divisor, bits, k)?;
+        emit_shifted(code, site.lanes.group, *divisor, bits, k)?;
         return Ok(());
     }
-    let s = emit_literal(alloc, code, scope, own, *divisor)?;
-    emit_quotient(code, own.group, *divisor, k, s)?;
+    let s = emit_literal(alloc, code, site.scope, site.lanes, *divisor)?;
+    emit_quotient(code, site.lanes.group, *divisor, k, s)?;
     Ok(())
 }
 
@@ -154,14 +121,13 @@ fn emit_quotients(
 fn emit_remainders(
     alloc: Global,
     code: &mut Vec<u32>,
-    places: &Places,
-    scope: &[Held],
-    own: Lanes,
+    site: &LaneSite<'_>,
     e: &Expr,
     spot: Spot,
 ) -> Result<(), CodeFault>
-    requires { spot.k < slots own.group }
-    ensures { OnOk result (MakesLanes code.old.items code.new.items places.now scope.now own spot.k e.now) }
+    requires { spot.k < slots site.now.lanes.group }
+    ensures { OnOk result (MakesLanes code.old.items code.new.items site.now.places.now site.now.scope.now
+        site.now.lanes spot.k e.now) }
 {
     let Expr::Remainder(a, divisor) = e else {
         return Err(CodeFault::TooDeep);
@@ -170,14 +136,14 @@ fn emit_remainders(
         return Err(CodeFault::TooDeep);
     }
     let k = spot.k;
-    emit_at(alloc, code, places, scope, own, a.get(), spot)?;
+    emit_at(alloc, code, site, a.get(), spot)?;
     if let Some(bits) = power_of_two(*divisor) {
-        let s = emit_literal(alloc, code, scope, own, *divisor - 1)?;
-        emit_masked(code, own.group, *divisor, bits, k, s)?;
+        let s = emit_literal(alloc, code, site.scope, site.lanes, *divisor - 1)?;
+        emit_masked(code, site.lanes.group, *divisor, bits, k, s)?;
         return Ok(());
     }
-    let s = emit_literal(alloc, code, scope, own, *divisor)?;
-    emit_remainder(code, own.group, *divisor, k, s)?;
+    let s = emit_literal(alloc, code, site.scope, site.lanes, *divisor)?;
+    emit_remainder(code, site.lanes.group, *divisor, k, s)?;
     Ok(())
 }
 
@@ -186,25 +152,24 @@ fn emit_remainders(
 fn emit_choices(
     alloc: Global,
     code: &mut Vec<u32>,
-    places: &Places,
-    scope: &[Held],
-    own: Lanes,
+    site: &LaneSite<'_>,
     e: &Expr,
     spot: Spot,
 ) -> Result<(), CodeFault>
-    requires { spot.k < slots own.group }
-    ensures { OnOk result (MakesLanes code.old.items code.new.items places.now scope.now own spot.k e.now) }
+    requires { spot.k < slots site.now.lanes.group }
+    ensures { OnOk result (MakesLanes code.old.items code.new.items site.now.places.now site.now.scope.now
+        site.now.lanes spot.k e.now) }
 {
     let Expr::Select(condition, a, b) = e else {
         return Err(CodeFault::TooDeep);
     };
     let k = spot.k;
-    let next = above(own.group, k)?;
-    let last = above(own.group, next.k)?;
-    emit_at(alloc, code, places, scope, own, condition.get(), spot)?;
-    emit_at(alloc, code, places, scope, own, a.get(), next)?;
-    emit_at(alloc, code, places, scope, own, b.get(), last)?;
-    emit_choice(code, own.group, k)?;
+    let next = above(site.lanes.group, k)?;
+    let last = above(site.lanes.group, next.k)?;
+    emit_at(alloc, code, site, condition.get(), spot)?;
+    emit_at(alloc, code, site, a.get(), next)?;
+    emit_at(alloc, code, site, b.get(), last)?;
+    emit_choice(code, site.lanes.group, k)?;
     Ok(())
 }
 
@@ -213,14 +178,13 @@ fn emit_choices(
 fn emit_pixels(
     alloc: Global,
     code: &mut Vec<u32>,
-    places: &Places,
-    scope: &[Held],
-    own: Lanes,
+    site: &LaneSite<'_>,
     e: &Expr,
     spot: Spot,
 ) -> Result<(), CodeFault>
-    requires { spot.k < slots own.group }
-    ensures { OnOk result (MakesLanes code.old.items code.new.items places.now scope.now own spot.k e.now) }
+    requires { spot.k < slots site.now.lanes.group }
+    ensures { OnOk result (MakesLanes code.old.items code.new.items site.now.places.now site.now.scope.now
+        site.now.lanes spot.k e.now) }
 {
     let Expr::Load(source, x, y) = e else {
         return Err(CodeFault::TooDeep);
@@ -228,23 +192,26 @@ fn emit_pixels(
     let k = spot.k;
     let at = *source;
     if let Some(sums) = both_sums(alloc, x.get(), y.get())? {
-        emit_point(alloc, code, places, scope, own, at, &sums.x, &sums.y, k)?;
+        emit_point(alloc, code, site, at, &sums, k)?;
         return Ok(());
     }
-    let row = y.get();
-    if is_steady(row, own.counter) {
-        if let Some(column) = dense_column(alloc, x.get(), own.counter)? {
-            emit_row(alloc, code, places, scope, own, at, &column, row, k)?;
+    if is_steady(y.get(), site.lanes.counter) {
+        let row = Row {
+            source: at,
+            y: y.get(),
+        };
+        if let Some(column) = dense_column(alloc, x.get(), site.lanes.counter)? {
+            emit_row(alloc, code, site, &row, &column, k)?;
             return Ok(());
         }
-        emit_at(alloc, code, places, scope, own, x.get(), spot)?;
-        emit_gather(alloc, code, places, scope, own, at, row, k)?;
+        emit_at(alloc, code, site, x.get(), spot)?;
+        emit_gather(alloc, code, site, &row, k)?;
         return Ok(());
     }
-    let next = above(own.group, k)?;
-    emit_at(alloc, code, places, scope, own, x.get(), spot)?;
-    emit_at(alloc, code, places, scope, own, row, next)?;
-    emit_scattered(alloc, code, places, scope, own, at, k)?;
+    let next = above(site.lanes.group, k)?;
+    emit_at(alloc, code, site, x.get(), spot)?;
+    emit_at(alloc, code, site, y.get(), next)?;
+    emit_scattered(alloc, code, site, at, k)?;
     Ok(())
 }
 
@@ -253,47 +220,46 @@ fn emit_pixels(
 fn emit_at(
     alloc: Global,
     code: &mut Vec<u32>,
-    places: &Places,
-    scope: &[Held],
-    own: Lanes,
+    site: &LaneSite<'_>,
     e: &Expr,
     spot: Spot,
 ) -> Result<(), CodeFault>
-    requires { spot.k < slots own.group }
-    ensures { OnOk result (MakesLanes code.old.items code.new.items places.now scope.now own spot.k e.now) }
+    requires { spot.k < slots site.now.lanes.group }
+    ensures { OnOk result (MakesLanes code.old.items code.new.items site.now.places.now site.now.scope.now
+        site.now.lanes spot.k e.now) }
 {
     let k = spot.k;
-    if known_steady(e, own.counter, spot.moving) {
-        let s = emit_steady(alloc, code, places, scope, own, e)?;
-        spread(code, own.group.slot(k), s)?;
+    if known_steady(e, site.lanes.counter, spot.moving) {
+        let s = emit_steady(alloc, code, site, e)?;
+        spread(code, site.lanes.group.slot(k), s)?;
         return Ok(());
     }
-    let moving = first_moving(e, own.counter, spot.moving);
+    let moving = first_moving(e, site.lanes.counter, spot.moving);
     let within = Spot { k, moving };
     match e {
         Expr::Number(_) => Err(CodeFault::TooDeep),
         Expr::Linear(sum) => {
-            emit_sum(alloc, code, scope, own, sum, k)?;
+            emit_sum(alloc, code, site.scope, site.lanes, sum, k)?;
             Ok(())
         }
         Expr::Binary(_, _, _) => {
-            emit_results(alloc, code, places, scope, own, e, within)?;
+            emit_results(alloc, code, site, e, within)?;
             Ok(())
         }
         Expr::Divide(_, _) => {
-            emit_quotients(alloc, code, places, scope, own, e, within)?;
+            emit_quotients(alloc, code, site, e, within)?;
             Ok(())
         }
         Expr::Remainder(_, _) => {
-            emit_remainders(alloc, code, places, scope, own, e, within)?;
+            emit_remainders(alloc, code, site, e, within)?;
             Ok(())
         }
         Expr::Select(_, _, _) => {
-            emit_choices(alloc, code, places, scope, own, e, within)?;
+            emit_choices(alloc, code, site, e, within)?;
             Ok(())
         }
         Expr::Load(_, _, _) => {
-            emit_pixels(alloc, code, places, scope, own, e, within)?;
+            emit_pixels(alloc, code, site, e, within)?;
             Ok(())
         }
     }
@@ -307,17 +273,25 @@ fn emit_at(
 pub fn emit_lanes(
     alloc: Global,
     code: &mut Vec<u32>,
-    places: &Places,
-    scope: &[Held],
-    own: Lanes,
+    site: &LaneSite<'_>,
     e: &Expr,
     k: u8,
 ) -> Result<(), CodeFault>
-    requires { k < slots own.group }
-    ensures { OnOk result (MakesLanes code.old.items code.new.items places.now scope.now own k e.now) }
+    requires { k < slots site.now.lanes.group }
+    ensures { OnOk result (MakesLanes code.old.items code.new.items site.now.places.now site.now.scope.now
+        site.now.lanes k e.now) }
 {
-    emit_at(alloc, code, places, scope, own, e, Spot { k, moving: 0 })?;
+    emit_at(alloc, code, site, e, Spot { k, moving: 0 })?;
     Ok(())
+}
+
+/// A point of a buffer, at two expressions.
+#[derive(Clone, Copy)]
+pub struct BufferPoint<'a> {
+    /// Where the buffer lies.
+    pub place: &'a Place,
+    pub x: &'a Expr,
+    pub y: &'a Expr,
 }
 
 /// Appends what leaves in group k of the stack how many bytes behind a buffer's first pixel each iteration's point
@@ -329,21 +303,17 @@ pub fn emit_lanes(
 pub fn emit_point_distances(
     alloc: Global,
     code: &mut Vec<u32>,
-    places: &Places,
-    scope: &[Held],
-    own: Lanes,
-    place: &Place,
-    x: &Expr,
-    y: &Expr,
+    site: &LaneSite<'_>,
+    point: &BufferPoint<'_>,
     k: u8,
 ) -> Result<(), CodeFault>
-    requires { k < slots own.group }
-    ensures { OnOk result (MakesDistances code.old.items code.new.items places.now scope.now own k place.now x.now
-        y.now) }
+    requires { k < slots site.now.lanes.group }
+    ensures { OnOk result (MakesDistances code.old.items code.new.items site.now.places.now site.now.scope.now
+        site.now.lanes k point.now.place.now point.now.x.now point.now.y.now) }
 {
-    let next = above(own.group, k)?;
-    emit_lanes(alloc, code, places, scope, own, x, k)?;
-    emit_lanes(alloc, code, places, scope, own, y, next.k)?;
-    emit_distances(alloc, code, scope, own, place, k)?;
+    let next = above(site.lanes.group, k)?;
+    emit_lanes(alloc, code, site, point.x, k)?;
+    emit_lanes(alloc, code, site, point.y, next.k)?;
+    emit_distances(alloc, code, site.scope, site.lanes, point.place, k)?;
     Ok(())
 }

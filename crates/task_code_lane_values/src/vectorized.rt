@@ -1,11 +1,22 @@
-//! Which loop has lanes.
+//! Which loop has lanes, and what stands around its code.
 
 use loop_ir::expressions::Counter;
 use task_code_lanes::groups::Group;
+use task_code_registers::scopes::Held;
+use task_code_scalar::places::Places;
 
 /// A vectorized loop's variable, and the groups of vector registers that have a lane for each of its iterations.
 #[derive(Clone, Copy, Debug)]
 pub struct Lanes {
     pub counter: Counter,
     pub group: Group,
+}
+
+/// What stands around code over lanes: where all buffers lie, which registers hold which forms in the first iteration,
+/// and which loop has the lanes.
+#[derive(Clone, Copy)]
+pub struct LaneSite<'a> {
+    pub places: &'a Places,
+    pub scope: &'a [Held],
+    pub lanes: Lanes,
 }

@@ -37,6 +37,10 @@ both a b x y = rw (x, y) refl
 is-true : (n k : ℕ) → n < k → nat_lt n k ≡ true
 is-true n k l = grind (arith, nat_tests)
 
+-- a load, by its indexes as they are read
+pub loaded-as : (source : Source) (a b x y own : Expr) → own ≡ e.Load source a b → x ≡ a → y ≡ b → e.Load source x y ≡ own
+loaded-as source a b x y own is ex ey = ap (λ q. e.Load source q y) ex ∙ ap (λ q. e.Load source a q) ey ∙ sym is
+
 module _ (group : Group) (places : Places) (scope : List Counter) (goings : List Going) where
   abbrev of : Expr → Laned
   of = laned group places scope goings

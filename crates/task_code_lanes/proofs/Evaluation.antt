@@ -38,8 +38,8 @@ use Rattle.task_code_scalar.proofs.Values.{literal-sets}
 use Rattle.task_code_lanes.specs.declared.groups.Group.{Group}
 use Rattle.task_code_lanes.specs.declared.groups.Group.TheVariants as groups
 use Rattle.task_code_lanes.specs.declared.goings.Going.{Going}
-use Rattle.task_code_lanes.specs.declared.values.Pace.{Pace}
-use Rattle.task_code_lanes.specs.declared.values.Pace.TheVariants as paces
+use Rattle.task_code_lanes.specs.declared.paces.Pace.{Pace}
+use Rattle.task_code_lanes.specs.declared.paces.Pace.TheVariants as paces
 use Rattle.task_code_lanes.specs.Groups.{registers, slots, slot, spare, byte_spare}
 use Rattle.task_code_lanes.specs.Lanes.{is_steady, is_stepping, step_word, summed, Laned, are_reached, is_reached, in_one_row, rows_fit, is_dense, has_slot, laned_at, laned, pace_of, lanes_selection, lanes_quotient, lanes_remainder, gathered, picked, dense, lanes_operation, both_steady}
 use Rattle.task_code_lanes.specs.Leaving.{GoAlong, IsKept, LanesLeave}

@@ -8,7 +8,7 @@ use Rattle.loop_ir.specs.declared.expressions.Expr.TheOpen as layer
 use Rattle.loop_ir.proofs.Folds.{Both, left_of, right_of, folds_related}
 use Rattle.task_code_lanes.specs.declared.groups.Group.{Group}
 use Rattle.task_code_lanes.specs.declared.goings.Going.{Going}
-use Rattle.task_code_lanes.specs.declared.values.Pace.{Pace}
+use Rattle.task_code_lanes.specs.declared.paces.Pace.{Pace}
 use Rattle.task_code_scalar.specs.declared.places.Places.{Places}
 use Rattle.task_code_scalar.specs.Code.{Made, pair, divided, triple, made, made_at, operation, quotient, remainder, loading, place_of}
 use Rattle.task_code_lanes.specs.Lanes.{Laned, laned, laned_at, in_one_row, is_dense, is_stepping, is_steady, operation_pace, both_steady, pace_of, pace_at}

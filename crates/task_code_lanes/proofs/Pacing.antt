@@ -13,8 +13,8 @@ use Rattle.loop_ir.specs.declared.expressions.Linear.{Linear}
 use Rattle.loop_ir.specs.declared.expressions.Term.{Term}
 use Rattle.loop_ir.specs.Counters.{Values}
 use Rattle.loop_ir.specs.Expressions.{sum_of, linear_value}
-use Rattle.task_code_lanes.specs.declared.values.Pace.{Pace}
-use Rattle.task_code_lanes.specs.declared.values.Pace.TheVariants as paces
+use Rattle.task_code_lanes.specs.declared.paces.Pace.{Pace}
+use Rattle.task_code_lanes.specs.declared.paces.Pace.TheVariants as paces
 use Rattle.task_code_lanes.specs.declared.goings.Going.{Going}
 use Rattle.task_code_lanes.specs.declared.goings.Going.TheVariants as goes
 use Rattle.task_code_lanes.specs.Goings.{going_of, even_stride, is_even, are_even}

@@ -43,6 +43,11 @@ stack-low groups.One = omega arith
 stack-low groups.Two = omega arith
 stack-low groups.Four = omega arith
 
+pub some-slot : (group : Group) → 0 < slots group
+some-slot groups.One = omega arith
+some-slot groups.Two = omega arith
+some-slot groups.Four = omega arith
+
 pub any-group : (g v : ℕ) → 1 ≤ g → IsGroup g v → IsAnyGroup g v
 any-group g v some is = record { some = some; fits = is.fits; placed = is.placed }
 

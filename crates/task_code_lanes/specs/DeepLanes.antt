@@ -19,6 +19,7 @@ use Rattle.task_code_scalar.specs.declared.places.Places.{Places}
 use Rattle.task_code_scalar.specs.Code.{scratch, bottom, place_of, frames_of, framed}
 use Rattle.task_code_lanes.specs.declared.groups.Group.{Group}
 use Rattle.task_code_lanes.specs.declared.goings.Going.{Going}
+use Rattle.task_code_lanes.specs.declared.sites.RoundSite.{RoundSite}
 use Rattle.task_code_lanes.specs.Groups.{spare, slot}
 use Rattle.task_code_lanes.specs.Lanes.{Laned, laned_at, in_one_row, is_reached, lanes_operation, lanes_quotient, lanes_remainder, lanes_selection, gathered, picked}
 
@@ -141,3 +142,7 @@ deep_laned_at group places scope goings (layer.Load source x y) =
 
 unfoldable pub deep_laned : Group → Places → List Counter → List Going → Expr → DeepLaned
 deep_laned group places scope goings e = fold-Expr DeepLaned (deep_laned_at group places scope goings) e
+
+-- by what stands around it
+abbrev pub deep_laned_in : RoundSite → Expr → DeepLaned
+deep_laned_in site e = deep_laned site.group site.places.now site.scope.now site.goings.now e

@@ -26,14 +26,15 @@ use Rattle.loop_ir.specs.declared.expressions.Expr.TheOpen as layer
 use Rattle.loop_ir.specs.declared.expressions.Linear.{Linear}
 use Rattle.loop_ir.specs.declared.expressions.Term.{Term}
 use Rattle.task_code_lanes.specs.declared.groups.Group.{Group}
-use Rattle.task_code_lanes.specs.declared.values.Pace.{Pace}
-use Rattle.task_code_lanes.specs.declared.values.Pace.TheVariants as paces
+use Rattle.task_code_lanes.specs.declared.paces.Pace.{Pace}
+use Rattle.task_code_lanes.specs.declared.paces.Pace.TheVariants as paces
 use Rattle.task_code_scalar.specs.declared.places.Pixels.{Pixels}
 use Rattle.task_code_scalar.specs.declared.places.Pixels.TheVariants as pixels
 use Rattle.task_code_scalar.specs.declared.places.Place.{Place}
 use Rattle.task_code_scalar.specs.declared.places.Places.{Places}
 use Rattle.task_code_scalar.specs.Code.{scratch, second_scratch, bottom, literal, linear_code, addressed, place_of, Made, made_at}
 use Rattle.task_code_lanes.specs.declared.goings.Going.{Going}
+use Rattle.task_code_lanes.specs.declared.sites.RoundSite.{RoundSite}
 use Rattle.task_code_lanes.specs.Goings.{going_of, even_stride, are_even}
 use Rattle.task_code_lanes.specs.Groups.{slots, spare, byte_spare, slot}
 use Rattle.task_code_lanes.specs.Straying.{strayed}
@@ -316,3 +317,7 @@ laned_at group places scope goings e = record {
 
 unfoldable pub laned : Group → Places → List Counter → List Going → Expr → Laned
 laned group places scope goings e = fold-Expr Laned (laned_at group places scope goings) e
+
+-- by what stands around it
+abbrev pub laned_in : RoundSite → Expr → Laned
+laned_in site e = laned site.group site.places.now site.scope.now site.goings.now e

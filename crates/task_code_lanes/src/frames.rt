@@ -1,22 +1,25 @@
 //! The code of expressions over lanes whose values may wait in a hart's frame.
 
 ghost use Rattle.std.specs.Prelude.{◌≡◌, ℕ, ◌&&◌, ◌+◌, ◌*◌, ◌%◌, ◌^◌, ◌<◌, ◌≤◌, IfErr, IfOk, OnOk, true};
+ghost use Rattle.loop_ir.specs.declared.expressions.Expr.TheVariants.{Load as loaded};
 ghost use Rattle.task_code_scalar.specs.Code.{frames_of, framed};
 ghost use Rattle.task_code_scalar.specs.Faults.{IsFault};
 ghost use Rattle.task_code_scalar.specs.Words.{Emits};
 ghost use Rattle.task_code_lanes.specs.DeepEmitting.{EmitsDeepLanes, EmitsOtherLanes, EmitsSecondLanes, FitOtherLanes};
 ghost use Rattle.task_code_lanes.specs.DeepEmitting.{FitsDeepLanes, FitsSecondLanes};
 ghost use Rattle.task_code_lanes.specs.DeepLanes as spec;
-ghost use Rattle.task_code_lanes.specs.Lanes.{laned};
+ghost use Rattle.task_code_lanes.specs.Lanes.{laned_in};
 
-use crate::goings::Going;
 use crate::groups::Group;
-use crate::values::{
-    emit_gathered, emit_lanes, emit_lanes_operation, emit_lanes_quotient, emit_lanes_remainder,
-    emit_lanes_selection, emit_row_picked, is_dense, is_in_one_row, is_reached,
+use crate::pixels::{emit_gathered, is_reached};
+use crate::results::{
+    emit_lanes_operation, emit_lanes_quotient, emit_lanes_remainder, emit_lanes_selection,
 };
+use crate::sites::RoundSite;
+use crate::values::{emit_lanes, emit_load_lanes, emit_row_picked, is_dense, is_in_one_row};
 use crate::vectors::{copy, load_row, store_row};
-use loop_ir::expressions::{Counter, Expr};
+use halide_pipeline::Source;
+use loop_ir::expressions::Expr;
 use rv_insn::AluOp;
 use std::alloc::AllocError;
 use task_code_scalar::CodeFault;
@@ -98,57 +101,41 @@ fn emit_copied(code: &mut Vec<u32>, group: Group, k: u8) -> Result<(), AllocErro
 
 /// Whether the values of an expression can be made in a slot of the stack and those above.
 #[tactic(auto, unfolding(crate::specs::Lanes::laned))]
-pub fn fits_lanes(
-    group: Group,
-    places: &Places,
-    scope: &[Counter],
-    goings: &[Going],
-    e: &Expr,
-    k: u8,
-) -> bool
-    ensures { result ≡ (laned group places.now scope.now goings.now e.now).fits k }
+pub fn fits_lanes(site: &RoundSite<'_>, e: &Expr, k: u8) -> bool
+    ensures { result ≡ (laned_in site.now e.now).fits k }
 {
-    if k >= group.slots() {
+    if k >= site.group.slots() {
         return false;
     }
     match e {
         Expr::Number(_) => true,
         Expr::Linear(_) => true,
         Expr::Binary(_, a, b) => {
-            fits_lanes(group, places, scope, goings, a.get(), k)
-                && fits_lanes(group, places, scope, goings, b.get(), k + 1)
+            fits_lanes(site, a.get(), k) && fits_lanes(site, b.get(), k + 1)
         }
-        Expr::Divide(a, _) => fits_lanes(group, places, scope, goings, a.get(), k),
-        Expr::Remainder(a, _) => fits_lanes(group, places, scope, goings, a.get(), k),
+        Expr::Divide(a, _) => fits_lanes(site, a.get(), k),
+        Expr::Remainder(a, _) => fits_lanes(site, a.get(), k),
         Expr::Select(c, a, b) => {
-            fits_lanes(group, places, scope, goings, c.get(), k)
-                && fits_lanes(group, places, scope, goings, a.get(), k + 1)
-                && fits_lanes(group, places, scope, goings, b.get(), k + 2)
+            fits_lanes(site, c.get(), k)
+                && fits_lanes(site, a.get(), k + 1)
+                && fits_lanes(site, b.get(), k + 2)
         }
         Expr::Load(source, x, y) => {
-            let place = place_of(places, *source);
-            is_dense(scope, goings, x.get(), y.get())
+            let place = place_of(site.places, *source);
+            is_dense(site.scope, site.goings, x.get(), y.get())
                 || is_reached(&place)
-                    && fits_lanes(group, places, scope, goings, x.get(), k)
-                    && (is_in_one_row(scope, goings, y.get())
-                        || fits_lanes(group, places, scope, goings, y.get(), k + 1))
+                    && fits_lanes(site, x.get(), k)
+                    && (is_in_one_row(site.scope, site.goings, y.get())
+                        || fits_lanes(site, y.get(), k + 1))
         }
     }
 }
 
 /// Whether two operands can be made in the two slots above the first.
-pub fn are_above(
-    group: Group,
-    places: &Places,
-    scope: &[Counter],
-    goings: &[Going],
-    a: &Expr,
-    b: &Expr,
-) -> bool
-    ensures { result ≡ ((laned group places.now scope.now goings.now a.now).fits 1 &&
-        (laned group places.now scope.now goings.now b.now).fits 2) }
+pub fn are_above(site: &RoundSite<'_>, a: &Expr, b: &Expr) -> bool
+    ensures { result ≡ ((laned_in site.now a.now).fits 1 && (laned_in site.now b.now).fits 2) }
 {
-    fits_lanes(group, places, scope, goings, a, 1) && fits_lanes(group, places, scope, goings, b, 2)
+    fits_lanes(site, a, 1) && fits_lanes(site, b, 2)
 }
 
 // ---- expressions
@@ -166,91 +153,105 @@ pub fn are_above(
 #[tactic(auto, unfolding(crate::specs::DeepLanes::deep_laned))]
 pub fn emit_deep_lanes(
     code: &mut Vec<u32>,
-    group: Group,
-    places: &Places,
-    scope: &[Counter],
-    goings: &[Going],
+    site: &RoundSite<'_>,
     e: &Expr,
     n: u8,
 ) -> Result<(), CodeFault>
-    ensures ok { OnOk result (EmitsDeepLanes code.old.items code.new.items (spec.deep_laned group places.now scope.now
-        goings.now e.now) n) }
-    ensures err { IfErr result (IsFault ⊥ (FitsDeepLanes (spec.deep_laned group places.now scope.now goings.now e.now) n
-        → ⊥)) }
+    ensures ok { OnOk result (EmitsDeepLanes code.old.items code.new.items (spec.deep_laned_in site.now e.now) n) }
+    ensures err { IfErr result (IsFault ⊥ (FitsDeepLanes (spec.deep_laned_in site.now e.now) n → ⊥)) }
 {
     match e {
         Expr::Number(_) | Expr::Linear(_) => {
-            emit_lanes(code, group, places, scope, goings, e, 0)?;
+            emit_lanes(code, site, e, 0)?;
             Ok(())
         }
         Expr::Binary(operation, a, b) => {
-            emit_deep_lanes(code, group, places, scope, goings, a.get(), n)?;
-            emit_second(code, group, places, scope, goings, b.get(), n)?;
-            emit_lanes_operation(code, *operation, group.slot(0), group.slot(1))?;
+            emit_deep_lanes(code, site, a.get(), n)?;
+            emit_second(code, site, b.get(), n)?;
+            emit_lanes_operation(code, *operation, site.group.slot(0), site.group.slot(1))?;
             Ok(())
         }
         Expr::Divide(a, divisor) => {
-            emit_deep_lanes(code, group, places, scope, goings, a.get(), n)?;
-            emit_lanes_quotient(code, *divisor, group.slot(0), group.spare())?;
+            emit_deep_lanes(code, site, a.get(), n)?;
+            emit_lanes_quotient(code, *divisor, site.group.slot(0), site.group.spare())?;
             Ok(())
         }
         Expr::Remainder(a, divisor) => {
-            emit_deep_lanes(code, group, places, scope, goings, a.get(), n)?;
-            emit_lanes_remainder(code, *divisor, group.slot(0), group.spare())?;
+            emit_deep_lanes(code, site, a.get(), n)?;
+            emit_lanes_remainder(code, *divisor, site.group.slot(0), site.group.spare())?;
             Ok(())
         }
         Expr::Select(c, a, b) => {
-            emit_deep_lanes(code, group, places, scope, goings, c.get(), n)?;
-            emit_others(code, group, places, scope, goings, a.get(), b.get(), n)?;
-            emit_lanes_selection(code, group.slot(0), group.slot(1), group.slot(2))?;
+            emit_deep_lanes(code, site, c.get(), n)?;
+            emit_others(code, site, a.get(), b.get(), n)?;
+            emit_lanes_selection(
+                code,
+                site.group.slot(0),
+                site.group.slot(1),
+                site.group.slot(2),
+            )?;
             Ok(())
         }
-        Expr::Load(source, x, y) => {
-            if is_dense(scope, goings, x.get(), y.get()) {
-                emit_lanes(code, group, places, scope, goings, e, 0)?;
-                return Ok(());
-            }
-            let place = place_of(places, *source);
-            if !is_reached(&place) {
-                return Err(CodeFault::TooDeep);
-            }
-            emit_deep_lanes(code, group, places, scope, goings, x.get(), n)?;
-            if is_in_one_row(scope, goings, y.get()) {
-                let u = group.spare();
-                emit_row_picked(code, places, scope, &place, y.get(), group.slot(0), u)?;
-                return Ok(());
-            }
-            emit_second(code, group, places, scope, goings, y.get(), n)?;
-            emit_gathered(code, &place, group.slot(0), group.slot(1))?;
-            Ok(())
-        }
+        Expr::Load(source, x, y) => emit_deep_load(code, site, *source, x.get(), y.get(), n),
     }
+}
+
+/// The same of a load of pixels at two indexes.
+#[cycle(deeply)]
+#[tactic(auto, unfolding(crate::specs::DeepLanes::deep_laned))]
+fn emit_deep_load(
+    code: &mut Vec<u32>,
+    site: &RoundSite<'_>,
+    source: Source,
+    x: &Expr,
+    y: &Expr,
+    n: u8,
+) -> Result<(), CodeFault>
+    ensures ok { OnOk result (EmitsDeepLanes code.old.items code.new.items
+        (spec.deep_laned_in site.now (loaded source x.now y.now)) n) }
+    ensures err { IfErr result (IsFault ⊥
+        (FitsDeepLanes (spec.deep_laned_in site.now (loaded source x.now y.now)) n → ⊥)) }
+{
+    if is_dense(site.scope, site.goings, x, y) {
+        emit_load_lanes(code, site, source, x, y, 0)?;
+        return Ok(());
+    }
+    let place = place_of(site.places, source);
+    if !is_reached(&place) {
+        return Err(CodeFault::TooDeep);
+    }
+    emit_deep_lanes(code, site, x, n)?;
+    if is_in_one_row(site.scope, site.goings, y) {
+        let u = site.group.spare();
+        emit_row_picked(code, site, &place, y, site.group.slot(0), u)?;
+        return Ok(());
+    }
+    emit_second(code, site, y, n)?;
+    emit_gathered(code, &place, site.group.slot(0), site.group.slot(1))?;
+    Ok(())
 }
 
 /// Appends what leaves the values of a second operand in the slot above the first, which keeps its own.
 #[cycle(deeply)]
 pub fn emit_second(
     code: &mut Vec<u32>,
-    group: Group,
-    places: &Places,
-    scope: &[Counter],
-    goings: &[Going],
+    site: &RoundSite<'_>,
     e: &Expr,
     n: u8,
 ) -> Result<(), CodeFault>
-    ensures ok { OnOk result (EmitsSecondLanes code.old.items code.new.items group places.now
-        (spec.deep_laned group places.now scope.now goings.now e.now) n) }
-    ensures err { IfErr result (IsFault ⊥ (FitsSecondLanes places.now (spec.deep_laned group places.now scope.now
-        goings.now e.now) n → ⊥)) }
+    ensures ok { OnOk result (EmitsSecondLanes code.old.items code.new.items site.now.group site.now.places.now
+        (spec.deep_laned_in site.now e.now) n) }
+    ensures err { IfErr result (IsFault ⊥ (FitsSecondLanes site.now.places.now
+        (spec.deep_laned_in site.now e.now) n → ⊥)) }
 {
-    if fits_lanes(group, places, scope, goings, e, 1) {
-        emit_lanes(code, group, places, scope, goings, e, 1)?;
+    if fits_lanes(site, e, 1) {
+        emit_lanes(code, site, e, 1)?;
         return Ok(());
     }
-    emit_spill(code, group, places, n)?;
-    emit_deep_lanes(code, group, places, scope, goings, e, n + 1)?;
-    emit_copied(code, group, 1)?;
-    emit_unspill(code, group, places, n, 0)?;
+    emit_spill(code, site.group, site.places, n)?;
+    emit_deep_lanes(code, site, e, n + 1)?;
+    emit_copied(code, site.group, 1)?;
+    emit_unspill(code, site.group, site.places, n, 0)?;
     Ok(())
 }
 
@@ -258,32 +259,28 @@ pub fn emit_second(
 #[cycle(deeply)]
 pub fn emit_others(
     code: &mut Vec<u32>,
-    group: Group,
-    places: &Places,
-    scope: &[Counter],
-    goings: &[Going],
+    site: &RoundSite<'_>,
     a: &Expr,
     b: &Expr,
     n: u8,
 ) -> Result<(), CodeFault>
-    ensures ok { OnOk result (EmitsOtherLanes code.old.items code.new.items group places.now
-        (spec.deep_laned group places.now scope.now goings.now a.now) (spec.deep_laned group places.now scope.now
-        goings.now b.now) n) }
+    ensures ok { OnOk result (EmitsOtherLanes code.old.items code.new.items site.now.group site.now.places.now
+        (spec.deep_laned_in site.now a.now) (spec.deep_laned_in site.now b.now) n) }
     ensures err { IfErr result (IsFault ⊥
-        (FitOtherLanes places.now (spec.deep_laned group places.now scope.now goings.now a.now)
-        (spec.deep_laned group places.now scope.now goings.now b.now) n → ⊥)) }
+        (FitOtherLanes site.now.places.now (spec.deep_laned_in site.now a.now)
+        (spec.deep_laned_in site.now b.now) n → ⊥)) }
 {
-    if are_above(group, places, scope, goings, a, b) {
-        emit_lanes(code, group, places, scope, goings, a, 1)?;
-        emit_lanes(code, group, places, scope, goings, b, 2)?;
+    if are_above(site, a, b) {
+        emit_lanes(code, site, a, 1)?;
+        emit_lanes(code, site, b, 2)?;
         return Ok(());
     }
-    emit_spill(code, group, places, n)?;
-    emit_deep_lanes(code, group, places, scope, goings, a, n + 1)?;
-    emit_spill(code, group, places, n + 1)?;
-    emit_deep_lanes(code, group, places, scope, goings, b, n + 2)?;
-    emit_copied(code, group, 2)?;
-    emit_unspill(code, group, places, n + 1, 1)?;
-    emit_unspill(code, group, places, n, 0)?;
+    emit_spill(code, site.group, site.places, n)?;
+    emit_deep_lanes(code, site, a, n + 1)?;
+    emit_spill(code, site.group, site.places, n + 1)?;
+    emit_deep_lanes(code, site, b, n + 2)?;
+    emit_copied(code, site.group, 2)?;
+    emit_unspill(code, site.group, site.places, n + 1, 1)?;
+    emit_unspill(code, site.group, site.places, n, 0)?;
     Ok(())
 }

@@ -6,6 +6,7 @@ ghost use Rattle.task_code_registers.specs.Holding.{mentions};
 ghost use Rattle.task_code_registers.specs.Scopes.{has_variable, left_count};
 ghost use Rattle.task_code_loops.specs.Beginning.{Begins};
 
+use crate::bounds::Bound;
 use crate::holding::hold_all;
 use crate::tests::{Limit, Tested, begin_test, hold_limit};
 use loop_ir::expressions::Counter;
@@ -49,33 +50,32 @@ pub fn begin_loop(
     alloc: Global,
     code: &mut Vec<u32>,
     scope: &[Held],
-    counter: Counter,
-    count: u32,
+    own: Bound,
     wanted: &[Form],
     reserved: usize,
 ) -> Result<Begun, CodeFault>
-    requires steady { mentions counter scope.now ≡ false }
-    requires some { 1 ≤ count }
+    requires steady { mentions own.counter scope.now ≡ false }
+    requires some { 1 ≤ own.count }
     requires few { reserved < 2 ^ 32 }
-    ensures ok { IfOk result (Begins code.old.items code.new.items wanted.now counter count scope.now reserved) }
-    ensures variable { wanted.now ≡ [] → IfOk result (λ begun. has_variable begun.inner.items counter ≡ true) }
+    ensures ok { IfOk result (Begins code.old.items code.new.items wanted.now own.counter own.count scope.now reserved) }
+    ensures variable { wanted.now ≡ [] → IfOk result (λ begun. has_variable begun.inner.items own.counter ≡ true) }
     ensures err { IfErr result (IsFault ⊥ (left_count scope.now ≤ reserved)) }
 {
     let Tested {
         scope: first,
         register,
         limit,
-    } = begin_test(alloc, code, scope, counter, count, wanted, reserved)?;
-    let inner = hold_all(alloc, code, first, counter, wanted, reserved)?;
+    } = begin_test(alloc, code, scope, own, wanted, reserved)?;
+    let inner = hold_all(alloc, code, first, own.counter, wanted, reserved)?;
     let tested = Tested {
         scope: inner,
         register,
         limit,
     };
-    let last = hold_limit(alloc, code, tested, counter, reserved)?;
+    let last = hold_limit(alloc, code, tested, own.counter, reserved)?;
     Ok(Begun {
-        counter,
-        count,
+        counter: own.counter,
+        count: own.count,
         inner: last.scope,
         register: last.register,
         limit: last.limit,

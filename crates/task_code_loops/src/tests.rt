@@ -7,6 +7,7 @@ ghost use Rattle.task_code_registers.specs.Scopes.{has_variable, left_count};
 ghost use Rattle.task_code_loops.specs.Beginning as spec;
 ghost use Rattle.task_code_loops.specs.Beginning.{Betters, Tests, TestsForm, TestsForms};
 
+use crate::bounds::Bound;
 use crate::holding::hold_known;
 use loop_ir::expressions::{Counter, Linear, Term};
 use sqlite_items::Items;
@@ -90,27 +91,34 @@ fn by_form(
     alloc: Global,
     code: &mut Vec<u32>,
     scope: &[Held],
-    counter: Counter,
-    count: u32,
+    bound: Bound,
     form: &Form,
     reserved: usize,
 ) -> Result<Tested, CodeFault>
-    requires test { looping.is_test counter count form.now ≡ true }
+    requires test { looping.is_test bound.counter bound.count form.now ≡ true }
     requires few { reserved < 2 ^ 32 }
-    ensures ok { IfOk result (TestsForm code.old.items code.new.items form.now counter count scope.now reserved) }
+    ensures ok { IfOk result (TestsForm code.old.items code.new.items form.now bound.counter bound.count scope.now
+        reserved) }
     ensures err { IfErr result (IsFault ⊥ (left_count scope.now ≤ reserved)) }
 {
-    let limit = at_value(alloc, form, counter, count)?;
-    match hold_known(alloc, code, scope, counter, form, reserved + 1)? {
+    let limit = at_value(alloc, form, bound.counter, bound.count)?;
+    match hold_known(alloc, code, scope, bound.counter, form, reserved + 1)? {
         None => {
-            let tested = by_variable(alloc, code, scope, counter, count, reserved)?;
+            let tested = by_variable(alloc, code, scope, bound.counter, bound.count, reserved)?;
             Ok(tested)
         }
         Some(own) => {
             let first = own.scope.as_slice();
-            match hold_known(alloc, code, first, counter, &limit, reserved)? {
+            match hold_known(alloc, code, first, bound.counter, &limit, reserved)? {
                 None => {
-                    let tested = by_variable(alloc, code, first, counter, count, reserved)?;
+                    let tested = by_variable(
+                        alloc,
+                        code,
+                        first,
+                        bound.counter,
+                        bound.count,
+                        reserved,
+                    )?;
                     Ok(tested)
                 }
                 Some(last) => Ok(Tested {
@@ -132,27 +140,27 @@ pub fn begin_test(
     alloc: Global,
     code: &mut Vec<u32>,
     scope: &[Held],
-    counter: Counter,
-    count: u32,
+    bound: Bound,
     wanted: &[Form],
     reserved: usize,
 ) -> Result<Tested, CodeFault>
     requires { reserved < 2 ^ 32 }
-    ensures ok { IfOk result (TestsForms code.old.items code.new.items wanted.now counter count scope.now reserved) }
-    ensures variable { wanted.now ≡ [] → IfOk result (λ tested. has_variable tested.scope.items counter ≡ true) }
+    ensures ok { IfOk result (TestsForms code.old.items code.new.items wanted.now bound.counter bound.count scope.now
+        reserved) }
+    ensures variable { wanted.now ≡ [] → IfOk result (λ tested. has_variable tested.scope.items bound.counter ≡ true) }
     ensures err { IfErr result (IsFault ⊥ (left_count scope.now ≤ reserved)) }
 {
     match wanted {
         [] => {
-            let tested = by_variable(alloc, code, scope, counter, count, reserved)?;
+            let tested = by_variable(alloc, code, scope, bound.counter, bound.count, reserved)?;
             Ok(tested)
         }
         [first, others @ ..] => {
-            if is_test(first, counter, count) {
-                let tested = by_form(alloc, code, scope, counter, count, first, reserved)?;
+            if is_test(first, bound.counter, bound.count) {
+                let tested = by_form(alloc, code, scope, bound, first, reserved)?;
                 return Ok(tested);
             }
-            let tested = begin_test(alloc, code, scope, counter, count, others, reserved)?;
+            let tested = begin_test(alloc, code, scope, bound, others, reserved)?;
             Ok(tested)
         }
     }

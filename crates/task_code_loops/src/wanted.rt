@@ -182,10 +182,7 @@ fn gather_parts(
         }
         Expr::Binary(operation, a, b) => {
             match gather_parts(alloc, places, a.get(), found)? {
-                Some(x) => {
-                    let sum = gather_both(alloc, places, e, x, found)?;
-                    Ok(sum)
-                }
+                Some(x) => gather_both(alloc, places, e, x, found),
                 None => {
                     if !is_immediate(*operation, b.get()) {
                         gather_expr(alloc, places, b.get(), found)?;

@@ -24,23 +24,11 @@ pub fn is_same(a: &Expr, b: &Expr) -> bool
             _ => false,
         },
         Expr::Divide(x, divisor) => match b {
-            Expr::Divide(u, own) => {
-                if *divisor == *own {
-                    is_same(x.get(), u.get())
-                } else {
-                    false
-                }
-            }
+            Expr::Divide(u, own) => *divisor == *own && is_same(x.get(), u.get()),
             _ => false,
         },
         Expr::Remainder(x, divisor) => match b {
-            Expr::Remainder(u, own) => {
-                if *divisor == *own {
-                    is_same(x.get(), u.get())
-                } else {
-                    false
-                }
-            }
+            Expr::Remainder(u, own) => *divisor == *own && is_same(x.get(), u.get()),
             _ => false,
         },
         Expr::Select(c, x, y) => match b {

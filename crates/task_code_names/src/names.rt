@@ -63,6 +63,13 @@ struct Part {
     nodes: usize,
 }
 
+/// An expression of so many nodes, of which this is made.
+fn whole_of(made: Expr, nodes: usize) -> Renamed
+    ensures { result.made ≡ made }
+{
+    Renamed { made, nodes }
+}
+
 /// The name that an expression of so many nodes has.
 fn name_of(names: &[Named], e: &Expr, nodes: usize) -> Option<Counter>
     ensures { IfSome result (λ counter. IsNameOf names.now e.now counter) }
@@ -94,58 +101,43 @@ fn parts_by_names(alloc: Global, names: &[Named], e: &Expr) -> Result<Renamed, A
     ensures { IfOk result (λ whole. IsNamedExpr names.now e.now whole.made) }
 {
     match e {
-        Expr::Number(n) => Ok(Renamed {
-            made: Expr::Number(*n),
-            nodes: 1,
-        }),
+        Expr::Number(n) => Ok(whole_of(Expr::Number(*n), 1)),
         Expr::Linear(own) => {
             let sum = own.copy(alloc)?;
-            Ok(Renamed {
-                made: Expr::Linear(sum),
-                nodes: 1,
-            })
+            Ok(whole_of(Expr::Linear(sum), 1))
         }
         Expr::Binary(operation, a, b) => {
             let first = part_by_names(alloc, names, a.get())?;
             let second = part_by_names(alloc, names, b.get())?;
             let nodes = with_nodes(first.nodes, second.nodes);
-            Ok(Renamed {
-                made: Expr::Binary(*operation, first.made, second.made),
-                nodes,
-            })
+            Ok(whole_of(Expr::Binary(*operation, first.made, second.made), nodes))
         }
         Expr::Divide(a, divisor) => {
             let first = part_by_names(alloc, names, a.get())?;
-            Ok(Renamed {
-                made: Expr::Divide(first.made, *divisor),
-                nodes: with_nodes(first.nodes, 0),
-            })
+            Ok(whole_of(
+                Expr::Divide(first.made, *divisor),
+                with_nodes(first.nodes, 0),
+            ))
         }
         Expr::Remainder(a, divisor) => {
             let first = part_by_names(alloc, names, a.get())?;
-            Ok(Renamed {
-                made: Expr::Remainder(first.made, *divisor),
-                nodes: with_nodes(first.nodes, 0),
-            })
+            Ok(whole_of(
+                Expr::Remainder(first.made, *divisor),
+                with_nodes(first.nodes, 0),
+            ))
         }
         Expr::Select(c, a, b) => {
             let condition = part_by_names(alloc, names, c.get())?;
             let first = part_by_names(alloc, names, a.get())?;
             let second = part_by_names(alloc, names, b.get())?;
             let nodes = with_nodes(condition.nodes, with_nodes(first.nodes, second.nodes));
-            Ok(Renamed {
-                made: Expr::Select(condition.made, first.made, second.made),
-                nodes,
-            })
+            Ok(whole_of(Expr::Select(condition.made, first.made, second.made), nodes))
         }
         Expr::Load(source, x, y) => {
             let column = part_by_names(alloc, names, x.get())?;
             let row = part_by_names(alloc, names, y.get())?;
             let nodes = with_nodes(column.nodes, row.nodes);
-            Ok(Renamed {
-                made: Expr::Load(*source, column.made, row.made),
-                nodes,
-            })
+            Ok(whole_of(Expr::Load(*source, column.made, row.made), nodes))
         }
     }
 }

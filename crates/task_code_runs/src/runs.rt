@@ -12,18 +12,17 @@ use loop_ir::expressions::Linear;
 use loop_ir::statements::Store;
 use std::alloc::Global;
 use task_code_lane_values::sharing::emit_values;
-use task_code_lane_values::values::emit_point_distances;
-use task_code_lane_values::vectorized::Lanes;
+use task_code_lane_values::values::{BufferPoint, emit_point_distances};
+use task_code_lane_values::vectorized::{LaneSite, Lanes};
 use task_code_lanes::vectors::{store_at, store_row, store_strided};
 use task_code_registers::holding::stride_of;
 use task_code_registers::numbers::emit_number;
 use task_code_registers::points::point_form;
 use task_code_registers::registers::FIRST_VALUE;
-use task_code_registers::scopes::Held;
 use task_code_scalar::CodeFault;
 use task_code_scalar::expressions::place_of;
-use task_code_scalar::places::Places;
 use task_code_values::expressions::sum_of;
+use task_code_values::sites::Site;
 
 /// How far points lie apart whose words lie one behind the other.
 const WORD_BYTES: u32 = 4;
@@ -31,32 +30,52 @@ const WORD_BYTES: u32 = 4;
 /// The group of the stack for distances of points, behind that of the values that are stored there.
 const DISTANCES: u8 = 1;
 
+/// The sums that the indexes of a point are.
+#[derive(Debug)]
+struct Point {
+    column: Linear,
+    row: Linear,
+}
+
+/// Written out, so that a check sees a call wherever one is dropped, and not the drops of its parts.
+impl Drop for Point {
+    fn drop(self) {
+        let Point { column, row } = self;
+        drop(column);
+        drop(row);
+    }
+}
+
 /// Appends what makes a store's values in all lanes, and stores them: one behind the other, or at another stride.
 fn emit_row(
     alloc: Global,
     code: &mut Vec<u32>,
-    places: &Places,
-    scope: &[Held],
+    site: &Site<'_>,
     own: Lanes,
     store: &Store,
-    column: &Linear,
-    row: &Linear,
+    point: &Point,
 ) -> Result<(), CodeFault>
-    requires { IsSum store.now.x column.now × IsSum store.now.y row.now }
-    ensures { OnOk result (StoresLanes code.old.items code.new.items places.now scope.now own store.now) }
+    requires { IsSum store.now.x point.now.column × IsSum store.now.y point.now.row }
+    ensures { OnOk result (StoresLanes code.old.items code.new.items site.now.places.now site.now.scope.now own
+        store.now) }
 {
-    let place = place_of(places, Source::Func(store.func));
-    let form = point_form(alloc, &place, column, row)?;
+    let place = place_of(site.places, Source::Func(store.func));
+    let form = point_form(alloc, &place, &point.column, &point.row)?;
     let stride = stride_of(form.sum.terms.as_slice(), own.counter);
+    let along = LaneSite {
+        places: site.places,
+        scope: site.scope,
+        lanes: own,
+    };
     if stride == WORD_BYTES {
-        emit_values(alloc, code, places, scope, own, &store.value)?;
-        let pointer = emit_pointer(alloc, code, scope, own.counter, &form)?;
+        emit_values(alloc, code, &along, &store.value)?;
+        let pointer = emit_pointer(alloc, code, site.scope, own.counter, &form)?;
         store_row(code, own.group.slot(0), pointer)?;
         return Ok(());
     }
-    emit_values(alloc, code, places, scope, own, &store.value)?;
+    emit_values(alloc, code, &along, &store.value)?;
     emit_number(code, FIRST_VALUE, stride)?;
-    let pointer = emit_pointer(alloc, code, scope, own.counter, &form)?;
+    let pointer = emit_pointer(alloc, code, site.scope, own.counter, &form)?;
     store_strided(code, own.group.slot(0), pointer, FIRST_VALUE)?;
     Ok(())
 }
@@ -65,21 +84,29 @@ fn emit_row(
 fn emit_scattered(
     alloc: Global,
     code: &mut Vec<u32>,
-    places: &Places,
-    scope: &[Held],
+    site: &Site<'_>,
     own: Lanes,
     store: &Store,
 ) -> Result<(), CodeFault>
-    ensures { OnOk result (StoresLanes code.old.items code.new.items places.now scope.now own store.now) }
+    ensures { OnOk result (StoresLanes code.old.items code.new.items site.now.places.now site.now.scope.now own
+        store.now) }
 {
-    let place = place_of(places, Source::Func(store.func));
+    let place = place_of(site.places, Source::Func(store.func));
     let zero = Linear::of_number(alloc, 0);
     let form = point_form(alloc, &place, &zero, &zero)?;
-    emit_values(alloc, code, places, scope, own, &store.value)?;
-    emit_point_distances(
-        alloc, code, places, scope, own, &place, &store.x, &store.y, DISTANCES,
-    )?;
-    let pointer = emit_pointer(alloc, code, scope, own.counter, &form)?;
+    let along = LaneSite {
+        places: site.places,
+        scope: site.scope,
+        lanes: own,
+    };
+    let point = BufferPoint {
+        place: &place,
+        x: &store.x,
+        y: &store.y,
+    };
+    emit_values(alloc, code, &along, &store.value)?;
+    emit_point_distances(alloc, code, &along, &point, DISTANCES)?;
+    let pointer = emit_pointer(alloc, code, site.scope, own.counter, &form)?;
     store_at(code, own.group.slot(0), pointer, own.group.slot(DISTANCES))?;
     Ok(())
 }
@@ -88,20 +115,21 @@ fn emit_scattered(
 fn emit_stored(
     alloc: Global,
     code: &mut Vec<u32>,
-    places: &Places,
-    scope: &[Held],
+    site: &Site<'_>,
     own: Lanes,
     store: &Store,
 ) -> Result<(), CodeFault>
-    ensures { OnOk result (StoresLanes code.old.items code.new.items places.now scope.now own store.now) }
+    ensures { OnOk result (StoresLanes code.old.items code.new.items site.now.places.now site.now.scope.now own
+        store.now) }
 {
     if let Some(column) = sum_of(alloc, &store.x)? {
         if let Some(row) = sum_of(alloc, &store.y)? {
-            emit_row(alloc, code, places, scope, own, store, &column, &row)?;
+            let point = Point { column, row };
+            emit_row(alloc, code, site, own, store, &point)?;
             return Ok(());
         }
     }
-    emit_scattered(alloc, code, places, scope, own, store)?;
+    emit_scattered(alloc, code, site, own, store)?;
     Ok(())
 }
 
@@ -114,19 +142,18 @@ fn emit_stored(
 pub fn emit_run(
     alloc: Global,
     code: &mut Vec<u32>,
-    places: &Places,
-    scope: &[Held],
+    site: &Site<'_>,
     own: Lanes,
     left: &[Linear],
     store: &Store,
 ) -> Result<(), CodeFault>
-    ensures { OnOk result (EmitsRun code.old.items code.new.items places.now scope.now own
+    ensures { OnOk result (EmitsRun code.old.items code.new.items site.now.places.now site.now.scope.now own
         (left_lanes own left.now) store.now) }
 {
-    if !are_registers(scope) {
+    if !are_registers(site.scope) {
         return Err(CodeFault::TooDeep);
     }
-    emit_left_lanes(alloc, code, scope, own, left)?;
-    emit_stored(alloc, code, places, scope, own, store)?;
+    emit_left_lanes(alloc, code, site.scope, own, left)?;
+    emit_stored(alloc, code, site, own, store)?;
     Ok(())
 }

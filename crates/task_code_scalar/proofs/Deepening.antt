@@ -16,7 +16,7 @@ use Rattle.loop_ir.specs.declared.expressions.Expr.TheVariants as e
 use Rattle.loop_ir.proofs.Folds.{Both, left_of, right_of, folds_related, at_binary, at_divide, at_remainder, at_select, at_load}
 use Rattle.task_code_scalar.specs.declared.places.Place.{Place}
 use Rattle.task_code_scalar.specs.declared.places.Places.{Places}
-use Rattle.task_code_scalar.specs.Code.{Made, Deep, EmitsValue, EmitsDeep, EmitsSecond, beside, second_code, second_depth, move, on_stack, deep_or, deep_leaf, deep_at, deep, made, made_at, frames_of, frame_words, literal, spill, unspill, operation, quotient, remainder, selection, addressed, fetch, loading, place_of, second_need}
+use Rattle.task_code_scalar.specs.Code.{Made, Deep, EmitsValue, EmitsDeep, EmitsSecond, beside, second_code, second_depth, move, on_stack, deep_or, deep_leaf, deep_at, deep, made, made_at, frames_of, frame_words, literal, spill, unspill, chosen, operation, quotient, remainder, selection, addressed, fetch, loading, place_of, second_need}
 use Rattle.task_code_scalar.specs.Words.{Emits}
 use Rattle.task_code_scalar.proofs.Spelling.{emits_then}
 
@@ -196,18 +196,17 @@ module _ (places : Places) (scope : List Counter) where
       or-emitted own k word _ _ _ c0 c3 ek many (ap (deep places scope) eo ∙ at_remainder Deep (deep_at places scope) a c)
       (and_from (deep places scope a).own.is_word _ first.is_word (divisor-word c v.1)) (emits_then first.emits (emits_then v.0 w)) first.room
 
-  pub select-deep : (own : Expr) (k word : ℕ) (c a b x y z : Expr) (c0 c1 c2 c3 c4 c5 c6 c7 c8 c9 : List ℕ) → k ≡ min (made places scope own).need 100 → 12 < k
+  pub select-deep : (own : Expr) (k word : ℕ) (c a b x y z : Expr) (c0 c1 c2 c3 c4 c5 c6 : List ℕ) → k ≡ min (made places scope own).need 100 → 12 < k
       → own ≡ e.Select c a b → x ≡ c → y ≡ a → z ≡ b → Emitted c0 c1 x word → Emits c1 c2 (spill start word) → Emitted c2 c3 y (word + 1) → Emits c3 c4 (spill start (word + 1))
-      → Emitted c4 c5 z (word + 2) → Emits c5 c6 (AluImm Addi 22 20 (pos 0) ∷ []) → Emits c6 c7 (unspill start (word + 1) 21) → Emits c7 c8 (unspill start word 20)
-      → Emits c8 c9 (selection 20 21 22) → Emitted c0 c9 own word
+      → Emitted c4 c5 z (word + 2) → Emits c5 c6 (chosen start word) → Emitted c0 c6 own word
   unfolding deep
-  select-deep own k word c a b x y z c0 c1 c2 c3 c4 c5 c6 c7 c8 c9 ek many eo ex ey ez u s v t q m l n w =
+  select-deep own k word c a b x y z c0 c1 c2 c3 c4 c5 c6 ek many eo ex ey ez u s v t q w =
       let first = of x c word c0 c1 ex u in
       let second = of y a (word + 1) c2 c3 ey v in
       let third = of z b (word + 2) c4 c5 ez q in
-      or-emitted own k word _ _ _ c0 c9 ek many (ap (deep places scope) eo ∙ at_select Deep (deep_at places scope) c a b)
+      or-emitted own k word _ _ _ c0 c6 ek many (ap (deep places scope) eo ∙ at_select Deep (deep_at places scope) c a b)
       (and_from (deep places scope c).own.is_word _ first.is_word (and_from (deep places scope a).own.is_word (deep places scope b).own.is_word second.is_word third.is_word))
-      (emits_then first.emits (emits_then s (emits_then second.emits (emits_then t (emits_then third.emits (emits_then m (emits_then l (emits_then n w))))))))
+      (emits_then first.emits (emits_then s (emits_then second.emits (emits_then t (emits_then third.emits w)))))
       (triple-room (deep places scope c).depth (deep places scope a).depth (deep places scope b).depth word (frame_words places.frames) first.room second.room third.room)
 
   -- ---- needs

@@ -287,6 +287,11 @@ spill frames word = framed frames word ++ (Save stores.Sw scratch bottom (pos 0)
 abbrev pub unspill : ℕ → ℕ → ℕ → List Insn
 unspill frames word r = framed frames word ++ (Load loads.Lw r scratch (pos 0) ∷ [])
 
+-- the first slot becomes one of two values, by the condition in a word of the frame: the value in the next word, or its own
+abbrev pub chosen : ℕ → ℕ → List Insn
+chosen frames word =
+    move (bottom + 2) bottom ++ (unspill frames (word + 1) (bottom + 1) ++ (unspill frames word bottom ++ selection bottom (bottom + 1) (bottom + 2)))
+
 -- what is made of an expression that may keep values in the frame: what is made of it on the stack alone, how many words of the frame
 -- it takes, and the code that leaves its value in the first slot, with the frame free from a word on
 pub record Deep : Type 0 where
@@ -323,8 +328,7 @@ deep_divided own a c combine = deep_or own a.depth (λ word. a.code word ++ (lit
 
 abbrev pub deep_triple : ℕ → Made → Deep → Deep → Deep → Deep
 deep_triple frames own c a b = deep_or own (max c.depth (max (1 + a.depth) (2 + b.depth))) (λ word.
-    c.code word ++ (spill frames word ++ (a.code (word + 1) ++ (spill frames (word + 1) ++ (b.code (word + 2)
-    ++ (move (bottom + 2) bottom ++ (unspill frames (word + 1) (bottom + 1) ++ (unspill frames word bottom ++ selection bottom (bottom + 1) (bottom + 2)))))))))
+    c.code word ++ (spill frames word ++ (a.code (word + 1) ++ (spill frames (word + 1) ++ (b.code (word + 2) ++ chosen frames word)))))
 
 abbrev pub deep_leaf : Made → Deep
 deep_leaf own = deep_or own 0 (λ word. own.code bottom)

@@ -198,32 +198,23 @@ pub fn emit_value(
     ensures err { IfErr result (IsFault ⊥ (FitsStack e.now r → ⊥)) }
 {
     match e {
-        Expr::Number(n) => {
-            emit_literal(code, r, *n)?;
-            Ok(())
-        }
-        Expr::Linear(own) => {
-            emit_linear(code, scope, own, r)?;
-            Ok(())
-        }
+        Expr::Number(n) => emit_literal(code, r, *n)?,
+        Expr::Linear(own) => emit_linear(code, scope, own, r)?,
         Expr::Binary(operation, a, b) => {
             emit_value(code, places, scope, a.get(), r)?;
             let s = beside(b.get(), r)?;
             emit_value(code, places, scope, b.get(), s)?;
             emit_operation(code, *operation, r, s)?;
-            Ok(())
         }
         Expr::Divide(a, divisor) => {
             emit_value(code, places, scope, a.get(), r)?;
             let s = emit_divisor(code, *divisor, r)?;
             emit_quotient(code, r, s)?;
-            Ok(())
         }
         Expr::Remainder(a, divisor) => {
             emit_value(code, places, scope, a.get(), r)?;
             let s = emit_divisor(code, *divisor, r)?;
             emit_remainder(code, r, s)?;
-            Ok(())
         }
         Expr::Select(c, a, b) => {
             emit_value(code, places, scope, c.get(), r)?;
@@ -232,7 +223,6 @@ pub fn emit_value(
             let t = above(r, 2)?;
             emit_value(code, places, scope, b.get(), t)?;
             emit_selection(code, r, s, t)?;
-            Ok(())
         }
         Expr::Load(source, x, y) => {
             emit_value(code, places, scope, x.get(), r)?;
@@ -241,7 +231,7 @@ pub fn emit_value(
             let place = place_of(places, *source);
             emit_addressed(code, &place, r, s)?;
             emit_fetch(code, place.pixels, r)?;
-            Ok(())
         }
     }
+    Ok(())
 }

@@ -154,6 +154,20 @@ fn emit_unspill(code: &mut Vec<u32>, frames: Option<u32>, word: u32, r: u8) -> R
     Ok(())
 }
 
+/// Appends what selects one of two values by the condition in a word of the frame: the value in the next word, or that
+/// in the first slot.
+fn emit_chosen(code: &mut Vec<u32>, frames: Option<u32>, word: u32) -> Result<(), CodeFault>
+    requires { word < 1024 }
+    ensures ok { OnOk result (Emits code.old.items code.new.items (spec.chosen (frames_of frames) word)) }
+    ensures err { IfErr result (IsFault ⊥ (LieLow frames → frame_words frames ≤ word + 1)) }
+{
+    alu_small(code, AluImmOp::Addi, 22, 20, 0)?;
+    emit_unspill(code, frames, word + 1, 21)?;
+    emit_unspill(code, frames, word, 20)?;
+    emit_selection(code, 20, 21, 22)?;
+    Ok(())
+}
+
 // ---- expressions
 
 /// Appends what leaves the value of an expression in the first slot, with the frame free from a word on. For so many of
@@ -178,49 +192,41 @@ fn emit_from(
         emit_value(code, places, scope, e, 20)?;
         return Ok(());
     }
-    let within = over - 1;
     match e {
-        Expr::Number(_) => Err(CodeFault::TooDeep),
-        Expr::Linear(_) => Err(CodeFault::TooDeep),
+        Expr::Number(_) => return Err(CodeFault::TooDeep),
+        Expr::Linear(_) => return Err(CodeFault::TooDeep),
         Expr::Binary(operation, a, b) => {
-            emit_from(code, places, scope, a.get(), word, within)?;
+            emit_from(code, places, scope, a.get(), word, over - 1)?;
             let second = emit_second(code, places, scope, b.get(), word)?;
             emit_operation(code, *operation, 20, second)?;
-            Ok(())
         }
         Expr::Divide(a, divisor) => {
-            emit_from(code, places, scope, a.get(), word, within)?;
+            emit_from(code, places, scope, a.get(), word, over - 1)?;
             emit_divisor(code, *divisor)?;
             emit_quotient(code, 20, 21)?;
-            Ok(())
         }
         Expr::Remainder(a, divisor) => {
-            emit_from(code, places, scope, a.get(), word, within)?;
+            emit_from(code, places, scope, a.get(), word, over - 1)?;
             emit_divisor(code, *divisor)?;
             emit_remainder(code, 20, 21)?;
-            Ok(())
         }
         Expr::Select(c, a, b) => {
-            emit_from(code, places, scope, c.get(), word, within)?;
+            emit_from(code, places, scope, c.get(), word, over - 1)?;
             emit_spill(code, places.frames, word)?;
             emit_from(code, places, scope, a.get(), word + 1, 0)?;
             emit_spill(code, places.frames, word + 1)?;
             emit_from(code, places, scope, b.get(), word + 2, 0)?;
-            alu_small(code, AluImmOp::Addi, 22, 20, 0)?;
-            emit_unspill(code, places.frames, word + 1, 21)?;
-            emit_unspill(code, places.frames, word, 20)?;
-            emit_selection(code, 20, 21, 22)?;
-            Ok(())
+            emit_chosen(code, places.frames, word)?;
         }
         Expr::Load(source, x, y) => {
-            emit_from(code, places, scope, x.get(), word, within)?;
+            emit_from(code, places, scope, x.get(), word, over - 1)?;
             let second = emit_second(code, places, scope, y.get(), word)?;
             let place = place_of(places, *source);
             emit_addressed(code, &place, 20, second)?;
             emit_fetch(code, place.pixels, 20)?;
-            Ok(())
         }
     }
+    Ok(())
 }
 
 /// Appends what leaves the value of a second operand beside the first slot, which keeps its own: a leaf needs no place

@@ -79,22 +79,6 @@ fn ready_part(
     Ok(boxed)
 }
 
-/// A loop's body whose stores are as their code is made.
-#[cycle(readying)]
-fn ready_body(
-    alloc: Global,
-    places: &Places,
-    context: &Context,
-    own: Bound,
-    with_cuts: bool,
-    body: &Stmt,
-    named: &mut Vec<Expr>,
-) -> Result<Boxed<Stmt>, CodeFault> {
-    let inner = in_loop(alloc, context, own)?;
-    let made = ready_part(alloc, places, &inner, with_cuts, body, named)?;
-    Ok(made)
-}
-
 /// A statement whose stores are as their code is made, and beside it what gets names in front of loops inside.
 ///
 /// # Errors
@@ -126,7 +110,8 @@ pub fn ready(
             };
             let own = without_cut(body.get(), own);
             let within = with_cuts && !is_at_once(*kind);
-            let made = ready_body(alloc, places, context, own, within, body.get(), named)?;
+            let inner = in_loop(alloc, context, own)?;
+            let made = ready_part(alloc, places, &inner, within, body.get(), named)?;
             ready_loop(alloc, context, own, *kind, made, named)
         }
         Stmt::Bind(counter, whole, extent, body) => {
@@ -387,7 +372,8 @@ pub fn staying_in(
     body: &Stmt,
 ) -> Result<Vec<Expr>, CodeFault> {
     let mut named = Vec::new(alloc);
-    let made = ready_body(alloc, places, context, own, true, body, &mut named)?;
+    let inner = in_loop(alloc, context, own)?;
+    let made = ready_part(alloc, places, &inner, true, body, &mut named)?;
     let all = staying(alloc, context.bounds.as_slice(), made.get())?;
     Ok(all)
 }

@@ -1,6 +1,7 @@
 //! The code of statements, with forms that registers hold.
 
 ghost use Rattle.std.specs.Prelude.{◌≡◌, ◌≤◌, IfOk, OnOk, false, true};
+ghost use Rattle.loop_ir.specs.declared.statements.LoopKind.TheVariants.{Vectorized as vectorized};
 ghost use Rattle.loop_ir.specs.declared.statements.Stmt.TheVariants as stmts;
 ghost use Rattle.loop_ir.specs.Rounds.{is_vectorized};
 ghost use Rattle.task_code_registers.specs.Holding as holding;
@@ -19,7 +20,7 @@ use crate::rewriting::store_by_others;
 use crate::room::{depth, reserve, wanted_in};
 use crate::splits::{enter_split, is_cut, without_last};
 use crate::stages::{Code, add_first, add_last, add_second, no_words_beside};
-use crate::vectorizing::{emit_vectorized, is_at_once};
+use crate::vectorizing::emit_vectorized;
 use loop_ir::expressions::{Counter, Expr, Linear};
 use loop_ir::statements::{LoopKind, Stmt, Store, Whole};
 use std::alloc::{AllocError, Global};
@@ -32,6 +33,7 @@ use task_code_names::names::store_by_names;
 use task_code_registers::scopes::{Form, Held};
 use task_code_scalar::CodeFault;
 use task_code_scalar::places::Places;
+use task_code_values::sites::Site;
 use task_code_values::stores::emit_store;
 
 /// How many words a text may have.
@@ -70,19 +72,19 @@ pub(crate) fn made_store(
 fn emit_known_store(
     alloc: Global,
     code: &mut Vec<u32>,
-    places: &Places,
-    scope: &[Held],
+    site: &Site<'_>,
     context: &Context,
     store: &Store,
 ) -> Result<(), CodeFault>
-    ensures { OnOk result (EmitsStatement code.old.items code.new.items places.now scope.now (Meets context.now)
+    ensures { OnOk result (EmitsStatement code.old.items code.new.items site.now.places.now site.now.scope.now (Meets
+        context.now)
         (stmts.Store store.now)) }
 {
     if !is_plain_store(store) {
         return Err(CodeFault::TooDeep);
     }
-    let made = made_store(alloc, places, context, store)?;
-    let emitted = emit_store(alloc, code, places, scope, &made);
+    let made = made_store(alloc, site.places, context, store)?;
+    let emitted = emit_store(alloc, code, site.places, site.scope, &made);
     drop(made);
     emitted?;
     Ok(())
@@ -123,7 +125,7 @@ fn begin(
     if mentions(scope, own.counter) || reserved >= 1 << 32 {
         return Err(CodeFault::TooDeep);
     }
-    let begun = begin_loop(alloc, code, scope, own.counter, own.count, wanted, reserved)?;
+    let begun = begin_loop(alloc, code, scope, own, wanted, reserved)?;
     Ok(begun)
 }
 
@@ -138,14 +140,32 @@ pub(crate) fn is_laid_out(kind: LoopKind, count: u32) -> bool
     }
 }
 
-/// Whether one iteration comes behind the other.
-fn is_serial(kind: LoopKind) -> bool
-    ensures { result ≡ true → is_vectorized kind ≡ false }
+/// How the iterations of a loop are done.
+#[derive(Clone, Copy, Debug)]
+enum Way {
+    AtOnce,
+    /// Each with code of its own.
+    LaidOut,
+    /// One behind the other.
+    InTurn,
+}
+
+/// How the iterations of so many of a loop of this kind are done.
+fn way_of(kind: LoopKind, count: u32) -> Way
+    ensures at_once { result ≡ Way.AtOnce → kind ≡ vectorized }
+    ensures laid_out { result ≡ Way.LaidOut → is_vectorized kind ≡ false }
+    ensures in_turn { result ≡ Way.InTurn → is_vectorized kind ≡ false }
 {
     match kind {
-        LoopKind::Serial => true,
-        LoopKind::Unrolled => false,
-        LoopKind::Vectorized => false,
+        LoopKind::Vectorized => Way::AtOnce,
+        LoopKind::Unrolled => Way::LaidOut,
+        LoopKind::Serial => {
+            if count == 1 {
+                Way::LaidOut
+            } else {
+                Way::InTurn
+            }
+        }
     }
 }
 
@@ -155,19 +175,25 @@ fn is_serial(kind: LoopKind) -> bool
 fn emit_before(
     alloc: Global,
     code: &mut Vec<u32>,
-    places: &Places,
-    scope: &[Held],
+    site: &Site<'_>,
     context: &Context,
     own: Bound,
     body: &Stmt,
 ) -> Result<Option<Naming>, CodeFault>
-    ensures { IfOk result (NamesIf code.old.items code.new.items places.now scope.now context.now) }
+    ensures { IfOk result (NamesIf code.old.items code.new.items site.now.places.now site.now.scope.now context.now) }
 {
     if context.with_variables {
         return Ok(None);
     }
-    let all = staying_in(alloc, places, context, own, body)?;
-    let found = emit_names(alloc, code, places, scope, context, all.as_slice())?;
+    let all = staying_in(alloc, site.places, context, own, body)?;
+    let found = emit_names(
+        alloc,
+        code,
+        site.places,
+        site.scope,
+        context,
+        all.as_slice(),
+    )?;
     Ok(found)
 }
 
@@ -175,18 +201,17 @@ fn emit_before(
 fn begin_iterations(
     alloc: Global,
     code: &mut Vec<u32>,
-    places: &Places,
-    scope: &[Held],
+    site: &Site<'_>,
     inner: &Context,
     own: Bound,
     body: &Stmt,
 ) -> Result<Begun, CodeFault>
     requires { 1 ≤ own.count }
-    ensures { IfOk result (BeginsIterations code.old.items code.new.items own scope.now) }
+    ensures { IfOk result (BeginsIterations code.old.items code.new.items own site.now.scope.now) }
 {
-    let wanted = wanted_in(alloc, places, inner, own.counter, body)?;
-    let reserved = reserve(scope, depth(body), inner.with_variables);
-    let begun = begin(alloc, code, scope, own, wanted.as_slice(), reserved)?;
+    let wanted = wanted_in(alloc, site.places, inner, own.counter, body)?;
+    let reserved = reserve(site.scope, depth(body), inner.with_variables);
+    let begun = begin(alloc, code, site.scope, own, wanted.as_slice(), reserved)?;
     Ok(begun)
 }
 
@@ -195,20 +220,24 @@ fn begin_iterations(
 fn emit_iterations(
     alloc: Global,
     code: &mut Code,
-    places: &Places,
-    scope: &[Held],
+    site: &Site<'_>,
     context: &Context,
     own: Bound,
     body: &Stmt,
 ) -> Result<(), CodeFault>
     requires { 1 ≤ own.count }
-    ensures { OnOk result (EmitsLoop code.old.words.items code.new.words.items places.now scope.now (Meets context.now)
+    ensures { OnOk result (EmitsLoop code.old.words.items code.new.words.items site.now.places.now site.now.scope.now
+        (Meets context.now)
         own.counter own.count body.now) }
 {
     let inner = in_loop(alloc, context, own)?;
-    let begun = begin_iterations(alloc, &mut code.words, places, scope, &inner, own, body)?;
+    let begun = begin_iterations(alloc, &mut code.words, site, &inner, own, body)?;
     let start = code.words.len();
-    emit_statement(alloc, code, places, begun.inner.as_slice(), &inner, body)?;
+    let within = Site {
+        places: site.places,
+        scope: begun.inner.as_slice(),
+    };
+    emit_statement(alloc, code, &within, &inner, body)?;
     end_loop(&mut code.words, &begun, start)?;
     Ok(())
 }
@@ -218,26 +247,29 @@ fn emit_iterations(
 fn emit_loop(
     alloc: Global,
     code: &mut Code,
-    places: &Places,
-    scope: &[Held],
+    site: &Site<'_>,
     context: &Context,
     own: Bound,
     body: &Stmt,
 ) -> Result<(), CodeFault>
-    ensures { OnOk result (EmitsLoop code.old.words.items code.new.words.items places.now scope.now (Meets context.now)
+    ensures { OnOk result (EmitsLoop code.old.words.items code.new.words.items site.now.places.now site.now.scope.now
+        (Meets context.now)
         own.counter own.count body.now) }
 {
     if own.count == 0 {
         return Ok(());
     }
-    match emit_before(alloc, &mut code.words, places, scope, context, own, body)? {
+    match emit_before(alloc, &mut code.words, site, context, own, body)? {
         None => {
-            emit_iterations(alloc, code, places, scope, context, own, body)?;
+            emit_iterations(alloc, code, site, context, own, body)?;
             Ok(())
         }
         Some(before) => {
-            let inner = before.scope.as_slice();
-            emit_iterations(alloc, code, places, inner, &before.context, own, body)?;
+            let inner = Site {
+                places: site.places,
+                scope: before.scope.as_slice(),
+            };
+            emit_iterations(alloc, code, &inner, &before.context, own, body)?;
             Ok(())
         }
     }
@@ -248,16 +280,16 @@ fn emit_loop(
 fn emit_laid_out(
     alloc: Global,
     code: &mut Code,
-    places: &Places,
-    scope: &[Held],
+    site: &Site<'_>,
     context: &Context,
     own: Bound,
     body: &Stmt,
 ) -> Result<(), CodeFault>
-    ensures { OnOk result (EmitsLoop code.old.words.items code.new.words.items places.now scope.now (Meets context.now)
+    ensures { OnOk result (EmitsLoop code.old.words.items code.new.words.items site.now.places.now site.now.scope.now
+        (Meets context.now)
         own.counter own.count body.now) }
 {
-    if mentions(scope, own.counter) {
+    if mentions(site.scope, own.counter) {
         return Err(CodeFault::TooDeep);
     }
     for iteration in 0..own.count {
@@ -266,7 +298,7 @@ fn emit_laid_out(
         }
         let number = Linear::of_number(alloc, iteration);
         let inner = with_sum(alloc, context, own.counter, &number)?;
-        emit_statement(alloc, code, places, scope, &inner, body)?;
+        emit_statement(alloc, code, site, &inner, body)?;
     }
     Ok(())
 }
@@ -276,24 +308,24 @@ fn emit_laid_out(
 fn emit_serial(
     alloc: Global,
     code: &mut Code,
-    places: &Places,
-    scope: &[Held],
+    site: &Site<'_>,
     context: &Context,
     own: Bound,
     body: &Stmt,
 ) -> Result<(), CodeFault>
-    ensures { OnOk result (EmitsLoop code.old.words.items code.new.words.items places.now scope.now (Meets context.now)
+    ensures { OnOk result (EmitsLoop code.old.words.items code.new.words.items site.now.places.now site.now.scope.now
+        (Meets context.now)
         own.counter own.count body.now) }
 {
     if is_cut(body, own) {
         if own.count == 2 {
-            emit_laid_out(alloc, code, places, scope, context, own, body)?;
+            emit_laid_out(alloc, code, site, context, own, body)?;
             return Ok(());
         }
-        emit_parted(alloc, code, places, scope, context, own, body)?;
+        emit_parted(alloc, code, site, context, own, body)?;
         return Ok(());
     }
-    emit_loop(alloc, code, places, scope, context, own, body)?;
+    emit_loop(alloc, code, site, context, own, body)?;
     Ok(())
 }
 
@@ -302,25 +334,25 @@ fn emit_serial(
 fn emit_parted(
     alloc: Global,
     code: &mut Code,
-    places: &Places,
-    scope: &[Held],
+    site: &Site<'_>,
     context: &Context,
     own: Bound,
     body: &Stmt,
 ) -> Result<(), CodeFault>
     requires { 1 ≤ own.count }
-    ensures { OnOk result (EmitsLoop code.old.words.items code.new.words.items places.now scope.now (Meets context.now)
+    ensures { OnOk result (EmitsLoop code.old.words.items code.new.words.items site.now.places.now site.now.scope.now
+        (Meets context.now)
         own.counter own.count body.now) }
 {
     let counter = own.counter;
-    if mentions(scope, counter) {
+    if mentions(site.scope, counter) {
         return Err(CodeFault::TooDeep);
     }
     let others = without_last(own);
-    emit_loop(alloc, code, places, scope, context, others, body)?;
+    emit_loop(alloc, code, site, context, others, body)?;
     let number = Linear::of_number(alloc, others.count);
     let inner = with_sum(alloc, context, counter, &number)?;
-    emit_statement(alloc, code, places, scope, &inner, body)?;
+    emit_statement(alloc, code, site, &inner, body)?;
     Ok(())
 }
 
@@ -349,26 +381,25 @@ fn emit_tested(
 fn emit_split(
     alloc: Global,
     code: &mut Code,
-    places: &Places,
-    scope: &[Held],
+    site: &Site<'_>,
     context: &Context,
     split: Split,
     body: &Stmt,
 ) -> Result<(), CodeFault>
-    ensures { OnOk result (EmitsStatement code.old.words.items code.new.words.items places.now scope.now
-        (Meets context.now) (stmts.Bind split.counter split.whole split.extent body.now)) }
+    ensures { OnOk result (EmitsStatement code.old.words.items code.new.words.items site.now.places.now
+        site.now.scope.now (Meets context.now) (stmts.Bind split.counter split.whole split.extent body.now)) }
 {
-    if mentions(scope, split.counter) {
+    if mentions(site.scope, split.counter) {
         return Err(CodeFault::TooDeep);
     }
     let entered = enter_split(alloc, context, split.counter, &split.whole)?;
     if is_below(&entered.form, context.bounds.as_slice(), split.extent) {
-        emit_statement(alloc, code, places, scope, &entered.inner, body)?;
+        emit_statement(alloc, code, site, &entered.inner, body)?;
         return Ok(());
     }
     let mut made = no_words_beside(alloc, code);
-    emit_statement(alloc, &mut made, places, scope, &entered.inner, body)?;
-    emit_tested(alloc, code, scope, &entered.form, split.extent, &made)?;
+    emit_statement(alloc, &mut made, site, &entered.inner, body)?;
+    emit_tested(alloc, code, site.scope, &entered.form, split.extent, &made)?;
     Ok(())
 }
 
@@ -382,25 +413,24 @@ fn emit_split(
 pub fn emit_statement(
     alloc: Global,
     code: &mut Code,
-    places: &Places,
-    scope: &[Held],
+    site: &Site<'_>,
     context: &Context,
     statement: &Stmt,
 ) -> Result<(), CodeFault>
-    ensures { OnOk result (EmitsStatement code.old.words.items code.new.words.items places.now scope.now
-        (Meets context.now) statement.now) }
+    ensures { OnOk result (EmitsStatement code.old.words.items code.new.words.items site.now.places.now
+        site.now.scope.now (Meets context.now) statement.now) }
 {
     match statement {
         Stmt::Store(store) => {
-            emit_known_store(alloc, &mut code.words, places, scope, context, store)?;
+            emit_known_store(alloc, &mut code.words, site, context, store)?;
             Ok(())
         }
         Stmt::Sequence(first, second) => {
             let front = code.words.len();
-            emit_statement(alloc, code, places, scope, context, first.get())?;
+            emit_statement(alloc, code, site, context, first.get())?;
             let middle = code.words.len();
             add_first(&mut code.stages, first, front, middle)?;
-            emit_statement(alloc, code, places, scope, context, second.get())?;
+            emit_statement(alloc, code, site, context, second.get())?;
             let end = code.words.len();
             add_second(&mut code.stages, second, middle, end)?;
             Ok(())
@@ -410,27 +440,14 @@ pub fn emit_statement(
                 counter: *counter,
                 count: *count,
             };
-            if is_at_once(*kind) {
-                emit_vectorized(
-                    alloc,
-                    &mut code.words,
-                    places,
-                    scope,
-                    context,
-                    own,
-                    body.get(),
-                )?;
-                return Ok(());
+            match way_of(*kind, *count) {
+                Way::AtOnce => {
+                    emit_vectorized(alloc, &mut code.words, site, context, own, body.get())?;
+                }
+                Way::LaidOut => emit_laid_out(alloc, code, site, context, own, body.get())?,
+                Way::InTurn => emit_serial(alloc, code, site, context, own, body.get())?,
             }
-            if is_laid_out(*kind, *count) {
-                emit_laid_out(alloc, code, places, scope, context, own, body.get())?;
-                return Ok(());
-            }
-            if is_serial(*kind) {
-                emit_serial(alloc, code, places, scope, context, own, body.get())?;
-                return Ok(());
-            }
-            Err(CodeFault::TooDeep)
+            Ok(())
         }
         Stmt::Bind(counter, whole, extent, body) => {
             let split = Split {
@@ -438,7 +455,7 @@ pub fn emit_statement(
                 whole: *whole,
                 extent: *extent,
             };
-            emit_split(alloc, code, places, scope, context, split, body.get())?;
+            emit_split(alloc, code, site, context, split, body.get())?;
             Ok(())
         }
     }

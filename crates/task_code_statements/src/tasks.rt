@@ -18,6 +18,7 @@ use task_code_registers::scopes::{Held, with_held};
 use task_code_scalar::instructions::emit_literal;
 use task_code_scalar::places::Places;
 use task_code_scalar::{CodeFault, append};
+use task_code_values::sites::Site;
 
 /// Where the number of the task stands that was drawn.
 const DRAWN: u8 = 12;
@@ -133,14 +134,11 @@ fn emit_words(
     let begun = beginning(alloc, phase.counter, phase.tasks, with_variables)?;
     let others = mentioned_variables(alloc, &phase.body)?;
     let context = with_zeros(alloc, begun.context, phase.counter, others.as_slice())?;
-    emit_statement(
-        alloc,
-        code,
+    let site = Site {
         places,
-        begun.scope.as_slice(),
-        &context,
-        &phase.body,
-    )?;
+        scope: begun.scope.as_slice(),
+    };
+    emit_statement(alloc, code, &site, &context, &phase.body)?;
     emit_restored(&mut code.words, ticket, phase.tasks)?;
     Ok(())
 }

@@ -24,7 +24,7 @@ use task_code_names::names::store_by_names;
 use task_code_registers::scopes::Held;
 use task_code_runs::runs::emit_run;
 use task_code_scalar::CodeFault;
-use task_code_scalar::places::Places;
+use task_code_values::sites::Site;
 
 /// A store, and the tests that it stands behind.
 #[derive(Debug)]
@@ -178,20 +178,26 @@ fn lanes_for(scope: &[Held], own: Bound) -> Result<Lanes, CodeFault>
 pub fn emit_vectorized(
     alloc: Global,
     code: &mut Vec<u32>,
-    places: &Places,
-    scope: &[Held],
+    site: &Site<'_>,
     context: &Context,
     own: Bound,
     body: &Stmt,
 ) -> Result<(), CodeFault>
-    ensures { OnOk result (EmitsStatement code.old.items code.new.items places.now scope.now (Meets context.now)
+    ensures { OnOk result (EmitsStatement code.old.items code.new.items site.now.places.now site.now.scope.now (Meets
+        context.now)
         (stmts.For own.counter own.count vectorized body.now)) }
 {
-    let lanes = lanes_for(scope, own)?;
+    let lanes = lanes_for(site.scope, own)?;
     let found = run_of_body(alloc, context, lanes, body)?;
     let mut words = Vec::new(alloc);
     let left = found.left.as_slice();
-    emit_run(alloc, &mut words, places, scope, lanes, left, &found.store)?;
-    emit_behind(alloc, code, scope, found.fixed.as_slice(), words.as_slice())?;
+    emit_run(alloc, &mut words, site, lanes, left, &found.store)?;
+    emit_behind(
+        alloc,
+        code,
+        site.scope,
+        found.fixed.as_slice(),
+        words.as_slice(),
+    )?;
     Ok(())
 }

@@ -32,7 +32,7 @@ use Rattle.task_code_registers.proofs.Knowing.{knows-zero, knows-still, linear-s
 use Rattle.task_code_registers.proofs.Making.{short-then}
 use Rattle.task_code_values.specs.declared.points.Index.TheVariants as indexes
 use Rattle.task_code_values.specs.declared.spilling.Both.{Both}
-use Rattle.task_code_values.specs.declared.spilling.PointIndexes.{PointIndexes}
+use Rattle.task_code_values.specs.declared.points.PointIndexes.{PointIndexes}
 use Rattle.task_code_values.specs.Making.{IsBelow, MakesOfTwo, MakesFrom}
 use Rattle.task_code_values.specs.Operands.{IsOperand, IsSum, IsIndex, MakesOperand, MakesPixel}
 use Rattle.task_code_values.specs.Sizes.{words_of, value_words}

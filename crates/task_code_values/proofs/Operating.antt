@@ -1,6 +1,6 @@
 -- What operations make of registers, one instruction after the other.
 use Rattle.std.proofs.Common.{◌≡◌, ℕ, ◌^◌, ◌<◌, List, [], ◌∷◌, ◌++◌, length, Bool, refl, ap, ◌∙◌, sym, subst, arith, inl, inr}
-use Rattle.std.specs.Prelude.{◌≢◌, ◌⊎◌, ◌==◌, if◌then◌else◌, nat_lt, not, pos, OnOk, IfErr, Result, Ok, Err}
+use Rattle.std.specs.Prelude.{◌≢◌, ◌⊎◌, ◌==◌, if◌then◌else◌, nat_lt, not, pos, OnOk, IfErr, IfOk, Result, Ok, Err}
 use Rattle.rv_insn.specs.declared.instructions.Insn.{Insn}
 use Rattle.rv_insn.specs.declared.instructions.Insn.TheVariants.{Alu, AluImm}
 use Rattle.rv_insn.specs.declared.operations.AluImmOp.TheVariants as alu_imms
@@ -238,6 +238,10 @@ selection-made r c a b c0 c1 c2 requires x y = record {
 pub ok-map : {T E P Q : Type 0} (r : Result T E) → (P → Q) → OnOk r P → OnOk r Q
 ok-map (Ok done) f p = f p
 ok-map (Err error) f p = tt
+
+pub done-map : {T E : Type 0} {P Q : T → Type 0} (r : Result T E) → ((x : T) → P x → Q x) → IfOk r P → IfOk r Q
+done-map (Ok done) f p = f done p
+done-map (Err error) f p = tt
 
 fault-map : {deep deep' : Type 0} → (fault : CodeFault) → (deep → deep') → IsFault ⊥ deep fault → IsFault ⊥ deep' fault
 fault-map (faults.OutOfMemory error) f is = tt

@@ -398,9 +398,10 @@ stack-place r is =
     let high = is.1 in
     ((omega (arith, low), high), ((λ e. omega (arith, low, e)), (λ e. omega (arith, low, e))))
 
-pub column-as : (scope : List Held) (place : Place) (r : ℕ) (column x row : Index) (c0 c1 : List ℕ) → column ≡ x → MakesPixel c0 c1 scope place x row r
-    → MakesPixel c0 c1 scope place column row r
-column-as scope place r column x row c0 c1 e z = subst (λ k. MakesPixel c0 c1 scope place k row r) (sym e) z
+pub column-as : (scope : List Held) (place own : Place) (r : ℕ) (column x row : Index) (c0 c1 : List ℕ) → own ≡ place → column ≡ x
+    → MakesPixel c0 c1 scope own x row r → MakesPixel c0 c1 scope place column row r
+column-as scope place own r column x row c0 c1 ep e z = subst (λ k. MakesPixel c0 c1 scope place k row r) (sym e)
+    (subst (λ p. MakesPixel c0 c1 scope p x row r) ep z)
 
 pub rows-requires : (scope : List Held) (r t : ℕ) (row : Index) → row ≡ indexes.Register t → IsStack r → StandsIn scope (r + 1) row
     → IsPlace (r + 1) × IsSource t

@@ -24,7 +24,7 @@ use Rattle.task_code_registers.specs.Emitting.{MakesFormAddress}
 use Rattle.task_code_registers.specs.Registers.{address_register, first_value, IsSource}
 use Rattle.task_code_registers.specs.Scopes.{Knows, AreHolders, IsKept, form_value}
 use Rattle.task_code_values.specs.declared.spilling.Both.{Both}
-use Rattle.task_code_values.specs.declared.spilling.PointIndexes.{PointIndexes}
+use Rattle.task_code_values.specs.declared.points.PointIndexes.{PointIndexes}
 use Rattle.task_code_values.specs.Making.{IsBelow}
 use Rattle.task_code_values.specs.Operands.{IsIndex, StandsIn, index_words}
 use Rattle.task_code_values.specs.Points.{HaveIndex}

@@ -11,14 +11,12 @@ ghost use Rattle.task_code_values.specs.Sizes.{are_held};
 use crate::immediates::{emit_immediate, immediate_of};
 use crate::operands::{emit_number_operand, emit_sum_operand};
 use crate::operations::{emit_operation, emit_quotient, emit_remainder, emit_selection};
-use crate::points::{Index, emit_pixel};
+use crate::points::{Index, PointIndexes, emit_pixel};
+use crate::sites::Site;
 use loop_ir::expressions::{Expr, Linear};
 use std::alloc::{AllocError, Global};
 use task_code_registers::registers::ADDRESS;
-use task_code_registers::scopes::Held;
 use task_code_scalar::CodeFault;
-use task_code_scalar::expressions::place_of;
-use task_code_scalar::places::Places;
 
 /// The sum that an expression is, where it loads nothing and makes nothing of its parts.
 pub fn sum_of(alloc: Global, e: &Expr) -> Result<Option<Linear>, AllocError>
@@ -49,8 +47,7 @@ pub fn sum_of(alloc: Global, e: &Expr) -> Result<Option<Linear>, AllocError>
 pub fn emit_operand(
     alloc: Global,
     code: &mut Vec<u32>,
-    places: &Places,
-    scope: &[Held],
+    site: &Site<'_>,
     e: &Expr,
     r: u8,
     leaf: u8,
@@ -58,51 +55,45 @@ pub fn emit_operand(
     requires place { (first_value ≤ r) × (r ≤ 32) }
     requires leaf { IsLeafPlace r leaf }
     requires fits { FitsOperand e.now r }
-    ensures ok { IfOk result (λ s. MakesOperand code.old.items code.new.items places.now scope.now r leaf s e.now) }
-    ensures err { IfErr result (IsFault ⊥ (are_held scope.now e.now ≡ true → ⊥)) }
+    ensures ok { IfOk result (λ s. MakesOperand code.old.items code.new.items site.now.places.now site.now.scope.now r
+        leaf s e.now) }
+    ensures err { IfErr result (IsFault ⊥ (are_held site.now.scope.now e.now ≡ true → ⊥)) }
 {
     match e {
-        Expr::Number(number) => {
-            let s = emit_number_operand(alloc, code, scope, *number, leaf)?;
-            Ok(s)
-        }
-        Expr::Linear(own) => {
-            let s = emit_sum_operand(alloc, code, scope, own, leaf)?;
-            Ok(s)
-        }
+        Expr::Number(number) => Ok(emit_number_operand(alloc, code, site.scope, *number, leaf)?),
+        Expr::Linear(own) => emit_sum_operand(alloc, code, site.scope, own, leaf),
         Expr::Binary(operation, a, b) => {
-            let first = emit_operand(alloc, code, places, scope, a.get(), r, r)?;
+            let first = emit_operand(alloc, code, site, a.get(), r, r)?;
             let other = b.get();
             if let Some(own) = immediate_of(*operation, other) {
                 emit_immediate(code, own, first, r)?;
                 return Ok(r);
             }
-            let second = emit_operand(alloc, code, places, scope, other, r + 1, ADDRESS)?;
+            let second = emit_operand(alloc, code, site, other, r + 1, ADDRESS)?;
             emit_operation(code, *operation, r, first, second)?;
             Ok(r)
         }
         Expr::Divide(a, divisor) => {
-            let first = emit_operand(alloc, code, places, scope, a.get(), r, r)?;
-            emit_quotient(alloc, code, scope, *divisor, first, r)?;
+            let first = emit_operand(alloc, code, site, a.get(), r, r)?;
+            emit_quotient(alloc, code, site.scope, *divisor, first, r)?;
             Ok(r)
         }
         Expr::Remainder(a, divisor) => {
-            let first = emit_operand(alloc, code, places, scope, a.get(), r, r)?;
-            emit_remainder(alloc, code, scope, *divisor, first, r)?;
+            let first = emit_operand(alloc, code, site, a.get(), r, r)?;
+            emit_remainder(alloc, code, site.scope, *divisor, first, r)?;
             Ok(r)
         }
         Expr::Select(c, a, b) => {
-            let condition = emit_operand(alloc, code, places, scope, c.get(), r, r)?;
-            let first = emit_operand(alloc, code, places, scope, a.get(), r + 1, r + 1)?;
-            let second = emit_operand(alloc, code, places, scope, b.get(), r + 2, r + 2)?;
+            let condition = emit_operand(alloc, code, site, c.get(), r, r)?;
+            let first = emit_operand(alloc, code, site, a.get(), r + 1, r + 1)?;
+            let second = emit_operand(alloc, code, site, b.get(), r + 2, r + 2)?;
             emit_selection(code, r, condition, first, second)?;
             Ok(r)
         }
         Expr::Load(source, x, y) => {
-            let place = place_of(places, *source);
-            let column = emit_index(alloc, code, places, scope, x.get(), r)?;
-            let row = emit_index(alloc, code, places, scope, y.get(), r + 1)?;
-            emit_pixel(alloc, code, scope, &place, &column, &row, r)?;
+            let column = emit_index(alloc, code, site, x.get(), r)?;
+            let row = emit_index(alloc, code, site, y.get(), r + 1)?;
+            emit_pixel(alloc, code, site, *source, &PointIndexes { column, row }, r)?;
             Ok(r)
         }
     }
@@ -117,20 +108,20 @@ pub fn emit_operand(
 pub fn emit_index(
     alloc: Global,
     code: &mut Vec<u32>,
-    places: &Places,
-    scope: &[Held],
+    site: &Site<'_>,
     e: &Expr,
     r: u8,
 ) -> Result<Index, CodeFault>
     requires place { (first_value ≤ r) × (r ≤ 32) }
     requires fits { FitsOperand e.now r }
-    ensures ok { IfOk result (λ index. MakesIndex code.old.items code.new.items places.now scope.now r index e.now) }
-    ensures err { IfErr result (IsFault ⊥ (are_held scope.now e.now ≡ true → ⊥)) }
+    ensures ok { IfOk result (λ index. MakesIndex code.old.items code.new.items site.now.places.now site.now.scope.now r
+        index e.now) }
+    ensures err { IfErr result (IsFault ⊥ (are_held site.now.scope.now e.now ≡ true → ⊥)) }
 {
     match sum_of(alloc, e)? {
         Some(own) => Ok(Index::Sum(own)),
         None => {
-            let s = emit_operand(alloc, code, places, scope, e, r, r)?;
+            let s = emit_operand(alloc, code, site, e, r, r)?;
             Ok(Index::Register(s))
         }
     }

@@ -6,12 +6,13 @@ ghost use Rattle.task_code_registers.specs.Registers.{IsPlace};
 ghost use Rattle.task_code_values.specs.Spilling.{HasSlot, IsFirst, IsSlot, MakesSlot, Spills, Unspills};
 
 use crate::accesses::{emit_fetch, emit_save};
+use crate::sites::Site;
 use loop_ir::expressions::Linear;
 use std::alloc::{AllocError, Global};
 use task_code_registers::registers::ADDRESS;
 use task_code_registers::scopes::{Form, Held};
 use task_code_registers::sums::{At, emit_address};
-use task_code_scalar::places::{Pixels, Places};
+use task_code_scalar::places::Pixels;
 
 /// How many bytes a hart's frame has.
 const FRAME_BYTES: u32 = 4096;
@@ -64,16 +65,15 @@ fn emit_slot(
 pub fn emit_spill(
     alloc: Global,
     code: &mut Vec<u32>,
-    places: &Places,
-    scope: &[Held],
+    site: &Site<'_>,
     s: u8,
     word: u32,
 ) -> Result<(), AllocError>
-    requires slot { HasSlot places.now.frames word }
-    requires source { IsFirst scope.now s }
-    ensures { OnOk result (Spills code.old.items code.new.items places.now scope.now s word) }
+    requires slot { HasSlot site.now.places.now.frames word }
+    requires source { IsFirst site.now.scope.now s }
+    ensures { OnOk result (Spills code.old.items code.new.items site.now.places.now site.now.scope.now s word) }
 {
-    let at = emit_slot(alloc, code, scope, places.frames, word)?;
+    let at = emit_slot(alloc, code, site.scope, site.places.frames, word)?;
     emit_save(code, at.register, s, at.offset)?;
     Ok(())
 }
@@ -86,16 +86,15 @@ pub fn emit_spill(
 pub fn emit_unspill(
     alloc: Global,
     code: &mut Vec<u32>,
-    places: &Places,
-    scope: &[Held],
+    site: &Site<'_>,
     word: u32,
     r: u8,
 ) -> Result<(), AllocError>
-    requires slot { HasSlot places.now.frames word }
+    requires slot { HasSlot site.now.places.now.frames word }
     requires place { IsPlace r }
-    ensures { OnOk result (Unspills code.old.items code.new.items places.now scope.now word r) }
+    ensures { OnOk result (Unspills code.old.items code.new.items site.now.places.now site.now.scope.now word r) }
 {
-    let at = emit_slot(alloc, code, scope, places.frames, word)?;
+    let at = emit_slot(alloc, code, site.scope, site.places.frames, word)?;
     emit_fetch(code, Pixels::Words, r, at.register, at.offset)?;
     Ok(())
 }

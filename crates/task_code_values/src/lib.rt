@@ -8,6 +8,7 @@
 //!   holds it already.
 //! - [`points`]: appends loads of points, whose indexes are sums or stand in registers.
 //! - [`scatters`]: appends what makes the address of a point for a store (`specs/Scattering.antt`).
+//! - [`sites`]: what stands around the appended code.
 //! - [`frames`]: appends what keeps a register in a word of the hart's frame, and loads it again.
 //! - [`expressions`]: appends what leaves an expression's value in a register (`specs/Operands.antt`).
 //! - [`spilling`]: the same where the registers do not suffice and values wait in the hart's frame.
@@ -26,6 +27,7 @@ pub mod operands;
 pub mod operations;
 pub mod points;
 pub mod scatters;
+pub mod sites;
 pub mod spilling;
 pub mod stores;
 pub mod updates;

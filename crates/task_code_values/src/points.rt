@@ -3,6 +3,7 @@
 ghost use Rattle.std.specs.Prelude.{◌≡◌, ◌<◌, ◌+◌, ◌*◌, ◌%◌, ◌^◌};
 ghost use Rattle.std.specs.Prelude.{◌≤◌, IfErr, OnOk, length, true};
 ghost use Rattle.loop_ir.specs.declared.expressions.Linear.{Linear as Sums};
+ghost use Rattle.task_code_scalar.specs.Code as spec;
 ghost use Rattle.task_code_scalar.specs.Code.{pixel_bytes};
 ghost use Rattle.task_code_scalar.specs.Faults.{IsFault};
 ghost use Rattle.task_code_registers.specs.Emitting.{Makes};
@@ -15,15 +16,16 @@ ghost use Rattle.task_code_values.specs.Points.{HaveIndex, LoadsBehind, LoadsPoi
 
 use crate::accesses::{bytes_of, emit_fetch};
 use crate::operands::emit_reached_address;
-use halide_pipeline::words;
+use crate::sites::{BufferSite, Site};
+use halide_pipeline::{Source, words};
 use loop_ir::expressions::Linear;
 use rv_insn::{AluImmOp, AluOp, ShiftOp};
 use std::alloc::{AllocError, Global};
 use task_code_registers::numbers::emit_times;
 use task_code_registers::points::point_form;
 use task_code_registers::registers::ADDRESS;
-use task_code_registers::scopes::Held;
 use task_code_scalar::CodeFault;
+use task_code_scalar::expressions::place_of;
 use task_code_scalar::instructions::{alu, alu_small, shift};
 use task_code_scalar::places::{Pixels, Place};
 
@@ -43,6 +45,22 @@ impl Drop for Index {
             Index::Sum(own) => drop(own),
             Index::Register(_) => {}
         }
+    }
+}
+
+/// The indexes of a point.
+#[derive(Debug)]
+pub struct PointIndexes {
+    pub column: Index,
+    pub row: Index,
+}
+
+/// Written out, so that a check sees a call wherever one is dropped, and not the drops of its parts.
+impl Drop for PointIndexes {
+    fn drop(self) {
+        let PointIndexes { column, row } = self;
+        drop(column);
+        drop(row);
     }
 }
 
@@ -75,20 +93,20 @@ pub(crate) fn emit_scaled(
 fn emit_point(
     alloc: Global,
     code: &mut Vec<u32>,
-    scope: &[Held],
-    place: &Place,
+    buffer: &BufferSite<'_>,
     x: &Linear,
     y: &Linear,
     r: u8,
 ) -> Result<(), CodeFault>
     requires { IsStack r }
-    ensures ok { OnOk result (LoadsPoint code.old.items code.new.items scope.now place.now x.now y.now r) }
-    ensures err { IfErr result (IsFault ⊥ (have_registers scope.now x.now.terms ≡ true
-        → have_registers scope.now y.now.terms ≡ true → ⊥)) }
+    ensures ok { OnOk result (LoadsPoint code.old.items code.new.items buffer.now.scope.now buffer.now.place.now x.now
+        y.now r) }
+    ensures err { IfErr result (IsFault ⊥ (have_registers buffer.now.scope.now x.now.terms ≡ true
+        → have_registers buffer.now.scope.now y.now.terms ≡ true → ⊥)) }
 {
-    let form = point_form(alloc, place, x, y)?;
-    let at = emit_reached_address(alloc, code, scope, &form, r)?;
-    emit_fetch(code, place.pixels, r, at.register, at.offset)?;
+    let form = point_form(alloc, buffer.place, x, y)?;
+    let at = emit_reached_address(alloc, code, buffer.scope, &form, r)?;
+    emit_fetch(code, buffer.place.pixels, r, at.register, at.offset)?;
     Ok(())
 }
 
@@ -96,21 +114,21 @@ fn emit_point(
 fn emit_behind(
     alloc: Global,
     code: &mut Vec<u32>,
-    scope: &[Held],
-    place: &Place,
+    buffer: &BufferSite<'_>,
     x: &Linear,
     y: &Linear,
     r: u8,
 ) -> Result<(), CodeFault>
     requires { IsStack r }
-    ensures ok { OnOk result (LoadsBehind code.old.items code.new.items scope.now place.now x.now y.now r) }
-    ensures err { IfErr result (IsFault ⊥ (have_registers scope.now x.now.terms ≡ true
-        → have_registers scope.now y.now.terms ≡ true → ⊥)) }
+    ensures ok { OnOk result (LoadsBehind code.old.items code.new.items buffer.now.scope.now buffer.now.place.now x.now
+        y.now r) }
+    ensures err { IfErr result (IsFault ⊥ (have_registers buffer.now.scope.now x.now.terms ≡ true
+        → have_registers buffer.now.scope.now y.now.terms ≡ true → ⊥)) }
 {
-    let form = point_form(alloc, place, x, y)?;
-    let at = emit_reached_address(alloc, code, scope, &form, ADDRESS)?;
+    let form = point_form(alloc, buffer.place, x, y)?;
+    let at = emit_reached_address(alloc, code, buffer.scope, &form, ADDRESS)?;
     alu(code, AluOp::Add, r, r, at.register)?;
-    emit_fetch(code, place.pixels, r, r, at.offset)?;
+    emit_fetch(code, buffer.place.pixels, r, r, at.offset)?;
     Ok(())
 }
 
@@ -129,25 +147,24 @@ fn emit_rows(code: &mut Vec<u32>, place: &Place, r: u8, s: u8) -> Result<(), All
 fn emit_at_column(
     alloc: Global,
     code: &mut Vec<u32>,
-    scope: &[Held],
-    place: &Place,
+    buffer: &BufferSite<'_>,
     x: &Linear,
     row: &Index,
     r: u8,
 ) -> Result<(), CodeFault>
     requires place { IsStack r }
-    requires stands { StandsIn scope.now (r + 1) row.now }
-    ensures ok { OnOk result (MakesPixel code.old.items code.new.items scope.now place.now
+    requires stands { StandsIn buffer.now.scope.now (r + 1) row.now }
+    ensures ok { OnOk result (MakesPixel code.old.items code.new.items buffer.now.scope.now buffer.now.place.now
         (indexes.Sum x.now) row.now r) }
-    ensures err { IfErr result (IsFault ⊥ (have_registers scope.now x.now.terms ≡ true
-        → HaveIndex scope.now row.now → ⊥)) }
+    ensures err { IfErr result (IsFault ⊥ (have_registers buffer.now.scope.now x.now.terms ≡ true
+        → HaveIndex buffer.now.scope.now row.now → ⊥)) }
 {
     match row {
-        Index::Sum(y) => emit_point(alloc, code, scope, place, x, y, r),
+        Index::Sum(y) => emit_point(alloc, code, buffer, x, y, r),
         Index::Register(t) => {
             let zero = Linear::of_number(alloc, 0);
-            emit_rows(code, place, r, *t)?;
-            emit_behind(alloc, code, scope, place, x, &zero, r)
+            emit_rows(code, buffer.place, r, *t)?;
+            emit_behind(alloc, code, buffer, x, &zero, r)
         }
     }
 }
@@ -156,54 +173,52 @@ fn emit_at_column(
 fn emit_at_registers(
     alloc: Global,
     code: &mut Vec<u32>,
-    scope: &[Held],
-    place: &Place,
+    buffer: &BufferSite<'_>,
     s: u8,
     t: u8,
     r: u8,
 ) -> Result<(), CodeFault>
     requires place { IsStack r }
     requires column { IsSource s }
-    requires stands { StandsIn scope.now (r + 1) (indexes.Register t) }
-    ensures ok { OnOk result (MakesPixel code.old.items code.new.items scope.now place.now
+    requires stands { StandsIn buffer.now.scope.now (r + 1) (indexes.Register t) }
+    ensures ok { OnOk result (MakesPixel code.old.items code.new.items buffer.now.scope.now buffer.now.place.now
         (indexes.Register s) (indexes.Register t) r) }
     ensures err { IfErr result (IsFault ⊥ ⊥) }
 {
     let zero = Linear::of_number(alloc, 0);
-    emit_scaled(code, place.pixels, r, s)?;
-    emit_rows(code, place, r + 1, t)?;
+    emit_scaled(code, buffer.place.pixels, r, s)?;
+    emit_rows(code, buffer.place, r + 1, t)?;
     alu(code, AluOp::Add, r, r, r + 1)?;
-    emit_behind(alloc, code, scope, place, &zero, &zero, r)
+    emit_behind(alloc, code, buffer, &zero, &zero, r)
 }
 
 /// Appends a load of the point at a register and an index, which stands above r where it is a register too.
 fn emit_from_column(
     alloc: Global,
     code: &mut Vec<u32>,
-    scope: &[Held],
-    place: &Place,
+    buffer: &BufferSite<'_>,
     s: u8,
     row: &Index,
     r: u8,
 ) -> Result<(), CodeFault>
     requires place { IsStack r }
     requires column { IsSource s }
-    requires stands { StandsIn scope.now (r + 1) row.now }
-    ensures ok { OnOk result (MakesPixel code.old.items code.new.items scope.now place.now
+    requires stands { StandsIn buffer.now.scope.now (r + 1) row.now }
+    ensures ok { OnOk result (MakesPixel code.old.items code.new.items buffer.now.scope.now buffer.now.place.now
         (indexes.Register s) row.now r) }
-    ensures err { IfErr result (IsFault ⊥ (HaveIndex scope.now row.now → ⊥)) }
+    ensures err { IfErr result (IsFault ⊥ (HaveIndex buffer.now.scope.now row.now → ⊥)) }
 {
     match row {
         Index::Sum(y) => {
             let zero = Linear::of_number(alloc, 0);
-            emit_scaled(code, place.pixels, r, s)?;
-            emit_behind(alloc, code, scope, place, &zero, y, r)
+            emit_scaled(code, buffer.place.pixels, r, s)?;
+            emit_behind(alloc, code, buffer, &zero, y, r)
         }
-        Index::Register(t) => emit_at_registers(alloc, code, scope, place, s, *t, r),
+        Index::Register(t) => emit_at_registers(alloc, code, buffer, s, *t, r),
     }
 }
 
-/// Appends a load of the point at two indexes. Where both are registers the second stands above r.
+/// Appends a load of a source's point at two indexes. Where both are registers the second stands above r.
 ///
 /// # Errors
 ///
@@ -211,20 +226,26 @@ fn emit_from_column(
 pub fn emit_pixel(
     alloc: Global,
     code: &mut Vec<u32>,
-    scope: &[Held],
-    place: &Place,
-    column: &Index,
-    row: &Index,
+    site: &Site<'_>,
+    source: Source,
+    point: &PointIndexes,
     r: u8,
 ) -> Result<(), CodeFault>
     requires place { IsStack r }
-    requires first { StandsIn scope.now r column.now }
-    requires second { StandsIn scope.now (r + 1) row.now }
-    ensures ok { OnOk result (MakesPixel code.old.items code.new.items scope.now place.now column.now row.now r) }
-    ensures err { IfErr result (IsFault ⊥ (HaveIndex scope.now column.now → HaveIndex scope.now row.now → ⊥)) }
+    requires first { StandsIn site.now.scope.now r point.now.column }
+    requires second { StandsIn site.now.scope.now (r + 1) point.now.row }
+    ensures ok { OnOk result (MakesPixel code.old.items code.new.items site.now.scope.now
+        (spec.place_of site.now.places.now source) point.now.column point.now.row r) }
+    ensures err { IfErr result (IsFault ⊥ (HaveIndex site.now.scope.now point.now.column
+        → HaveIndex site.now.scope.now point.now.row → ⊥)) }
 {
-    match column {
-        Index::Sum(x) => emit_at_column(alloc, code, scope, place, x, row, r),
-        Index::Register(s) => emit_from_column(alloc, code, scope, place, *s, row, r),
+    let place = place_of(site.places, source);
+    let buffer = BufferSite {
+        place: &place,
+        scope: site.scope,
+    };
+    match &point.column {
+        Index::Sum(x) => emit_at_column(alloc, code, &buffer, x, &point.row, r),
+        Index::Register(s) => emit_from_column(alloc, code, &buffer, *s, &point.row, r),
     }
 }

@@ -13,7 +13,8 @@ ghost use Rattle.task_code_values.specs.Scattering.{HasSource, IsSumPart, Reache
 
 use crate::accesses::bytes_of;
 use crate::operands::emit_reached_address;
-use crate::points::{Index, emit_scaled};
+use crate::points::{Index, PointIndexes, emit_scaled};
+use crate::sites::BufferSite;
 use halide_pipeline::words;
 use loop_ir::expressions::Linear;
 use rv_insn::AluOp;
@@ -21,7 +22,6 @@ use std::alloc::{AllocError, Global};
 use task_code_registers::numbers::{emit_number, emit_times};
 use task_code_registers::points::point_form;
 use task_code_registers::registers::{ADDRESS, SECOND_SCRATCH};
-use task_code_registers::scopes::Held;
 use task_code_scalar::CodeFault;
 use task_code_scalar::instructions::alu;
 use task_code_scalar::places::Place;
@@ -80,19 +80,19 @@ fn emit_rows_added(code: &mut Vec<u32>, place: &Place, row: &Index, r: u8) -> Re
 fn reach_behind(
     alloc: Global,
     code: &mut Vec<u32>,
-    scope: &[Held],
-    place: &Place,
+    buffer: &BufferSite<'_>,
     x: &Linear,
     y: &Linear,
     r: u8,
 ) -> Result<u32, CodeFault>
     requires { IsStack r }
-    ensures ok { IfOk result (ReachesBehind code.old.items code.new.items scope.now place.now x.now y.now r) }
-    ensures err { IfErr result (IsFault ⊥ (have_registers scope.now x.now.terms ≡ true
-        → have_registers scope.now y.now.terms ≡ true → ⊥)) }
+    ensures ok { IfOk result (ReachesBehind code.old.items code.new.items buffer.now.scope.now buffer.now.place.now
+        x.now y.now r) }
+    ensures err { IfErr result (IsFault ⊥ (have_registers buffer.now.scope.now x.now.terms ≡ true
+        → have_registers buffer.now.scope.now y.now.terms ≡ true → ⊥)) }
 {
-    let form = point_form(alloc, place, x, y)?;
-    let at = emit_reached_address(alloc, code, scope, &form, ADDRESS)?;
+    let form = point_form(alloc, buffer.place, x, y)?;
+    let at = emit_reached_address(alloc, code, buffer.scope, &form, ADDRESS)?;
     alu(code, AluOp::Add, r, r, at.register)?;
     Ok(at.offset)
 }
@@ -106,22 +106,22 @@ fn reach_behind(
 pub fn reach_point(
     alloc: Global,
     code: &mut Vec<u32>,
-    scope: &[Held],
-    place: &Place,
-    column: &Index,
-    row: &Index,
+    buffer: &BufferSite<'_>,
+    point: &PointIndexes,
     r: u8,
 ) -> Result<u32, CodeFault>
     requires place { IsStack r }
-    requires first { StandsIn scope.now r column.now }
-    requires second { StandsIn scope.now (r + 1) row.now }
-    ensures ok { IfOk result (ReachesPoint code.old.items code.new.items scope.now place.now column.now row.now r) }
-    ensures err { IfErr result (IsFault ⊥ (HaveIndex scope.now column.now → HaveIndex scope.now row.now → ⊥)) }
+    requires first { StandsIn buffer.now.scope.now r point.now.column }
+    requires second { StandsIn buffer.now.scope.now (r + 1) point.now.row }
+    ensures ok { IfOk result (ReachesPoint code.old.items code.new.items buffer.now.scope.now buffer.now.place.now
+        point.now.column point.now.row r) }
+    ensures err { IfErr result (IsFault ⊥ (HaveIndex buffer.now.scope.now point.now.column
+        → HaveIndex buffer.now.scope.now point.now.row → ⊥)) }
 {
-    let x = sum_part(alloc, column)?;
-    let y = sum_part(alloc, row)?;
-    emit_columns(code, place, column, r)?;
-    emit_rows_added(code, place, row, r)?;
-    let offset = reach_behind(alloc, code, scope, place, &x, &y, r)?;
+    let x = sum_part(alloc, &point.column)?;
+    let y = sum_part(alloc, &point.row)?;
+    emit_columns(code, buffer.place, &point.column, r)?;
+    emit_rows_added(code, buffer.place, &point.row, r)?;
+    let offset = reach_behind(alloc, code, buffer, &x, &y, r)?;
     Ok(offset)
 }

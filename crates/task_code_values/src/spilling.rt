@@ -13,16 +13,14 @@ use crate::expressions::{emit_operand, sum_of};
 use crate::frames::{emit_spill, emit_unspill};
 use crate::needs::is_leaf;
 use crate::operations::{emit_operation, emit_quotient, emit_remainder, emit_selection};
-use crate::points::{Index, emit_pixel};
+use crate::points::{Index, PointIndexes, emit_pixel};
+use crate::sites::Site;
 use loop_ir::expressions::Expr;
 use rv_insn::AluImmOp;
 use std::alloc::Global;
 use task_code_registers::registers::{ADDRESS, FIRST_VALUE};
-use task_code_registers::scopes::Held;
 use task_code_scalar::CodeFault;
-use task_code_scalar::expressions::place_of;
 use task_code_scalar::instructions::alu_small;
-use task_code_scalar::places::Places;
 
 /// Where a second value stands.
 pub const SECOND_VALUE: u8 = 21;
@@ -36,22 +34,6 @@ pub struct Both {
     pub second: u8,
 }
 
-/// The indexes of a point.
-#[derive(Debug)]
-pub struct PointIndexes {
-    pub column: Index,
-    pub row: Index,
-}
-
-/// Written out, so that a check sees a call wherever one is dropped, and not the drops of its parts.
-impl Drop for PointIndexes {
-    fn drop(self) {
-        let PointIndexes { column, row } = self;
-        drop(column);
-        drop(row);
-    }
-}
-
 /// Appends what leaves an expression's value in the stack's first register, where none of the scope holds it, with the
 /// frame free from a word on. For so many of it, its first operand and so on, the stack is known to have no room. It
 /// returns the register.
@@ -59,23 +41,23 @@ impl Drop for PointIndexes {
 pub fn emit_deep(
     alloc: Global,
     code: &mut Vec<u32>,
-    places: &Places,
-    scope: &[Held],
+    site: &Site<'_>,
     e: &Expr,
     word: u32,
     known: u32,
 ) -> Result<u8, CodeFault>
-    requires fits { FitsFrame places.now.frames e.now word }
+    requires fits { FitsFrame site.now.places.now.frames e.now word }
     requires known { known ≤ depth e.now }
-    ensures ok { IfOk result (λ s. MakesValue code.old.items code.new.items places.now scope.now word s e.now) }
-    ensures err { IfErr result (IsFault ⊥ (are_held scope.now e.now ≡ true → ⊥)) }
+    ensures ok { IfOk result (λ s. MakesValue code.old.items code.new.items site.now.places.now site.now.scope.now word
+        s e.now) }
+    ensures err { IfErr result (IsFault ⊥ (are_held site.now.scope.now e.now ≡ true → ⊥)) }
 {
     let over = known_depth(e, known);
     if over > 0 {
-        emit_spilling(alloc, code, places, scope, e, word, over - 1)?;
+        emit_spilling(alloc, code, site, e, word, over - 1)?;
         return Ok(FIRST_VALUE);
     }
-    let s = emit_operand(alloc, code, places, scope, e, FIRST_VALUE, FIRST_VALUE)?;
+    let s = emit_operand(alloc, code, site, e, FIRST_VALUE, FIRST_VALUE)?;
     Ok(s)
 }
 
@@ -85,58 +67,49 @@ pub fn emit_deep(
 fn emit_spilling(
     alloc: Global,
     code: &mut Vec<u32>,
-    places: &Places,
-    scope: &[Held],
+    site: &Site<'_>,
     e: &Expr,
     word: u32,
     known: u32,
 ) -> Result<(), CodeFault>
-    requires fits { IsDeep places.now.frames e.now word }
+    requires fits { IsDeep site.now.places.now.frames e.now word }
     requires known { 1 + known ≤ depth e.now }
-    ensures ok { OnOk result (MakesValue code.old.items code.new.items places.now scope.now word first_value e.now) }
-    ensures err { IfErr result (IsFault ⊥ (are_held scope.now e.now ≡ true → ⊥)) }
+    ensures ok { OnOk result (MakesValue code.old.items code.new.items site.now.places.now site.now.scope.now word
+        first_value e.now) }
+    ensures err { IfErr result (IsFault ⊥ (are_held site.now.scope.now e.now ≡ true → ⊥)) }
 {
     match e {
         Expr::Number(_) => Err(CodeFault::TooDeep),
         Expr::Linear(_) => Err(CodeFault::TooDeep),
         Expr::Binary(operation, a, b) => {
-            let first = emit_deep(alloc, code, places, scope, a.get(), word, known)?;
-            let both = emit_beside(alloc, code, places, scope, b.get(), word, first)?;
+            let first = emit_deep(alloc, code, site, a.get(), word, known)?;
+            let both = emit_beside(alloc, code, site, b.get(), word, first)?;
             emit_operation(code, *operation, FIRST_VALUE, both.first, both.second)?;
             Ok(())
         }
         Expr::Divide(a, divisor) => {
-            let first = emit_deep(alloc, code, places, scope, a.get(), word, known)?;
-            emit_quotient(alloc, code, scope, *divisor, first, FIRST_VALUE)?;
+            let first = emit_deep(alloc, code, site, a.get(), word, known)?;
+            emit_quotient(alloc, code, site.scope, *divisor, first, FIRST_VALUE)?;
             Ok(())
         }
         Expr::Remainder(a, divisor) => {
-            let first = emit_deep(alloc, code, places, scope, a.get(), word, known)?;
-            emit_remainder(alloc, code, scope, *divisor, first, FIRST_VALUE)?;
+            let first = emit_deep(alloc, code, site, a.get(), word, known)?;
+            emit_remainder(alloc, code, site.scope, *divisor, first, FIRST_VALUE)?;
             Ok(())
         }
         Expr::Select(c, a, b) => {
-            let condition = emit_deep(alloc, code, places, scope, c.get(), word, known)?;
-            emit_spill(alloc, code, places, scope, condition, word)?;
-            let first = emit_deep(alloc, code, places, scope, a.get(), word + 1, 0)?;
-            emit_pair(alloc, code, places, scope, b.get(), word + 1, first)?;
-            emit_unspill(alloc, code, places, scope, word, THIRD_VALUE)?;
+            let condition = emit_deep(alloc, code, site, c.get(), word, known)?;
+            emit_spill(alloc, code, site, condition, word)?;
+            let first = emit_deep(alloc, code, site, a.get(), word + 1, 0)?;
+            emit_pair(alloc, code, site, b.get(), word + 1, first)?;
+            emit_unspill(alloc, code, site, word, THIRD_VALUE)?;
             emit_selection(code, FIRST_VALUE, THIRD_VALUE, FIRST_VALUE, SECOND_VALUE)?;
             Ok(())
         }
         Expr::Load(source, x, y) => {
-            let place = place_of(places, *source);
-            let column = emit_deep(alloc, code, places, scope, x.get(), word, known)?;
-            let point = emit_row(alloc, code, places, scope, y.get(), word, column)?;
-            emit_pixel(
-                alloc,
-                code,
-                scope,
-                &place,
-                &point.column,
-                &point.row,
-                FIRST_VALUE,
-            )?;
+            let column = emit_deep(alloc, code, site, x.get(), word, known)?;
+            let point = emit_row(alloc, code, site, y.get(), word, column)?;
+            emit_pixel(alloc, code, site, *source, &point, FIRST_VALUE)?;
             Ok(())
         }
     }
@@ -148,23 +121,23 @@ fn emit_spilling(
 fn emit_beside(
     alloc: Global,
     code: &mut Vec<u32>,
-    places: &Places,
-    scope: &[Held],
+    site: &Site<'_>,
     e: &Expr,
     word: u32,
     first: u8,
 ) -> Result<Both, CodeFault>
-    requires fits { FitsSecond places.now.frames e.now word }
-    requires first { IsFirst scope.now first }
-    ensures ok { IfOk result (λ both. MakesBoth code.old.items code.new.items places.now scope.now word
+    requires fits { FitsSecond site.now.places.now.frames e.now word }
+    requires first { IsFirst site.now.scope.now first }
+    ensures ok { IfOk result (λ both. MakesBoth code.old.items code.new.items site.now.places.now site.now.scope.now
+        word
         first both e.now) }
-    ensures err { IfErr result (IsFault ⊥ (are_held scope.now e.now ≡ true → ⊥)) }
+    ensures err { IfErr result (IsFault ⊥ (are_held site.now.scope.now e.now ≡ true → ⊥)) }
 {
     if is_leaf(e) {
-        let second = emit_operand(alloc, code, places, scope, e, SECOND_VALUE, ADDRESS)?;
+        let second = emit_operand(alloc, code, site, e, SECOND_VALUE, ADDRESS)?;
         return Ok(Both { first, second });
     }
-    emit_pair(alloc, code, places, scope, e, word, first)?;
+    emit_pair(alloc, code, site, e, word, first)?;
     Ok(Both {
         first: FIRST_VALUE,
         second: SECOND_VALUE,
@@ -177,17 +150,17 @@ fn emit_beside(
 fn emit_row(
     alloc: Global,
     code: &mut Vec<u32>,
-    places: &Places,
-    scope: &[Held],
+    site: &Site<'_>,
     e: &Expr,
     word: u32,
     first: u8,
 ) -> Result<PointIndexes, CodeFault>
-    requires fits { FitsSecond places.now.frames e.now word }
-    requires first { IsFirst scope.now first }
-    ensures ok { IfOk result (λ point. MakesRow code.old.items code.new.items places.now scope.now word
+    requires fits { FitsSecond site.now.places.now.frames e.now word }
+    requires first { IsFirst site.now.scope.now first }
+    ensures ok { IfOk result (λ point. MakesRow code.old.items code.new.items site.now.places.now site.now.scope.now
+        word
         first point e.now) }
-    ensures err { IfErr result (IsFault ⊥ (are_held scope.now e.now ≡ true → ⊥)) }
+    ensures err { IfErr result (IsFault ⊥ (are_held site.now.scope.now e.now ≡ true → ⊥)) }
 {
     match sum_of(alloc, e)? {
         Some(own) => Ok(PointIndexes {
@@ -195,7 +168,7 @@ fn emit_row(
             row: Index::Sum(own),
         }),
         None => {
-            emit_pair(alloc, code, places, scope, e, word, first)?;
+            emit_pair(alloc, code, site, e, word, first)?;
             Ok(PointIndexes {
                 column: Index::Register(FIRST_VALUE),
                 row: Index::Register(SECOND_VALUE),
@@ -210,20 +183,20 @@ fn emit_row(
 fn emit_pair(
     alloc: Global,
     code: &mut Vec<u32>,
-    places: &Places,
-    scope: &[Held],
+    site: &Site<'_>,
     e: &Expr,
     word: u32,
     first: u8,
 ) -> Result<(), CodeFault>
-    requires fits { FitsPair places.now.frames e.now word }
-    requires first { IsFirst scope.now first }
-    ensures ok { OnOk result (Pairs code.old.items code.new.items places.now scope.now word first e.now) }
-    ensures err { IfErr result (IsFault ⊥ (are_held scope.now e.now ≡ true → ⊥)) }
+    requires fits { FitsPair site.now.places.now.frames e.now word }
+    requires first { IsFirst site.now.scope.now first }
+    ensures ok { OnOk result (Pairs code.old.items code.new.items site.now.places.now site.now.scope.now word first
+        e.now) }
+    ensures err { IfErr result (IsFault ⊥ (are_held site.now.scope.now e.now ≡ true → ⊥)) }
 {
-    emit_spill(alloc, code, places, scope, first, word)?;
-    let second = emit_deep(alloc, code, places, scope, e, word + 1, 0)?;
+    emit_spill(alloc, code, site, first, word)?;
+    let second = emit_deep(alloc, code, site, e, word + 1, 0)?;
     alu_small(code, AluImmOp::Addi, SECOND_VALUE, second, 0)?;
-    emit_unspill(alloc, code, places, scope, word, FIRST_VALUE)?;
+    emit_unspill(alloc, code, site, word, FIRST_VALUE)?;
     Ok(())
 }

@@ -13,7 +13,9 @@ use crate::depths::STACK;
 use crate::expressions::{emit_index, sum_of};
 use crate::needs::{is_leaf, need};
 use crate::operands::emit_reached_address;
+use crate::points::PointIndexes;
 use crate::scatters::reach_point;
+use crate::sites::{BufferSite, Site};
 use crate::spilling::{SECOND_VALUE, THIRD_VALUE, emit_deep};
 use crate::updates::{emit_update, is_own_pixel};
 use halide_pipeline::Source;
@@ -68,7 +70,8 @@ pub fn emit_value(
     if need(e) > room_limit(places.frames) {
         return Err(CodeFault::TooDeep);
     }
-    let s = emit_deep(alloc, code, places, scope, e, 0, 0)?;
+    let site = Site { places, scope };
+    let s = emit_deep(alloc, code, &site, e, 0, 0)?;
     Ok(s)
 }
 
@@ -87,19 +90,19 @@ fn needed_sum(alloc: Global, e: &Expr) -> Result<Linear, CodeFault>
 fn emit_direct(
     alloc: Global,
     code: &mut Vec<u32>,
-    places: &Places,
-    scope: &[Held],
+    site: &Site<'_>,
     store: &Store,
 ) -> Result<(), CodeFault>
-    ensures ok { OnOk result (MakesStore code.old.items code.new.items places.now scope.now store.now) }
-    ensures err { IfErr result (IsFault ⊥ (FitsDirect places.now scope.now store.now → ⊥)) }
+    ensures ok { OnOk result (MakesStore code.old.items code.new.items site.now.places.now site.now.scope.now
+        store.now) }
+    ensures err { IfErr result (IsFault ⊥ (FitsDirect site.now.places.now site.now.scope.now store.now → ⊥)) }
 {
     let column = needed_sum(alloc, &store.x)?;
     let row = needed_sum(alloc, &store.y)?;
-    let place = place_of(places, Source::Func(store.func));
-    let s = emit_value(alloc, code, places, scope, &store.value)?;
+    let place = place_of(site.places, Source::Func(store.func));
+    let s = emit_value(alloc, code, site.places, site.scope, &store.value)?;
     let form = point_form(alloc, &place, &column, &row)?;
-    let at = emit_reached_address(alloc, code, scope, &form, ADDRESS)?;
+    let at = emit_reached_address(alloc, code, site.scope, &form, ADDRESS)?;
     emit_save(code, at.register, s, at.offset)?;
     Ok(())
 }
@@ -108,20 +111,25 @@ fn emit_direct(
 fn emit_scattered(
     alloc: Global,
     code: &mut Vec<u32>,
-    places: &Places,
-    scope: &[Held],
+    site: &Site<'_>,
     store: &Store,
 ) -> Result<(), CodeFault>
     requires column { FitsStack store.now.x 21 }
     requires row { FitsStack store.now.y 22 }
-    ensures ok { OnOk result (MakesStore code.old.items code.new.items places.now scope.now store.now) }
-    ensures err { IfErr result (IsFault ⊥ (FitsStore places.now scope.now store.now → ⊥)) }
+    ensures ok { OnOk result (MakesStore code.old.items code.new.items site.now.places.now site.now.scope.now
+        store.now) }
+    ensures err { IfErr result (IsFault ⊥ (FitsStore site.now.places.now site.now.scope.now store.now → ⊥)) }
 {
-    let place = place_of(places, Source::Func(store.func));
-    let s = emit_value(alloc, code, places, scope, &store.value)?;
-    let column = emit_index(alloc, code, places, scope, &store.x, SECOND_VALUE)?;
-    let row = emit_index(alloc, code, places, scope, &store.y, THIRD_VALUE)?;
-    let offset = reach_point(alloc, code, scope, &place, &column, &row, SECOND_VALUE)?;
+    let place = place_of(site.places, Source::Func(store.func));
+    let s = emit_value(alloc, code, site.places, site.scope, &store.value)?;
+    let column = emit_index(alloc, code, site, &store.x, SECOND_VALUE)?;
+    let row = emit_index(alloc, code, site, &store.y, THIRD_VALUE)?;
+    let point = PointIndexes { column, row };
+    let buffer = BufferSite {
+        place: &place,
+        scope: site.scope,
+    };
+    let offset = reach_point(alloc, code, &buffer, &point, SECOND_VALUE)?;
     emit_save(code, SECOND_VALUE, s, offset)?;
     Ok(())
 }
@@ -131,27 +139,27 @@ fn emit_scattered(
 fn emit_computed(
     alloc: Global,
     code: &mut Vec<u32>,
-    places: &Places,
-    scope: &[Held],
+    site: &Site<'_>,
     store: &Store,
 ) -> Result<(), CodeFault>
     requires column { FitsStack store.now.x 21 }
     requires row { FitsStack store.now.y 22 }
-    ensures ok { OnOk result (MakesStore code.old.items code.new.items places.now scope.now store.now) }
-    ensures err { IfErr result (IsFault ⊥ (FitsStore places.now scope.now store.now → ⊥)) }
+    ensures ok { OnOk result (MakesStore code.old.items code.new.items site.now.places.now site.now.scope.now
+        store.now) }
+    ensures err { IfErr result (IsFault ⊥ (FitsStore site.now.places.now site.now.scope.now store.now → ⊥)) }
 {
     match &store.value {
         Expr::Binary(operation, a, b) => {
             let other = b.get();
             if is_own_pixel(a.get(), store) && need(other) <= ROW_STACK {
-                emit_update(alloc, code, places, scope, store, *operation, other)?;
+                emit_update(alloc, code, site, store, *operation, other)?;
                 return Ok(());
             }
-            emit_scattered(alloc, code, places, scope, store)?;
+            emit_scattered(alloc, code, site, store)?;
             Ok(())
         }
         _ => {
-            emit_scattered(alloc, code, places, scope, store)?;
+            emit_scattered(alloc, code, site, store)?;
             Ok(())
         }
     }
@@ -173,13 +181,14 @@ pub fn emit_store(
     ensures ok { OnOk result (MakesStore code.old.items code.new.items places.now scope.now store.now) }
     ensures err { IfErr result (IsFault ⊥ (FitsStore places.now scope.now store.now → ⊥)) }
 {
+    let site = Site { places, scope };
     if is_leaf(&store.x) && is_leaf(&store.y) {
-        emit_direct(alloc, code, places, scope, store)?;
+        emit_direct(alloc, code, &site, store)?;
         return Ok(());
     }
     if need(&store.x) > COLUMN_STACK || need(&store.y) > ROW_STACK {
         return Err(CodeFault::TooDeep);
     }
-    emit_computed(alloc, code, places, scope, store)?;
+    emit_computed(alloc, code, &site, store)?;
     Ok(())
 }

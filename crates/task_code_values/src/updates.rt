@@ -13,17 +13,17 @@ use crate::accesses::{emit_fetch, emit_save};
 use crate::expressions::{emit_index, emit_operand};
 use crate::immediates::{emit_immediate, immediate_of};
 use crate::operations::emit_operation;
+use crate::points::PointIndexes;
 use crate::scatters::reach_point;
+use crate::sites::{BufferSite, Site};
 use crate::spilling::{SECOND_VALUE, THIRD_VALUE};
 use halide_pipeline::{Operation, Source};
 use loop_ir::expressions::{Expr, Linear, Term, same_counter};
 use loop_ir::statements::Store;
 use std::alloc::Global;
 use task_code_registers::registers::{ADDRESS, FIRST_VALUE};
-use task_code_registers::scopes::Held;
 use task_code_scalar::CodeFault;
 use task_code_scalar::expressions::place_of;
-use task_code_scalar::places::Places;
 
 // ---- expressions that are the same
 
@@ -119,20 +119,20 @@ pub fn is_own_pixel(e: &Expr, store: &Store) -> bool
 fn emit_change(
     alloc: Global,
     code: &mut Vec<u32>,
-    places: &Places,
-    scope: &[Held],
+    site: &Site<'_>,
     operation: Operation,
     other: &Expr,
 ) -> Result<(), CodeFault>
     requires { FitsOperand other.now 22 }
-    ensures ok { OnOk result (Changes code.old.items code.new.items places.now scope.now operation other.now) }
-    ensures err { IfErr result (IsFault ⊥ (are_held scope.now other.now ≡ true → ⊥)) }
+    ensures ok { OnOk result (Changes code.old.items code.new.items site.now.places.now site.now.scope.now operation
+        other.now) }
+    ensures err { IfErr result (IsFault ⊥ (are_held site.now.scope.now other.now ≡ true → ⊥)) }
 {
     if let Some(own) = immediate_of(operation, other) {
         emit_immediate(code, own, SECOND_VALUE, SECOND_VALUE)?;
         return Ok(());
     }
-    let second = emit_operand(alloc, code, places, scope, other, THIRD_VALUE, ADDRESS)?;
+    let second = emit_operand(alloc, code, site, other, THIRD_VALUE, ADDRESS)?;
     emit_operation(code, operation, SECOND_VALUE, SECOND_VALUE, second)?;
     Ok(())
 }
@@ -145,8 +145,7 @@ fn emit_change(
 pub fn emit_update(
     alloc: Global,
     code: &mut Vec<u32>,
-    places: &Places,
-    scope: &[Held],
+    site: &Site<'_>,
     store: &Store,
     operation: Operation,
     other: &Expr,
@@ -156,15 +155,21 @@ pub fn emit_update(
     requires column { FitsStack store.now.x 20 }
     requires row { FitsStack store.now.y 21 }
     requires other { FitsStack other.now 22 }
-    ensures ok { OnOk result (MakesStore code.old.items code.new.items places.now scope.now store.now) }
-    ensures err { IfErr result (IsFault ⊥ (FitsStore places.now scope.now store.now → ⊥)) }
+    ensures ok { OnOk result (MakesStore code.old.items code.new.items site.now.places.now site.now.scope.now
+        store.now) }
+    ensures err { IfErr result (IsFault ⊥ (FitsStore site.now.places.now site.now.scope.now store.now → ⊥)) }
 {
-    let place = place_of(places, Source::Func(store.func));
-    let column = emit_index(alloc, code, places, scope, &store.x, FIRST_VALUE)?;
-    let row = emit_index(alloc, code, places, scope, &store.y, SECOND_VALUE)?;
-    let offset = reach_point(alloc, code, scope, &place, &column, &row, FIRST_VALUE)?;
+    let place = place_of(site.places, Source::Func(store.func));
+    let column = emit_index(alloc, code, site, &store.x, FIRST_VALUE)?;
+    let row = emit_index(alloc, code, site, &store.y, SECOND_VALUE)?;
+    let point = PointIndexes { column, row };
+    let buffer = BufferSite {
+        place: &place,
+        scope: site.scope,
+    };
+    let offset = reach_point(alloc, code, &buffer, &point, FIRST_VALUE)?;
     emit_fetch(code, place.pixels, SECOND_VALUE, FIRST_VALUE, offset)?;
-    emit_change(alloc, code, places, scope, operation, other)?;
+    emit_change(alloc, code, site, operation, other)?;
     emit_save(code, FIRST_VALUE, SECOND_VALUE, offset)?;
     Ok(())
 }

@@ -47,8 +47,8 @@ use Rattle.task_code_scalar.proofs.Placing.{by-set}
 use Rattle.task_code_lanes.specs.declared.groups.Group.{Group}
 use Rattle.task_code_lanes.specs.declared.goings.Going.{Going}
 use Rattle.task_code_lanes.specs.declared.groups.Group.TheVariants as groups
-use Rattle.task_code_lanes.specs.declared.values.Pace.{Pace}
-use Rattle.task_code_lanes.specs.declared.values.Pace.TheVariants as paces
+use Rattle.task_code_lanes.specs.declared.paces.Pace.{Pace}
+use Rattle.task_code_lanes.specs.declared.paces.Pace.TheVariants as paces
 use Rattle.task_code_lanes.specs.Groups.{registers, slot, vtype_of}
 use Rattle.task_code_lanes.specs.DeepLanes.{deep_laned}
 use Rattle.task_code_lanes.specs.Lanes.{is_stepping, is_steady, pace_of}

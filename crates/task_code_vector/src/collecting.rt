@@ -9,6 +9,7 @@ ghost use Rattle.task_code_vector.specs.Collected as spec;
 ghost use Rattle.task_code_vector.specs.Faults.{EmitsRound, EmitsCollected, IsRoundFault, IsCollectedFault};
 
 use crate::marks::{configure_none, mark_lane, put_marked};
+use crate::vector_loops::VectorLoop;
 use halide_pipeline::Source;
 use loop_ir::expressions::Counter;
 use loop_ir::statements::{Stmt, Store};
@@ -57,11 +58,19 @@ fn emit_pixel(
     Ok(())
 }
 
-/// Appends what puts a pixel and its address into the lane with the round's number, which a register holds.
-fn emit_collecting(code: &mut Vec<u32>, group: Group, r: u8) -> Result<(), AllocError>
-    requires { r < 32 }
-    ensures { OnOk result (Emits code.old.items code.new.items (spec.collecting group r)) }
+/// The lane of these groups whose number, the round's, a register holds.
+#[derive(Clone, Copy)]
+struct Lane {
+    group: Group,
+    r: u8,
+}
+
+/// Appends what puts a pixel and its address into the round's lane.
+fn emit_collecting(code: &mut Vec<u32>, lane: Lane) -> Result<(), AllocError>
+    requires { lane.r < 32 }
+    ensures { OnOk result (Emits code.old.items code.new.items (spec.collecting lane.group lane.r)) }
 {
+    let Lane { group, r } = lane;
     alu_small(code, AluImmOp::Addi, 14, r, 1)?;
     configure(code, group, 14)?;
     let numbers = group.slot(2);
@@ -76,20 +85,20 @@ fn emit_collecting(code: &mut Vec<u32>, group: Group, r: u8) -> Result<(), Alloc
 fn emit_round(
     alloc: Global,
     code: &mut Vec<u32>,
-    group: Group,
+    lane: Lane,
     places: &Places,
-    r: u8,
     scope: &[Counter],
     stmt: &Stmt,
 ) -> Result<(), CodeFault>
-    requires { (spec.is_one_store stmt.now ≡ true) × (r < 32) }
-    ensures ok { OnOk result (EmitsRound code.old.items code.new.items group places.now r stmt.now scope.now) }
-    ensures err { IfErr result (IsRoundFault group places.now r stmt.now scope.now) }
+    requires { (spec.is_one_store stmt.now ≡ true) × (lane.r < 32) }
+    ensures ok { OnOk result (EmitsRound code.old.items code.new.items lane.group places.now lane.r stmt.now
+        scope.now) }
+    ensures err { IfErr result (IsRoundFault lane.group places.now lane.r stmt.now scope.now) }
 {
     match stmt {
         Stmt::Store(store) => {
             emit_pixel(code, places, scope, store)?;
-            emit_collecting(code, group, r)?;
+            emit_collecting(code, lane)?;
             Ok(())
         }
         Stmt::Sequence(_, _) => Err(CodeFault::TooDeep),
@@ -101,9 +110,8 @@ fn emit_round(
             emit_round(
                 alloc,
                 &mut inner,
-                group,
+                lane,
                 places,
-                r,
                 within.as_slice(),
                 body.get(),
             )?;
@@ -127,19 +135,24 @@ pub fn emit_collected(
     group: Group,
     places: &Places,
     scope: &[Counter],
-    counter: Counter,
-    count: u32,
-    body: &Stmt,
+    own: &VectorLoop<'_>,
 ) -> Result<(), CodeFault>
-    requires { (spec.is_one_store body.now ≡ true) × (count ≡ 4 * registers group) }
-    ensures ok { OnOk result (EmitsCollected code.old.items code.new.items group places.now scope.now counter count
-        body.now) }
-    ensures err { IfErr result (IsCollectedFault group places.now scope.now counter count body.now) }
+    requires { (spec.is_one_store own.now.body.now ≡ true) × (own.now.count ≡ 4 * registers group) }
+    ensures ok { OnOk result (EmitsCollected code.old.items code.new.items group places.now scope.now
+        own.now.counter own.now.count own.now.body.now) }
+    ensures err { IfErr result (IsCollectedFault group places.now scope.now own.now.counter own.now.count
+        own.now.body.now) }
 {
+    let VectorLoop {
+        counter,
+        count,
+        body,
+    } = *own;
     let r = next_seat(scope)?;
     let within = with_counter(alloc, scope, counter)?;
     let mut inner = Vec::new(alloc);
-    emit_round(alloc, &mut inner, group, places, r, within.as_slice(), body)?;
+    let lane = Lane { group, r };
+    emit_round(alloc, &mut inner, lane, places, within.as_slice(), body)?;
     configure_none(code, group)?;
     emit_turns(code, false, r, count, inner.as_slice())?;
     store_at(code, group.slot(0), 0, group.slot(1))?;

@@ -4,23 +4,23 @@ ghost use Rattle.std.specs.Prelude.{◌≡◌, ◌<◌, ◌*◌, ◌^◌, ◌==�
 ghost use Rattle.task_code_scalar.specs.declared.places.Places.{Places as AllPlaces};
 ghost use Rattle.task_code_scalar.specs.Faults.{IsFault};
 ghost use Rattle.task_code_scalar.specs.Words.{Emits};
-ghost use Rattle.task_code_lanes.specs.Goings.{is_rate as is_rate_of, is_slow as is_slow_cut};
 ghost use Rattle.task_code_vector.specs.Emitting.{EmitsRounds, FitsRounds};
 ghost use Rattle.task_code_vector.specs.Rounds as spec;
 
+use crate::splits::going_taken;
 use crate::tight::{emit_tight, is_tight};
+use crate::vector_loops::VectorLoop;
 use halide_pipeline::Source;
-use loop_ir::expressions::{Counter, same_counter};
-use loop_ir::statements::{Stmt, Store, Whole};
+use loop_ir::expressions::Counter;
+use loop_ir::statements::{Stmt, Store};
 use rv_insn::{AluOp, ShiftOp};
 use std::alloc::{AllocError, Global};
 use task_code_lanes::frames::{emit_deep_lanes, emit_others, emit_second};
-use task_code_lanes::goings::{
-    Cut, Going, all_spare, emit_brief, emit_brief_sum, emit_room, going_of, is_rate, is_small,
-    places_of,
-};
+use task_code_lanes::goings::{Cut, Going, emit_brief, emit_brief_sum, emit_room, places_of};
 use task_code_lanes::groups::Group;
-use task_code_lanes::values::{emit_offsets, emit_row_offsets, is_steady, is_stepping, pace_of};
+use task_code_lanes::paces::{is_steady, is_stepping, pace_of};
+use task_code_lanes::pixels::{emit_offsets, emit_row_offsets};
+use task_code_lanes::sites::RoundSite;
 use task_code_lanes::vectors::{configure, store_at, store_row};
 use task_code_scalar::CodeFault;
 use task_code_scalar::expressions::{emit_number, emit_value, place_of};
@@ -41,27 +41,23 @@ fn is_row(scope: &[Counter], goings: &[Going], store: &Store) -> bool
 }
 
 /// Appends what stores a row of pixels, as many as rounds are left.
-fn emit_row(
-    code: &mut Vec<u32>,
-    group: Group,
-    places: &Places,
-    scope: &[Counter],
-    goings: &[Going],
-    store: &Store,
-) -> Result<(), CodeFault>
-    ensures ok { OnOk result (Emits code.old.items code.new.items (spec.row_code group places.now scope.now goings.now
-        store.now) × (spec.row_fits group places.now scope.now goings.now store.now ≡ true)) }
-    ensures err { IfErr result (IsFault ⊥ (spec.is_row places.now scope.now goings.now store.now ≡ true
-        → spec.row_fits group places.now scope.now goings.now store.now ≡ true → ⊥)) }
+fn emit_row(code: &mut Vec<u32>, site: &RoundSite<'_>, store: &Store) -> Result<(), CodeFault>
+    ensures ok { OnOk result (Emits code.old.items code.new.items
+        (spec.row_code site.now.group site.now.places.now site.now.scope.now site.now.goings.now store.now)
+        × (spec.row_fits site.now.group site.now.places.now site.now.scope.now site.now.goings.now store.now ≡ true)) }
+    ensures err { IfErr result (IsFault ⊥
+        (spec.is_row site.now.places.now site.now.scope.now site.now.goings.now store.now ≡ true
+        → spec.row_fits site.now.group site.now.places.now site.now.scope.now site.now.goings.now store.now ≡ true
+        → ⊥)) }
 {
-    configure(code, group, 15)?;
-    emit_value(code, places, scope, &store.x, 20)?;
+    configure(code, site.group, 15)?;
+    emit_value(code, site.places, site.scope, &store.x, 20)?;
     emit_move(code, 15, 20)?;
-    emit_value(code, places, scope, &store.y, 20)?;
-    let place = place_of(places, Source::Func(store.func));
+    emit_value(code, site.places, site.scope, &store.y, 20)?;
+    let place = place_of(site.places, Source::Func(store.func));
     emit_addressed(code, &place, 15, 20)?;
-    emit_deep_lanes(code, group, places, scope, goings, &store.value, 0)?;
-    store_row(code, group.slot(0), 15)?;
+    emit_deep_lanes(code, site, &store.value, 0)?;
+    store_row(code, site.group.slot(0), 15)?;
     Ok(())
 }
 
@@ -73,246 +69,63 @@ fn has_one_row(scope: &[Counter], goings: &[Going], store: &Store) -> bool
 }
 
 /// Appends what stores pixels that lie anywhere in one row, as many as rounds are left.
-fn emit_one_row(
-    code: &mut Vec<u32>,
-    group: Group,
-    places: &Places,
-    scope: &[Counter],
-    goings: &[Going],
-    store: &Store,
-) -> Result<(), CodeFault>
-    ensures ok { OnOk result (Emits code.old.items code.new.items (spec.one_row_code group places.now scope.now
-        goings.now store.now) × (spec.one_row_fits group places.now scope.now goings.now store.now ≡ true)) }
-    ensures err { IfErr result (IsFault ⊥ (spec.has_one_row places.now scope.now goings.now store.now ≡ true
-        → spec.one_row_fits group places.now scope.now goings.now store.now ≡ true → ⊥)) }
+fn emit_one_row(code: &mut Vec<u32>, site: &RoundSite<'_>, store: &Store) -> Result<(), CodeFault>
+    ensures ok { OnOk result (Emits code.old.items code.new.items
+        (spec.one_row_code site.now.group site.now.places.now site.now.scope.now site.now.goings.now store.now)
+        × (spec.one_row_fits site.now.group site.now.places.now site.now.scope.now site.now.goings.now store.now ≡
+        true)) }
+    ensures err { IfErr result (IsFault ⊥
+        (spec.has_one_row site.now.places.now site.now.scope.now site.now.goings.now store.now ≡ true
+        → spec.one_row_fits site.now.group site.now.places.now site.now.scope.now site.now.goings.now store.now ≡ true →
+        ⊥)) }
 {
-    configure(code, group, 15)?;
-    emit_deep_lanes(code, group, places, scope, goings, &store.value, 0)?;
-    emit_second(code, group, places, scope, goings, &store.x, 0)?;
-    emit_value(code, places, scope, &store.y, 20)?;
-    let place = place_of(places, Source::Func(store.func));
-    emit_row_offsets(code, &place, group.slot(1))?;
-    store_at(code, group.slot(0), 13, group.slot(1))?;
+    configure(code, site.group, 15)?;
+    emit_deep_lanes(code, site, &store.value, 0)?;
+    emit_second(code, site, &store.x, 0)?;
+    emit_value(code, site.places, site.scope, &store.y, 20)?;
+    let place = place_of(site.places, Source::Func(store.func));
+    emit_row_offsets(code, &place, site.group.slot(1))?;
+    store_at(code, site.group.slot(0), 13, site.group.slot(1))?;
     Ok(())
 }
 
 /// Appends what stores pixels that lie anywhere, as many as rounds are left.
-fn emit_scattered(
-    code: &mut Vec<u32>,
-    group: Group,
-    places: &Places,
-    scope: &[Counter],
-    goings: &[Going],
-    store: &Store,
-) -> Result<(), CodeFault>
-    ensures ok { OnOk result (Emits code.old.items code.new.items (spec.scattered_code group places.now scope.now
-        goings.now store.now) × (spec.scattered_fits group places.now scope.now goings.now store.now ≡ true)) }
-    ensures err { IfErr result (IsFault ⊥ (spec.scattered_fits group places.now scope.now goings.now store.now ≡ true
+fn emit_scattered(code: &mut Vec<u32>, site: &RoundSite<'_>, store: &Store) -> Result<(), CodeFault>
+    ensures ok { OnOk result (Emits code.old.items code.new.items
+        (spec.scattered_code site.now.group site.now.places.now site.now.scope.now site.now.goings.now store.now)
+        × (spec.scattered_fits site.now.group site.now.places.now site.now.scope.now site.now.goings.now store.now ≡
+        true)) }
+    ensures err { IfErr result (IsFault ⊥
+        (spec.scattered_fits site.now.group site.now.places.now site.now.scope.now site.now.goings.now store.now ≡ true
         → ⊥)) }
 {
-    configure(code, group, 15)?;
-    emit_deep_lanes(code, group, places, scope, goings, &store.value, 0)?;
-    emit_others(code, group, places, scope, goings, &store.x, &store.y, 0)?;
-    let place = place_of(places, Source::Func(store.func));
-    emit_offsets(code, &place, group.slot(1), group.slot(2))?;
-    store_at(code, group.slot(0), 13, group.slot(1))?;
+    configure(code, site.group, 15)?;
+    emit_deep_lanes(code, site, &store.value, 0)?;
+    emit_others(code, site, &store.x, &store.y, 0)?;
+    let place = place_of(site.places, Source::Func(store.func));
+    emit_offsets(code, &place, site.group.slot(1), site.group.slot(2))?;
+    store_at(code, site.group.slot(0), 13, site.group.slot(1))?;
     Ok(())
 }
 
 /// Appends what stores a pixel for each round, as many as are left.
-fn emit_pixels(
-    code: &mut Vec<u32>,
-    group: Group,
-    places: &Places,
-    scope: &[Counter],
-    goings: &[Going],
-    store: &Store,
-) -> Result<(), CodeFault>
-    ensures ok { OnOk result (Emits code.old.items code.new.items (spec.pixels_code group places.now scope.now
-        goings.now store.now) × (spec.store_fits group places.now scope.now goings.now store.now ≡ true)) }
-    ensures err { IfErr result (IsFault ⊥ (spec.store_fits group places.now scope.now goings.now store.now ≡ true
-        → ⊥)) }
+fn emit_pixels(code: &mut Vec<u32>, site: &RoundSite<'_>, store: &Store) -> Result<(), CodeFault>
+    ensures ok { OnOk result (Emits code.old.items code.new.items (spec.pixels_code site.now.group site.now.places.now
+        site.now.scope.now site.now.goings.now store.now) × (spec.store_fits site.now.group site.now.places.now
+        site.now.scope.now site.now.goings.now store.now ≡ true)) }
+    ensures err { IfErr result (IsFault ⊥ (spec.store_fits site.now.group site.now.places.now site.now.scope.now
+        site.now.goings.now store.now ≡ true → ⊥)) }
 {
-    if is_row(scope, goings, store) {
-        emit_row(code, group, places, scope, goings, store)?;
-    } else if has_one_row(scope, goings, store) {
-        emit_one_row(code, group, places, scope, goings, store)?;
-    } else if is_tight(group, places, scope, goings, store) {
-        emit_tight(code, group, places, scope, goings, store)?;
+    if is_row(site.scope, site.goings, store) {
+        emit_row(code, site, store)?;
+    } else if has_one_row(site.scope, site.goings, store) {
+        emit_one_row(code, site, store)?;
+    } else if is_tight(site, store) {
+        emit_tight(code, site, store)?;
     } else {
-        emit_scattered(code, group, places, scope, goings, store)?;
+        emit_scattered(code, site, store)?;
     }
     Ok(())
-}
-
-/// Whether a shift cuts nothing off: an outer counter below this bound, times the factor, comes to its last value at
-/// most.
-fn cuts_nothing(last: u32, factor: u32, most: u32) -> bool
-    ensures { result ≡ spec.cuts_nothing last factor most }
-{
-    let greatest = u64::from(most.saturating_sub(1)) * u64::from(factor);
-    last < 1 << 31 && greatest <= u64::from(last)
-}
-
-/// Whether the outer loop's part of a split loop's value goes along as its counter does, which stays below a bound
-/// where it moves: it is cut off nowhere, or stays.
-fn outer_goes(last: Option<u32>, factor: u32, most: u32, stride: u32) -> bool
-    ensures { result ≡ spec.outer_goes last factor most stride }
-{
-    match last {
-        None => true,
-        Some(last) => stride == 0 || cuts_nothing(last, factor, most),
-    }
-}
-
-fn cut_of(whole: &Whole, own: Counter) -> Cut
-    ensures { result ≡ spec.cut_of whole.now own }
-{
-    Cut {
-        factor: whole.factor,
-        last: whole.last,
-        inner: whole.inner,
-        own,
-    }
-}
-
-fn if_so(so: bool, going: Going) -> Option<Going>
-    ensures { result ≡ spec.if_so so going }
-{
-    if so { Some(going) } else { None }
-}
-
-/// Whether the values below a bound of an outer counter, times the factor, don't turn over.
-fn may_cut(whole: &Whole, most: u32) -> bool
-    ensures { result ≡ spec.may_cut whole.now most }
-{
-    let product = u64::from(most) * u64::from(whole.factor);
-    product <= 1 << 32 && is_small(whole.last)
-}
-
-/// How a split loop's value goes along whose counters each round takes so much further.
-fn goes_evenly(
-    whole: &Whole,
-    own: Counter,
-    extent: u32,
-    outer: u32,
-    most: u32,
-    inner: u32,
-) -> Option<Going>
-    ensures { result ≡ spec.goes_evenly whole.now own extent outer most inner }
-{
-    if !outer_goes(whole.last, whole.factor, most, outer) {
-        let so = inner == 0 && is_rate(outer, whole.factor) && may_cut(whole, most);
-        return if_so(so, Going::Once(outer, extent, cut_of(whole, own)));
-    }
-    let stride = u64::from(outer) * u64::from(whole.factor) + u64::from(inner);
-    if stride < 1 << 31 {
-        Some(Going::Even(stride as u32, extent))
-    } else {
-        None
-    }
-}
-
-/// Whether a value may go further as the one that an outer counter stands at does, times a factor.
-fn is_slow(stride: u32, cut: Cut, factor: u32) -> bool
-    ensures { result ≡ (is_slow_cut stride cut && is_rate_of (stride * cut.factor * factor)) }
-{
-    let once = u64::from(stride) * u64::from(cut.factor);
-    once < 1 << 24 && is_small(cut.last) && is_rate(once as u32, factor)
-}
-
-/// The same of an outer counter that is cut off twice.
-fn are_slow(stride: u32, first: Cut, second: Cut, factor: u32) -> bool
-    ensures { result ≡ (is_slow_cut stride first && (is_slow_cut (stride * first.factor) second && is_rate_of
-        (stride * first.factor * second.factor * factor))) }
-{
-    let once = u64::from(stride) * u64::from(first.factor);
-    once < 1 << 24 && is_small(first.last) && is_slow(once as u32, second, factor)
-}
-
-/// How a split loop's value goes along whose outer counter is cut off.
-fn goes_twice(
-    whole: &Whole,
-    own: Counter,
-    extent: u32,
-    stride: u32,
-    most: u32,
-    cut: Cut,
-    inner: u32,
-) -> Option<Going>
-    ensures { result ≡ spec.goes_twice whole.now own extent stride most cut inner }
-{
-    let so = inner == 0 && is_slow(stride, cut, whole.factor) && may_cut(whole, most);
-    if_so(so, Going::Twice(stride, extent, cut, cut_of(whole, own)))
-}
-
-/// How one goes along whose outer counter is cut off twice.
-fn goes_thrice(
-    whole: &Whole,
-    own: Counter,
-    stride: u32,
-    most: u32,
-    first: Cut,
-    second: Cut,
-    inner: u32,
-) -> Option<Going>
-    ensures { result ≡ spec.goes_thrice whole.now own stride most first second inner }
-{
-    let so = inner == 0 && are_slow(stride, first, second, whole.factor) && may_cut(whole, most);
-    if_so(so, Going::Thrice(stride, first, second, cut_of(whole, own)))
-}
-
-/// How a split loop's value goes along, if that is known, from how its counters do.
-fn goes_by(whole: &Whole, own: Counter, extent: u32, outer: Going, inner: Going) -> Option<Going>
-    ensures { result ≡ spec.goes_by whole.now own extent outer inner }
-{
-    match outer {
-        Going::Even(stride, most) => match inner {
-            Going::Even(other, _) => goes_evenly(whole, own, extent, stride, most, other),
-            Going::Once(own, _, cut) => if_so(stride == 0, Going::Once(own, extent, cut)),
-            Going::Twice(own, _, first, second) => {
-                if_so(stride == 0, Going::Twice(own, extent, first, second))
-            }
-            Going::Thrice(_, _, _, _) => if_so(stride == 0, inner),
-        },
-        Going::Once(stride, most, cut) => match inner {
-            Going::Even(other, _) => goes_twice(whole, own, extent, stride, most, cut, other),
-            Going::Once(_, _, _) => None,
-            Going::Twice(_, _, _, _) => None,
-            Going::Thrice(_, _, _, _) => None,
-        },
-        Going::Twice(stride, most, first, second) => match inner {
-            Going::Even(other, _) => goes_thrice(whole, own, stride, most, first, second, other),
-            Going::Once(_, _, _) => None,
-            Going::Twice(_, _, _, _) => None,
-            Going::Thrice(_, _, _, _) => None,
-        },
-        Going::Thrice(_, _, _, _) => None,
-    }
-}
-
-/// How a split loop's value goes along behind the test on its extent, if that is known.
-fn going_taken(
-    scope: &[Counter],
-    goings: &[Going],
-    own: Counter,
-    whole: &Whole,
-    extent: u32,
-) -> Option<Going>
-    ensures { result ≡ spec.going_taken scope.now goings.now own whole.now extent }
-{
-    if !same_counter(whole.inner, own) && all_spare(own, goings) && extent < 1 << 31 {
-        let outer = going_of(scope, goings, whole.outer);
-        goes_by(
-            whole,
-            own,
-            extent,
-            outer,
-            going_of(scope, goings, whole.inner),
-        )
-    } else {
-        None
-    }
 }
 
 /// Appends how many rounds are left from a value on, below the extent in x13, where each goes so much further.
@@ -473,49 +286,43 @@ fn all_after(all: bool, going: Going) -> bool
 fn emit_rounded(
     alloc: Global,
     code: &mut Vec<u32>,
-    group: Group,
-    places: &Places,
-    scope: &[Counter],
-    goings: &[Going],
+    site: &RoundSite<'_>,
     all: bool,
     stmt: &Stmt,
 ) -> Result<(), CodeFault>
-    ensures ok { OnOk result (EmitsRounds code.old.items code.new.items (spec.rounded group places.now stmt.now) all
-        scope.now goings.now) }
-    ensures err { IfErr result (IsFault ⊥ (FitsRounds (spec.rounded group places.now stmt.now) all scope.now goings.now
-        → ⊥)) }
+    ensures ok { OnOk result (EmitsRounds code.old.items code.new.items (spec.rounded site.now.group site.now.places.now
+        stmt.now) all site.now.scope.now site.now.goings.now) }
+    ensures err { IfErr result (IsFault ⊥ (FitsRounds (spec.rounded site.now.group site.now.places.now stmt.now) all
+        site.now.scope.now site.now.goings.now → ⊥)) }
 {
     match stmt {
         Stmt::Store(store) => {
-            emit_pixels(code, group, places, scope, goings, store)?;
+            emit_pixels(code, site, store)?;
             Ok(())
         }
         Stmt::Sequence(_, _) => Err(CodeFault::TooDeep),
         Stmt::For(_, _, _, _) => Err(CodeFault::TooDeep),
         Stmt::Bind(counter, whole, extent, body) => {
-            let r = next_seat(scope)?;
-            let Some(going) = going_taken(scope, goings, *counter, whole, *extent) else {
+            let r = next_seat(site.scope)?;
+            let Some(going) = going_taken(site.scope, site.goings, *counter, whole, *extent) else {
                 return Err(CodeFault::TooDeep);
             };
-            let within = with_counter(alloc, scope, *counter)?;
-            let along = with_going(alloc, goings, going)?;
+            let within = with_counter(alloc, site.scope, *counter)?;
+            let along = with_going(alloc, site.goings, going)?;
             let mut inner = Vec::new(alloc);
             emit_left_over(&mut inner, within.as_slice(), all, going, r)?;
             let rest = all_after(all, going);
-            emit_rounded(
-                alloc,
-                &mut inner,
-                group,
-                places,
-                within.as_slice(),
-                along.as_slice(),
-                rest,
-                body.get(),
-            )?;
+            let inside = RoundSite {
+                group: site.group,
+                places: site.places,
+                scope: within.as_slice(),
+                goings: along.as_slice(),
+            };
+            emit_rounded(alloc, &mut inner, &inside, rest, body.get())?;
             if inner.len() >= 1 << 17 {
                 return Err(CodeFault::TooDeep);
             }
-            emit_bind(code, scope, whole, *extent, r, inner.as_slice())?;
+            emit_bind(code, site.scope, whole, *extent, r, inner.as_slice())?;
             Ok(())
         }
     }
@@ -535,15 +342,19 @@ pub fn emit_rounds(
     group: Group,
     places: &Places,
     scope: &[Counter],
-    counter: Counter,
-    count: u32,
-    body: &Stmt,
+    own: &VectorLoop<'_>,
 ) -> Result<(), CodeFault>
-    ensures ok { OnOk result (Emits code.old.items code.new.items (spec.rounds_code group places.now scope.now counter
-        count body.now) × (spec.rounds_fit group places.now scope.now counter count body.now ≡ true)) }
-    ensures err { IfErr result (IsFault ⊥ (spec.rounds_fit group places.now scope.now counter count body.now ≡ true
-        → ⊥)) }
+    ensures ok { OnOk result (Emits code.old.items code.new.items (spec.rounds_code group places.now scope.now
+        own.now.counter own.now.count own.now.body.now) × (spec.rounds_fit group places.now scope.now own.now.counter
+        own.now.count own.now.body.now ≡ true)) }
+    ensures err { IfErr result (IsFault ⊥ (spec.rounds_fit group places.now scope.now own.now.counter
+        own.now.count own.now.body.now ≡ true → ⊥)) }
 {
+    let VectorLoop {
+        counter,
+        count,
+        body,
+    } = *own;
     let r = next_seat(scope)?;
     if count != group.lanes() {
         return Err(CodeFault::TooDeep);
@@ -551,15 +362,12 @@ pub fn emit_rounds(
     let within = with_counter(alloc, scope, counter)?;
     emit_move(code, r, 0)?;
     emit_number(code, 15, count)?;
-    emit_rounded(
-        alloc,
-        code,
+    let site = RoundSite {
         group,
         places,
-        within.as_slice(),
-        &[Going::Even(1, 16)],
-        true,
-        body,
-    )?;
+        scope: within.as_slice(),
+        goings: &[Going::Even(1, 16)],
+    };
+    emit_rounded(alloc, code, &site, true, body)?;
     Ok(())
 }

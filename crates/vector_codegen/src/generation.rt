@@ -30,18 +30,29 @@ fn ticket_of(number: u32) -> u32
     DATA_START + 8 * number
 }
 
+/// What stands of a program while its phases are laid one behind the other.
+#[derive(Drop)]
+struct Begun {
+    words: Vec<u32>,
+    /// The place behind the last word of each phase, from 0.
+    ends: Vec<usize>,
+    /// Stages inside of phases, in the order of their code.
+    stages: Vec<CodeStage>,
+}
+
 /// Appends the words of the phase with this number, and the stages inside it.
 fn push_phase(
     alloc: Global,
-    code: &mut Vec<u32>,
+    begun: &mut Begun,
     places: &Places,
     number: u32,
     phase: &Phase,
     is_last: bool,
-    stages: &mut Vec<CodeStage>,
 ) -> Result<(), CodeFault>
     requires { number < 16384 }
-    ensures emits { OnOk result (EmitsPhase code.old.items code.new.items places.now number is_last phase.now) }
+    ensures emits { OnOk result (EmitsPhase begun.old.words.items begun.new.words.items places.now number is_last
+        phase.now) }
+    ensures ends { OnOk result (begun.new.ends.items ≡ begun.old.ends.items) }
     ensures few { OnOk result (spec.HasFewTasks phase.now) }
     ensures err { IfErr result (IsPhaseAtFault places.now phase.now) }
 {
@@ -52,10 +63,16 @@ fn push_phase(
     let mut words = Vec::new(alloc);
     let mut inside = Vec::new(alloc);
     emit(alloc, phase, places, ticket, &mut words, &mut inside)?;
-    emit_phase(code, is_last, ticket, phase.tasks, words.as_slice())?;
+    emit_phase(
+        &mut begun.words,
+        is_last,
+        ticket,
+        phase.tasks,
+        words.as_slice(),
+    )?;
     // The way back to the draw is one word.
-    let behind = code.len().saturating_sub(1);
-    add_last(stages, inside.as_slice(), words.len(), behind)?;
+    let behind = begun.words.len().saturating_sub(1);
+    add_last(&mut begun.stages, inside.as_slice(), words.len(), behind)?;
     Ok(())
 }
 
@@ -70,33 +87,23 @@ fn push_end(ends: &mut Vec<usize>, end: usize) -> Result<(), AllocError>
 /// Appends the words of phases, the first of which has this number, where the code of each ends, and the stages inside.
 fn push_phases(
     alloc: Global,
-    code: &mut Vec<u32>,
-    ends: &mut Vec<usize>,
+    begun: &mut Begun,
     places: &Places,
     number: u32,
     phases: &[Phase],
-    stages: &mut Vec<CodeStage>,
 ) -> Result<(), CodeFault>
     requires { number + length phases.now ≤ 16384 }
-    ensures emits { OnOk result (EmitsPhases code.old.items code.new.items ends.old.items ends.new.items places.now
-        number phases.now) }
+    ensures emits { OnOk result (EmitsPhases begun.old.words.items begun.new.words.items begun.old.ends.items
+        begun.new.ends.items places.now number phases.now) }
     ensures few { OnOk result (AllByRecursion spec.HasFewTasks phases.now) }
     ensures err { IfErr result (spec.ArePhasesAtFault places.now phases.now) }
 {
     let [phase, others @ ..] = phases else {
         return Ok(());
     };
-    push_phase(
-        alloc,
-        code,
-        places,
-        number,
-        phase,
-        others.is_empty(),
-        stages,
-    )?;
-    push_end(ends, code.len())?;
-    push_phases(alloc, code, ends, places, number + 1, others, stages)?;
+    push_phase(alloc, begun, places, number, phase, others.is_empty())?;
+    push_end(&mut begun.ends, begun.words.len())?;
+    push_phases(alloc, begun, places, number + 1, others)?;
     Ok(())
 }
 
@@ -138,25 +145,20 @@ pub fn generate(alloc: Global, phases: &[Phase], places: &Places) -> Result<Prog
     if phases.len() > MOST_PHASES {
         return Err(CodeFault::TooLong);
     }
-    let mut code = Vec::new(alloc);
-    let mut places_of_ends = Vec::new(alloc);
-    let mut stages = Vec::new(alloc);
-    push_phases(
-        alloc,
-        &mut code,
-        &mut places_of_ends,
-        places,
-        0,
-        phases,
-        &mut stages,
-    )?;
-    if code.len() > MOST_WORDS {
+    let mut begun = Begun {
+        words: Vec::new(alloc),
+        ends: Vec::new(alloc),
+        stages: Vec::new(alloc),
+    };
+    push_phases(alloc, &mut begun, places, 0, phases)?;
+    if begun.words.len() > MOST_WORDS {
         return Err(CodeFault::TooLong);
     }
     let mut ends = Vec::new(alloc);
-    push_ends(&mut ends, places_of_ends.as_slice())?;
+    push_ends(&mut ends, begun.ends.as_slice())?;
+    let Begun { words, stages, .. } = begun;
     Ok(Program {
-        words: code,
+        words,
         ends,
         stages,
     })

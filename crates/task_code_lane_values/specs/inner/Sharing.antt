@@ -21,6 +21,7 @@ use Rattle.task_code_registers.specs.Scopes.{Knows, AreHolders}
 use Rattle.task_code_lanes.specs.Groups.{registers, slot}
 use Rattle.task_code_lanes.specs.Leaving.{HasLanes}
 use Rattle.task_code_lane_values.specs.declared.sharing.Sharing.{Sharing}
+use Rattle.task_code_lane_values.specs.declared.vectorized.LaneSite.{LaneSite}
 use Rattle.task_code_lane_values.specs.declared.vectorized.Lanes.{Lanes}
 use Rattle.task_code_lane_values.specs.Leaving.{IsUnder, LeavesLanes}
 
@@ -39,10 +40,8 @@ abbrev pub IsPart : Expr → Expr → Type 0
 IsPart whole part = (reads : Reads) (values : Values) → StandAmong (loads reads values whole) (loads reads values part)
 
 -- both loads are parts of an expression, whose values are made of this
-pub record AreParts (places : Places) (scope : List Held) (lanes : Lanes) (e : Expr) (own : Sharing) : Type 0 where
-  pub places_are : own.places.now ≡ places
-  pub scope_is : own.scope.now ≡ scope
-  pub lanes_are : own.lanes ≡ lanes
+pub record AreParts (site : LaneSite) (e : Expr) (own : Sharing) : Type 0 where
+  pub site_is : own.site ≡ site
   pub first : IsPart e own.first.now
   pub second : IsPart e own.second.now
 
@@ -55,8 +54,8 @@ pub record HoldsValue (own : Lanes) (reads : Reads) (values : Values) (count : �
 
 -- both loads
 pub record HoldsKept (own : Sharing) (reads : Reads) (values : Values) (count : ℕ) (f : ℕ → ℕ) : Type 0 where
-  pub first : HoldsValue own.lanes reads values count f 0 own.first.now
-  pub second : HoldsValue own.lanes reads values count f 1 own.second.now
+  pub first : HoldsValue own.site.lanes reads values count f 0 own.first.now
+  pub second : HoldsValue own.site.lanes reads values count f 1 own.second.now
 
 -- an expression is one of the two
 abbrev pub IsKeptAt : Sharing → Expr → ℕ → Type 0
@@ -67,22 +66,22 @@ IsKeptAt own e s = ((s ≡ 0) × (e ≡ own.first.now)) ⊎ ((s ≡ 1) × (e ≡
 -- from what registers hold in the first iteration, wherever memory has what each iteration loads
 pub record Begins (own : Sharing) (world : World) (memory : List ℕ) (values : Values) (count : ℕ) (f : ℕ → ℕ) : Type 0 where
   pub size : length memory ≡ world.size
-  pub are_places : ArePlaces own.places.now
-  pub holders : AreHolders own.scope.now
-  pub knows : Knows world.hart own.scope.now (with own.lanes.counter 0 values) f
-  pub has : HasLanes own.lanes.group count f
+  pub are_places : ArePlaces own.site.places.now
+  pub holders : AreHolders own.site.scope.now
+  pub knows : Knows world.hart own.site.scope.now (with own.site.lanes.counter 0 values) f
+  pub has : HasLanes own.site.lanes.group count f
   pub some : 1 ≤ count
-  pub few : count ≤ 4 * registers own.lanes.group
+  pub few : count ≤ 4 * registers own.site.lanes.group
 
 abbrev pub MayLoad : Sharing → World → List ℕ → Reads → Values → ℕ → Expr → Type 0
 MayLoad own world memory reads values count e =
-    (i : ℕ) → i < count → AllByRecursion (Loads world own.places.now memory reads) (loads reads (with own.lanes.counter i values) e)
+    (i : ℕ) → i < count → AllByRecursion (Loads world own.site.places.now memory reads) (loads reads (with own.site.lanes.counter i values) e)
 
 -- straight code behind which something is so of registers; those below a group stay
 pub record Leads (own : Sharing) (world : World) (memory : List ℕ) (insns : List Insn) (f : ℕ → ℕ) (k : ℕ) (is_so : (ℕ → ℕ) → Type 0) : Type 0 where
   pub after : ℕ → ℕ
   pub line : Line world insns f memory after memory
-  pub keeps : (q : ℕ) → IsUnder own.lanes.group k q → after q ≡ f q
+  pub keeps : (q : ℕ) → IsUnder own.site.lanes.group k q → after q ≡ f q
   pub so : is_so after
 
 -- Appended code leaves both loads in the first two groups.
@@ -100,7 +99,7 @@ pub record MakesOperand (old new : List ℕ) (own : Sharing) (k s : ℕ) (e : Ex
   pub low : s ≤ k
   pub does : (world : World) (memory : List ℕ) (values : Values) (reads : Reads) (count : ℕ) (f : ℕ → ℕ) → Begins own world memory values count f
       → HoldsKept own reads values count f → MayLoad own world memory reads values count e
-      → Leads own world memory insns f k (λ g. HoldsValue own.lanes reads values count g s e)
+      → Leads own world memory insns f k (λ g. HoldsValue own.site.lanes reads values count g s e)
 
 -- It leaves them in the first group.
 pub record MakesShared (old new : List ℕ) (own : Sharing) (e : Expr) : Type 0 where
@@ -108,4 +107,4 @@ pub record MakesShared (old new : List ℕ) (own : Sharing) (e : Expr) : Type 0 
   pub emits : Emits old new insns
   pub does : (world : World) (memory : List ℕ) (values : Values) (reads : Reads) (count : ℕ) (f : ℕ → ℕ) → Begins own world memory values count f
       → HoldsKept own reads values count f → MayLoad own world memory reads values count e
-      → LeavesLanes world memory insns f own.lanes.group 0 count (λ i. value reads (with own.lanes.counter i values) e)
+      → LeavesLanes world memory insns f own.site.lanes.group 0 count (λ i. value reads (with own.site.lanes.counter i values) e)

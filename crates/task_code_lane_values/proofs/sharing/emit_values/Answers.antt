@@ -6,6 +6,6 @@ use Rattle.task_code_lane_values.proofs.sharing.emit_values.Goals as goal
 
 pub returns-in_ok-emit_shared-in-Some : goal.returns-in_ok-emit_shared-in-Some
 returns-in_ok-emit_shared-in-Some c =
-    shared-lanes c.args.places.now c.args.scope.now c.args.own c.args.e.now c.in-Some.sharing _ _ _
-    (subst (λ o. IfSome o (AreParts c.args.places.now c.args.scope.now c.args.own c.args.e.now)) c.in-Some.is c.shared.ensures)
+    shared-lanes c.args.site.now c.args.e.now c.in-Some.sharing _ _ _
+    (subst (λ o. IfSome o (AreParts c.args.site.now c.args.e.now)) c.in-Some.is c.shared.ensures)
     c.in_ok-emit_kept-in-Some.ensures c.in_ok-emit_shared-in-Some.ensures

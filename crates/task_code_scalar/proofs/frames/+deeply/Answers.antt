@@ -30,13 +30,12 @@ emit_from-returns-in_ok-emit_remainder-in-Remainder-clause-ok t c =
     c.in-Remainder.is c.get-in-Remainder.ensures
     c.in_ok-emit_from-in-Remainder.ensures.ok c.in_ok-emit_divisor-in-Remainder.ensures.ok c.in_ok-emit_remainder-in-Remainder.ensures
 
-pub emit_from-returns-in_ok-emit_selection-in-Select-clause-ok : goal.emit_from-returns-in_ok-emit_selection-in-Select-clause-ok
-emit_from-returns-in_ok-emit_selection-in-Select-clause-ok t c =
-    select-deep c.args.places.now c.args.scope.now c.args.e.now (counted c.args.places.now c.args.scope.now c.args.e.now) c.args.word c.in-Select.c c.in-Select.a c.in-Select.b _ _ _ _ _ _ _ _ _ _ _ _ _ refl (counted-many c.args.places.now c.args.scope.now c.args.e.now c.known_depth-over.result c.known_depth-over.ensures.0 c.if-over-lt1.false)
+pub emit_from-returns-in_ok-emit_chosen-in-Select-clause-ok : goal.emit_from-returns-in_ok-emit_chosen-in-Select-clause-ok
+emit_from-returns-in_ok-emit_chosen-in-Select-clause-ok t c =
+    select-deep c.args.places.now c.args.scope.now c.args.e.now (counted c.args.places.now c.args.scope.now c.args.e.now) c.args.word c.in-Select.c c.in-Select.a c.in-Select.b _ _ _ _ _ _ _ _ _ _ refl (counted-many c.args.places.now c.args.scope.now c.args.e.now c.known_depth-over.result c.known_depth-over.ensures.0 c.if-over-lt1.false)
     c.in-Select.is c.get-in-Select.ensures c.get-in-Select-2.ensures c.get-in-Select-3.ensures
     c.in_ok-emit_from-in-Select.ensures.ok c.in_ok-emit_spill-in-Select.ensures.ok.0 c.in_ok-emit_from-in-Select-2.ensures.ok c.in_ok-emit_spill-in-Select-2.ensures.ok.0
-    c.in_ok-emit_from-in-Select-3.ensures.ok c.in_ok-alu_small-in-Select.ensures c.in_ok-emit_unspill-in-Select.ensures.ok c.in_ok-emit_unspill-in-Select-2.ensures.ok
-    c.in_ok-emit_selection-in-Select.ensures
+    c.in_ok-emit_from-in-Select-3.ensures.ok c.in_ok-emit_chosen-in-Select.ensures.ok
 
 pub emit_from-returns-in_ok-emit_fetch-in-Load-clause-ok : goal.emit_from-returns-in_ok-emit_fetch-in-Load-clause-ok
 emit_from-returns-in_ok-emit_fetch-in-Load-clause-ok t c =

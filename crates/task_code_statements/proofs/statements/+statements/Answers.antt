@@ -15,64 +15,67 @@ use Rattle.task_code_statements.proofs.statements.+statements.Goals as goal
 
 pub emit_statement-returns-in_ok-emit_known_store-in-Store : goal.emit_statement-returns-in_ok-emit_known_store-in-Store
 emit_statement-returns-in_ok-emit_known_store-in-Store t c =
-    arm c.args.places.now c.args.scope.now (Meets c.args.context.now) c.args.statement.now (s.Store c.in-Store.store) _ _ c.in-Store.is
+    arm c.args.site.now.places.now c.args.site.now.scope.now (Meets c.args.context.now) c.args.statement.now (s.Store c.in-Store.store) _ _ c.in-Store.is
     c.in_ok-emit_known_store-in-Store.ensures
 
 pub emit_statement-returns-in_ok-add_second-in-Sequence : goal.emit_statement-returns-in_ok-add_second-in-Sequence
 emit_statement-returns-in_ok-add_second-in-Sequence t c =
-    sequence-arm c.args.places.now c.args.scope.now (Meets c.args.context.now) c.args.statement.now c.in-Sequence.first c.in-Sequence.second c.get.result.now
-    c.get-in-Sequence.result.now _ _ _ c.in-Sequence.is c.get.ensures c.get-in-Sequence.ensures c.in_ok-emit_statement-in-Sequence.ensures
+    sequence-arm c.args.site.now.places.now c.args.site.now.scope.now (Meets c.args.context.now) c.args.statement.now c.in-Sequence.first c.in-Sequence.second
+    c.get.result.now c.get-in-Sequence.result.now _ _ _ c.in-Sequence.is c.get.ensures c.get-in-Sequence.ensures c.in_ok-emit_statement-in-Sequence.ensures
     c.in_ok-emit_statement-in-Sequence-2.ensures
 
-pub emit_statement-returns-then-is_at_once : goal.emit_statement-returns-then-is_at_once
-emit_statement-returns-then-is_at_once t c =
-    vector-arm c.args.places.now c.args.scope.now c.args.context.now c.args.statement.now c.in-For.counter c.in-For.count c.in-For.kind c.in-For.body
-    c.get-then-is_at_once.result.now _ _ c.in-For.is c.get-then-is_at_once.ensures (c.is_at_once.ensures c.if-is_at_once.true)
-    c.in_ok-emit_vectorized-in-For.ensures
+pub emit_statement-returns-in_ok-emit_vectorized-in-AtOnce : goal.emit_statement-returns-in_ok-emit_vectorized-in-AtOnce
+emit_statement-returns-in_ok-emit_vectorized-in-AtOnce t c =
+    vector-arm c.args.site.now.places.now c.args.site.now.scope.now c.args.context.now c.args.statement.now c.in-For.counter c.in-For.count c.in-For.kind
+    c.in-For.body c.get-in-AtOnce.result.now _ _ c.in-For.is c.get-in-AtOnce.ensures (c.way_of.ensures.at_once c.in-AtOnce.is)
+    c.in_ok-emit_vectorized-in-AtOnce.ensures
 
-pub emit_statement-returns-then-is_laid_out : goal.emit_statement-returns-then-is_laid_out
-emit_statement-returns-then-is_laid_out t c =
-    for-arm c.args.places.now c.args.scope.now (Meets c.args.context.now) c.args.statement.now c.in-For.counter c.in-For.count c.in-For.kind c.in-For.body
-    c.get-then-is_laid_out.result.now _ _ c.in-For.is c.get-then-is_laid_out.ensures (c.is_laid_out.ensures c.if-is_laid_out.true)
-    c.in_ok-emit_laid_out-in-For.ensures
+pub emit_statement-returns-in_ok-emit_laid_out-in-LaidOut : goal.emit_statement-returns-in_ok-emit_laid_out-in-LaidOut
+emit_statement-returns-in_ok-emit_laid_out-in-LaidOut t c =
+    for-arm c.args.site.now.places.now c.args.site.now.scope.now (Meets c.args.context.now) c.args.statement.now c.in-For.counter c.in-For.count c.in-For.kind
+    c.in-For.body c.get-in-LaidOut.result.now _ _ c.in-For.is c.get-in-LaidOut.ensures (c.way_of.ensures.laid_out c.in-LaidOut.is)
+    c.in_ok-emit_laid_out-in-LaidOut.ensures
 
-pub emit_statement-returns-then-is_serial : goal.emit_statement-returns-then-is_serial
-emit_statement-returns-then-is_serial t c =
-    for-arm c.args.places.now c.args.scope.now (Meets c.args.context.now) c.args.statement.now c.in-For.counter c.in-For.count c.in-For.kind c.in-For.body
-    c.get-then-is_serial.result.now _ _ c.in-For.is c.get-then-is_serial.ensures (c.is_serial.ensures c.if-is_serial.true) c.in_ok-emit_serial-in-For.ensures
+pub emit_statement-returns-in_ok-emit_serial-in-InTurn : goal.emit_statement-returns-in_ok-emit_serial-in-InTurn
+emit_statement-returns-in_ok-emit_serial-in-InTurn t c =
+    for-arm c.args.site.now.places.now c.args.site.now.scope.now (Meets c.args.context.now) c.args.statement.now c.in-For.counter c.in-For.count c.in-For.kind
+    c.in-For.body c.get-in-InTurn.result.now _ _ c.in-For.is c.get-in-InTurn.ensures (c.way_of.ensures.in_turn c.in-InTurn.is)
+    c.in_ok-emit_serial-in-InTurn.ensures
 
 pub emit_statement-returns-in_ok-emit_split-in-Bind : goal.emit_statement-returns-in_ok-emit_split-in-Bind
 emit_statement-returns-in_ok-emit_split-in-Bind t c =
-    bind-arm c.args.places.now c.args.scope.now (Meets c.args.context.now) c.args.statement.now c.in-Bind.counter c.in-Bind.whole c.in-Bind.extent c.in-Bind.body
-    c.get-in-Bind.result.now _ _ c.in-Bind.is c.get-in-Bind.ensures c.in_ok-emit_split-in-Bind.ensures
+    bind-arm c.args.site.now.places.now c.args.site.now.scope.now (Meets c.args.context.now) c.args.statement.now c.in-Bind.counter c.in-Bind.whole
+    c.in-Bind.extent c.in-Bind.body c.get-in-Bind.result.now _ _ c.in-Bind.is c.get-in-Bind.ensures c.in_ok-emit_split-in-Bind.ensures
 
 pub emit_loop-returns-then-own-eq0 : goal.emit_loop-returns-then-own-eq0
 emit_loop-returns-then-own-eq0 t c = λ kind plain.
-    none-emits c.args.places.now c.args.scope.now (Meets c.args.context.now) c.args.own.counter c.args.own.count kind c.args.body.now _ c.if-own-eq0.true
+    none-emits c.args.site.now.places.now c.args.site.now.scope.now (Meets c.args.context.now) c.args.own.counter c.args.own.count kind c.args.body.now _
+    c.if-own-eq0.true
 
 pub emit_loop-returns-in_ok-emit_iterations-in-None : goal.emit_loop-returns-in_ok-emit_iterations-in-None
 emit_loop-returns-in_ok-emit_iterations-in-None t c =
-    loop-alone c.args.places.now c.args.scope.now (Meets c.args.context.now) c.args.own.counter c.args.own.count c.args.body.now c.args.code.now.words.items
-    c.emit_before.new.code.items _
-    (none-given c.args.places.now c.args.scope.now c.args.context.now c.in_ok-emit_before.field-0 c.args.code.now.words.items c.emit_before.new.code.items
-    c.in-None.is c.in_ok-emit_before.ensures) c.in_ok-emit_iterations-in-None.ensures
+    loop-alone c.args.site.now.places.now c.args.site.now.scope.now (Meets c.args.context.now) c.args.own.counter c.args.own.count c.args.body.now
+    c.args.code.now.words.items c.emit_before.new.code.items _
+    (none-given c.args.site.now.places.now c.args.site.now.scope.now c.args.context.now c.in_ok-emit_before.field-0 c.args.code.now.words.items
+    c.emit_before.new.code.items c.in-None.is c.in_ok-emit_before.ensures) c.in_ok-emit_iterations-in-None.ensures
 
 pub emit_loop-returns-in_ok-emit_iterations-in-Some : goal.emit_loop-returns-in_ok-emit_iterations-in-Some
 emit_loop-returns-in_ok-emit_iterations-in-Some t c =
-    loop-behind c.args.places.now c.args.scope.now c.as_slice-inner.result.now c.args.context.now c.in-Some.before c.args.own.counter c.args.own.count
-    c.args.body.now c.args.code.now.words.items c.emit_before.new.code.items _
-    (some-given c.args.places.now c.args.scope.now c.args.context.now c.in-Some.before c.in_ok-emit_before.field-0 c.args.code.now.words.items
-    c.emit_before.new.code.items c.in-Some.is c.in_ok-emit_before.ensures) c.as_slice-inner.ensures.value c.in_ok-emit_iterations-in-Some.ensures
+    loop-behind c.args.site.now.places.now c.args.site.now.scope.now c.as_slice.result.now c.args.context.now c.in-Some.before c.args.own.counter
+    c.args.own.count c.args.body.now c.args.code.now.words.items c.emit_before.new.code.items _
+    (some-given c.args.site.now.places.now c.args.site.now.scope.now c.args.context.now c.in-Some.before c.in_ok-emit_before.field-0 c.args.code.now.words.items
+    c.emit_before.new.code.items c.in-Some.is c.in_ok-emit_before.ensures) c.as_slice.ensures.value c.in_ok-emit_iterations-in-Some.ensures
 
 pub emit_iterations-returns : goal.emit_iterations-returns
 emit_iterations-returns t c = λ kind plain.
-    loop-arm c.args.places.now c.args.scope.now (Meets c.args.context.now) (Meets c.in_ok-inner.inner) c.args.own.counter c.args.own.count kind c.args.body.now
-    c.in_ok-begun.begun c.as_slice.result.now _ _ c.len-start.result _ _ _ _ plain c.in_ok-inner.ensures.meets c.in_ok-begun.ensures.steady
-    c.in_ok-begun.ensures.begins c.as_slice.ensures.value (c.len-start.ensures ∙ c.begin_iterations.new.code.ok.0) c.in_ok-emit_statement.ensures c.in_ok-end_loop.ensures.ok
+    loop-arm c.args.site.now.places.now c.args.site.now.scope.now (Meets c.args.context.now) (Meets c.in_ok-inner.inner) c.args.own.counter c.args.own.count
+    kind c.args.body.now c.in_ok-begun.begun c.as_slice.result.now _ _ c.len-start.result _ _ _ _ plain c.in_ok-inner.ensures.meets c.in_ok-begun.ensures.steady
+    c.in_ok-begun.ensures.begins c.as_slice.ensures.value (c.len-start.ensures ∙ c.begin_iterations.new.code.ok.0) c.in_ok-emit_statement.ensures
+    c.in_ok-end_loop.ensures.ok
 
 pub emit_laid_out-loop-iteration-init : goal.emit_laid_out-loop-iteration-init
 emit_laid_out-loop-iteration-init t c =
-    none-laid c.args.places.now c.args.scope.now (Meets c.args.context.now) c.args.own.counter c.args.body.now _
+    none-laid c.args.site.now.places.now c.args.site.now.scope.now (Meets c.args.context.now) c.args.own.counter c.args.body.now _
 
 pub emit_laid_out-loop-iteration-preserved : goal.emit_laid_out-loop-iteration-preserved
 emit_laid_out-loop-iteration-preserved t c =
@@ -80,9 +83,9 @@ emit_laid_out-loop-iteration-preserved t c =
     let more : suc k ≡ k + 1 = omega arith in
     let small : k < 2 ^ 32 = omega arith in
     let so = Meets c.args.context.now in
-    subst (λ n. LaysOut c.args.code.now.words.items c.emit_statement.new.code.words.items c.args.places.now c.args.scope.now so
+    subst (λ n. LaysOut c.args.code.now.words.items c.emit_statement.new.code.words.items c.args.site.now.places.now c.args.site.now.scope.now so
     c.args.own.counter c.args.body.now n) more
-    (one-laid c.args.places.now c.args.scope.now so c.args.own.counter c.args.body.now k (Meets c.in_ok-inner.inner) _ _ _
+    (one-laid c.args.site.now.places.now c.args.site.now.scope.now so c.args.own.counter c.args.body.now k (Meets c.in_ok-inner.inner) _ _ _
     (sym c.mentions.ensures ∙ c.if-mentions.false)
     (number-enters c.args.context.now c.in_ok-inner.inner c.args.own.counter k c.of_number-number.result small c.of_number-number.ensures.value
     c.in_ok-inner.ensures) c.loop-iteration.invariant c.in_ok-emit_statement.ensures)
@@ -91,14 +94,13 @@ pub emit_laid_out-returns : goal.emit_laid_out-returns
 emit_laid_out-returns t c = λ kind plain.
     let all : c.loop-iteration.iteration ≡ c.args.own.count = omega arith in
     let so = Meets c.args.context.now in
-    laid-emits c.args.places.now c.args.scope.now so c.args.own.counter c.args.body.now c.args.own.count kind _ _ plain
-    (subst (λ n. LaysOut c.args.code.now.words.items c.loop-iteration.code.words.items c.args.places.now c.args.scope.now so
-    c.args.own.counter c.args.body.now n) all
-    c.loop-iteration.invariant)
+    laid-emits c.args.site.now.places.now c.args.site.now.scope.now so c.args.own.counter c.args.body.now c.args.own.count kind _ _ plain
+    (subst (λ n. LaysOut c.args.code.now.words.items c.loop-iteration.code.words.items c.args.site.now.places.now c.args.site.now.scope.now so
+    c.args.own.counter c.args.body.now n) all c.loop-iteration.invariant)
 
 pub emit_parted-returns : goal.emit_parted-returns
 emit_parted-returns t c =
-    parted-arm c.args.places.now c.args.scope.now c.args.context.now c.in_ok-inner.inner c.args.own.counter c.args.own.count c.args.body.now
+    parted-arm c.args.site.now.places.now c.args.site.now.scope.now c.args.context.now c.in_ok-inner.inner c.args.own.counter c.args.own.count c.args.body.now
     c.without_last-others.result c.of_number-number.result _ _ _ c.requires (omega arith) c.without_last-others.ensures
     (sym c.mentions.ensures ∙ c.if-mentions.false) c.of_number-number.ensures.value c.in_ok-inner.ensures c.in_ok-emit_loop.ensures
     c.in_ok-emit_statement.ensures
@@ -108,19 +110,18 @@ emit_split-returns-then-is_below t c =
     let entered = c.in_ok-entered.entered in
     let enters = c.in_ok-entered.ensures in
     let bounds = c.args.context.now.bounds.items in
-    split-emits c.args.places.now c.args.scope.now c.args.context.now entered.inner c.args.split.counter c.args.split.whole c.args.split.extent
-    c.args.body.now entered.form.sum (sym c.mentions.ensures ∙ c.if-mentions.false) enters.value_is enters.meets _ _
+    split-emits c.args.site.now.places.now c.args.site.now.scope.now c.args.context.now entered.inner c.args.split.counter c.args.split.whole
+    c.args.split.extent c.args.body.now entered.form.sum (sym c.mentions.ensures ∙ c.if-mentions.false) enters.value_is enters.meets _ _
     (subst (λ f. IsBelow bounds f c.args.split.extent) enters.form_is
-    (subst (λ b. IsBelow b entered.form c.args.split.extent) c.as_slice.ensures.value (c.is_below.ensures c.if-is_below.true)))
-    c.in_ok-emit_statement.ensures
+    (subst (λ b. IsBelow b entered.form c.args.split.extent) c.as_slice.ensures.value (c.is_below.ensures c.if-is_below.true))) c.in_ok-emit_statement.ensures
 
 pub emit_split-returns : goal.emit_split-returns
 emit_split-returns t c =
     let entered = c.in_ok-entered.entered in
     let enters = c.in_ok-entered.ensures in
-    guarded-emits c.args.places.now c.args.scope.now c.args.context.now entered.inner c.args.split.counter c.args.split.whole c.args.split.extent
-    c.args.body.now entered.form.sum (sym c.mentions.ensures ∙ c.if-mentions.false) enters.value_is enters.meets _ _ _
-    (subst (λ old. EmitsStatement old c.emit_statement-2.new.code.words.items c.args.places.now c.args.scope.now (Meets entered.inner) c.args.body.now)
-    c.no_words_beside-made.ensures c.in_ok-emit_statement-2.ensures)
-    (subst (λ f. GuardsWords c.args.code.now.words.items c.emit_tested.new.code.words.items c.args.scope.now f c.args.split.extent
+    guarded-emits c.args.site.now.places.now c.args.site.now.scope.now c.args.context.now entered.inner c.args.split.counter c.args.split.whole
+    c.args.split.extent c.args.body.now entered.form.sum (sym c.mentions.ensures ∙ c.if-mentions.false) enters.value_is enters.meets _ _ _
+    (subst (λ old. EmitsStatement old c.emit_statement-2.new.code.words.items c.args.site.now.places.now c.args.site.now.scope.now (Meets entered.inner)
+    c.args.body.now) c.no_words_beside-made.ensures c.in_ok-emit_statement-2.ensures)
+    (subst (λ f. GuardsWords c.args.code.now.words.items c.emit_tested.new.code.words.items c.args.site.now.scope.now f c.args.split.extent
     c.emit_statement-2.new.code.words.items) enters.form_is c.in_ok-emit_tested.ensures)

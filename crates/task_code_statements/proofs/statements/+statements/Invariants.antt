@@ -27,4 +27,4 @@ decreases-emit_split l = suc (5 * goal.size-emit_split l)
 
 abbrev pub invariant-emit_laid_out-loop-iteration : goal.invariant-emit_laid_out-loop-iteration
 invariant-emit_laid_out-loop-iteration l =
-    LaysOut l.fn.code.words.items l.code.words.items l.places l.scope (Meets l.context) l.own.counter l.body l.iteration
+    LaysOut l.fn.code.words.items l.code.words.items l.site.places.now l.site.scope.now (Meets l.context) l.own.counter l.body l.iteration

@@ -4,8 +4,8 @@ use Rattle.task_code_values.proofs.stores.emit_direct.Goals as goal
 
 pub returns-clause-ok : goal.returns-clause-ok
 returns-clause-ok c =
-    store-made c.args.places.now c.args.scope.now c.args.store.now c.in_ok-column.column c.in_ok-row.row c.in_ok-form.form c.place_of-place.result
-    c.in_ok-at.at c.in_ok-s.s _ _ _ _ c.in_ok-column.ensures.ok c.in_ok-row.ensures.ok
+    store-made c.args.site.now.places.now c.args.site.now.scope.now c.args.store.now c.in_ok-column.column c.in_ok-row.row c.in_ok-form.form
+    c.place_of-place.result c.in_ok-at.at c.in_ok-s.s _ _ _ _ c.in_ok-column.ensures.ok c.in_ok-row.ensures.ok
     c.place_of-place.ensures c.in_ok-form.ensures c.in_ok-s.ensures.ok c.in_ok-at.ensures.ok c.in_ok-emit_save.ensures
 
 pub returns-in_err-column-clause-err : goal.returns-in_err-column-clause-err
@@ -26,7 +26,7 @@ returns-in_err-s-clause-err c =
 pub returns-in_err-at-clause-err : goal.returns-in_err-at-clause-err
 returns-in_err-at-clause-err c =
     passed c.from_residual-in_err-at.result c.in_err-at.field-0.0 c.from_residual-in_err-at.ensures.1 (λ long. long) (λ deep fits. deep (point-held
-    c.args.places.now
-    c.args.scope.now c.args.store.now c.place_of-place.result c.in_ok-column.column c.in_ok-row.row c.in_ok-form.form c.in_ok-form.ensures
+    c.args.site.now.places.now
+    c.args.site.now.scope.now c.args.store.now c.place_of-place.result c.in_ok-column.column c.in_ok-row.row c.in_ok-form.form c.in_ok-form.ensures
     c.in_ok-column.ensures.ok
     c.in_ok-row.ensures.ok fits)) c.in_err-at.ensures.err

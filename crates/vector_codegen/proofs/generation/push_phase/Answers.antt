@@ -5,7 +5,7 @@ use Rattle.vector_codegen.proofs.generation.push_phase.Goals as goal
 
 pub returns-clause-emits : goal.returns-clause-emits
 returns-clause-emits c =
-    phase-emitted c.args.places.now c.ticket_of-ticket.result c.args.number c.args.is_last c.args.phase.now c.as_slice.result.now c.args.code.now.items
+    phase-emitted c.args.places.now c.ticket_of-ticket.result c.args.number c.args.is_last c.args.phase.now c.as_slice.result.now c.args.begun.now.words.items
     c.emit_phase.new.code.items c.ticket_of-ticket.ensures.is
     (task-apart c.args.places.now c.ticket_of-ticket.result c.args.number c.args.phase.now c.new-words.result.items c.emit.new.code.items
     c.as_slice.result.now c.ticket_of-ticket.ensures.is c.new-words.ensures.items c.as_slice.ensures.value c.in_ok-emit.ensures.ok)
