@@ -8,9 +8,9 @@ ghost use Rattle.hrv_command_line.specs.CommandLine.{Explains, IsWithinLimits, L
 ghost use Rattle.hrv_command_line.specs.CommandLine.{Replays, Resumes, Runs, TellsVersion, asked_by};
 ghost use Rattle.hrv.specs.Dispatch.{Does};
 
-use hrv_command_line::Invocation;
+use hrv_command_line::{BlameArguments, Invocation};
 use hrv_engines::{
-    Fault, Question, Sink, Source, asm_bytes, blame_bytes, compile_bytes, debug_bytes,
+    Fault, Question, Resources, Sink, Source, asm_bytes, blame_bytes, compile_bytes, debug_bytes,
     dis_addresses_bytes, dis_bytes, explain_bytes, map_bytes, picture_bytes, renew_bytes,
     replay_bytes, resume_bytes, run_bytes, version_bytes,
 };
@@ -63,6 +63,7 @@ pub fn obey<'a, R: Threads + Wait + Sync, D: Devices<'a>>(
         D.Typed.place D.Typed.failed D.Typed.gave D.Typed.ended
         D.Printed.place D.Printed.failed D.Printed.took alloc (asked_by invocation.entry) result }
 {
+    let resources = Resources { threads, alloc };
     match invocation {
         Invocation::Asm { source, image } => assemble(alloc, devices, source, image),
         Invocation::Dis { image } => list(alloc, devices, image),
@@ -70,22 +71,7 @@ pub fn obey<'a, R: Threads + Wait + Sync, D: Devices<'a>>(
         Invocation::Renew { old, new } => renew(alloc, devices, old, new),
         Invocation::Replay { image, log } => replay(alloc, devices, image, log),
         Invocation::Debug { image, log } => debug(alloc, devices, image, log),
-        Invocation::Blame {
-            image,
-            log,
-            x,
-            y,
-            address,
-            with_turns,
-        } => {
-            let question = Question {
-                x,
-                y,
-                address,
-                with_turns,
-            };
-            blame(alloc, devices, image, log, question)
-        }
+        Invocation::Blame { image, log, words } => blame(alloc, devices, image, log, words),
         Invocation::Picture { algorithm, inputs } => {
             draw(threads, alloc, devices, algorithm, inputs)
         }
@@ -104,13 +90,13 @@ pub fn obey<'a, R: Threads + Wait + Sync, D: Devices<'a>>(
             log,
             harts,
             turns,
-        } => run(threads, alloc, devices, image, log, harts, turns),
+        } => run(&resources, devices, image, log, harts, turns),
         Invocation::Resume {
             image,
             log,
             old,
             turns,
-        } => resume(threads, alloc, devices, image, log, old, turns),
+        } => resume(&resources, devices, image, log, old, turns),
         Invocation::Explain { family, code } => explain(alloc, devices, family, code),
         Invocation::Version => tell_version(alloc, devices),
     }
@@ -220,16 +206,22 @@ fn blame<'a, D: Devices<'a>>(
     devices: &D,
     image: &'a str,
     log: &'a str,
-    question: Question<'a>,
+    words: BlameArguments<'a>,
 ) -> Result<(), Fault>
     ensures { Does D.Read.place D.Read.failed D.Read.gave D.Read.ended
         D.Written.place D.Written.failed D.Written.took
         D.Typed.place D.Typed.failed D.Typed.gave D.Typed.ended
         D.Printed.place D.Printed.failed D.Printed.took alloc
-        (Blames image.entry.now log.entry.now (option_map (λ s. s.now) question.entry.x)
-        (option_map (λ s. s.now) question.entry.y)
-        (option_map (λ s. s.now) question.entry.address) question.entry.with_turns) result }
+        (Blames image.entry.now log.entry.now (option_map (λ s. s.now) words.entry.x)
+        (option_map (λ s. s.now) words.entry.y)
+        (option_map (λ s. s.now) words.entry.address) words.entry.with_turns) result }
 {
+    let question = Question {
+        x: words.x,
+        y: words.y,
+        address: words.address,
+        with_turns: words.with_turns,
+    };
     let mut image = devices.read(image);
     let mut log = devices.read(log);
     blame_bytes(
@@ -311,8 +303,7 @@ fn show_map<'a, D: Devices<'a>>(
 
 /// `run IMAGE LOG --harts N --turns L`
 fn run<'a, R: Threads + Wait + Sync, D: Devices<'a>>(
-    threads: &R,
-    alloc: Global,
+    resources: &Resources<'_, R>,
     devices: &D,
     image: &'a str,
     log: &'a str,
@@ -323,11 +314,11 @@ fn run<'a, R: Threads + Wait + Sync, D: Devices<'a>>(
     ensures { Does D.Read.place D.Read.failed D.Read.gave D.Read.ended
         D.Written.place D.Written.failed D.Written.took
         D.Typed.place D.Typed.failed D.Typed.gave D.Typed.ended
-        D.Printed.place D.Printed.failed D.Printed.took alloc (Runs image.entry.now log.entry.now harts turns) result }
+        D.Printed.place D.Printed.failed D.Printed.took resources.now.alloc (Runs image.entry.now log.entry.now harts
+        turns) result }
 {
     run_bytes(
-        threads,
-        alloc,
+        resources,
         &mut devices.read(image),
         &mut devices.written(log),
         &mut devices.printed(),
@@ -338,8 +329,7 @@ fn run<'a, R: Threads + Wait + Sync, D: Devices<'a>>(
 
 /// `run IMAGE LOG --turns L --from OLD`
 fn resume<'a, R: Threads + Wait + Sync, D: Devices<'a>>(
-    threads: &R,
-    alloc: Global,
+    resources: &Resources<'_, R>,
     devices: &D,
     image: &'a str,
     log: &'a str,
@@ -349,15 +339,15 @@ fn resume<'a, R: Threads + Wait + Sync, D: Devices<'a>>(
     ensures { Does D.Read.place D.Read.failed D.Read.gave D.Read.ended
         D.Written.place D.Written.failed D.Written.took
         D.Typed.place D.Typed.failed D.Typed.gave D.Typed.ended
-        D.Printed.place D.Printed.failed D.Printed.took alloc (Resumes image.entry.now log.entry.now old.entry.now
+        D.Printed.place D.Printed.failed D.Printed.took resources.now.alloc (Resumes image.entry.now log.entry.now
+        old.entry.now
         turns) result }
 {
     let mut image = devices.read(image);
     let mut old = devices.read(old);
     let mut log = devices.written(log);
     resume_bytes(
-        threads,
-        alloc,
+        resources,
         &mut image,
         &mut old,
         &mut log,

@@ -40,8 +40,8 @@ pub data Asked : Type 0 where
 abbrev pub asked_by : Invocation → Asked
 asked_by (Replay image log) = Replays image.now log.now
 asked_by (Debug image log) = Debugs image.now log.now
-asked_by (Blame image log x y address with_turns) =
-    Blames image.now log.now (option_map (λ s. s.now) x) (option_map (λ s. s.now) y) (option_map (λ s. s.now) address) with_turns
+asked_by (Blame image log words) =
+    Blames image.now log.now (option_map (λ s. s.now) words.x) (option_map (λ s. s.now) words.y) (option_map (λ s. s.now) words.address) words.with_turns
 asked_by (Asm source image) = Assembles source.now image.now
 asked_by (Dis image) = Lists image.now
 asked_by (DisAddresses image) = ListsAddresses image.now

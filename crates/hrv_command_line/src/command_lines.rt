@@ -14,6 +14,16 @@ use clap::ArgMatches;
 use hrv_refusals::is_explained;
 use std::alloc::{AllocError, Global};
 
+/// The words that ask who wrote data: the numbers of a pixel, the address of a word, and whether turns are told of in
+/// place of harts.
+#[derive(Clone, Copy, Debug)]
+pub struct BlameArguments<'a> {
+    pub x: Option<&'a str>,
+    pub y: Option<&'a str>,
+    pub address: Option<&'a str>,
+    pub with_turns: bool,
+}
+
 /// What the words of a command line ask for.
 #[derive(Debug, Drop)]
 pub enum Invocation<'a> {
@@ -49,10 +59,7 @@ pub enum Invocation<'a> {
     Blame {
         image: &'a str,
         log: &'a str,
-        x: Option<&'a str>,
-        y: Option<&'a str>,
-        address: Option<&'a str>,
-        with_turns: bool,
+        words: BlameArguments<'a>,
     },
     /// `picture ALGORITHM [INPUT..]`
     Picture {
@@ -214,14 +221,13 @@ fn blame_asked<'a>(given: &ArgMatches<'a>) -> Invocation<'a>
     let y = given.get_str("Y");
     let address = given.get_str("address");
     let with_turns = given.get_flag("turns");
-    Invocation::Blame {
-        image,
-        log,
+    let words = BlameArguments {
         x,
         y,
         address,
         with_turns,
-    }
+    };
+    Invocation::Blame { image, log, words }
 }
 
 // What the arguments of `asm` ask for.

@@ -11,5 +11,5 @@ pub mod faults;
 pub mod laws;
 mod programs;
 
-pub use crate::command_lines::{Invocation, command};
+pub use crate::command_lines::{BlameArguments, Invocation, command};
 pub use crate::faults::CommandLineFault;

@@ -6,7 +6,7 @@
 //! - [`renew`]: an image is stored in the second format; [`renew_bytes`], over `specs/Renew.antt`.
 //! - [`replay`]: an image and a log of turns become a dump; [`replay_bytes`], over `specs/Replay.antt` and `Dump.antt`.
 //! - [`run`]: an image becomes a log of turns that threads made, and a dump; [`run_bytes`], and [`resume_bytes`] where
-//!   a log goes on, over `specs/Run.antt`.
+//!   a log goes on, over `specs/Run.antt`; both by [`Resources`].
 //! - [`debug`]: an image, a log of turns and lines of commands become a talk; [`debug_bytes`], over `specs/Debug.antt`
 //!   and `Talk.antt`.
 //! - [`blame`]: an image, a log of turns and a question become the answer who wrote data; [`blame_bytes`], over
@@ -61,4 +61,4 @@ pub use crate::mapping::map_bytes;
 pub use crate::questions::{BlameFault, Question};
 pub use crate::renew::renew_bytes;
 pub use crate::replay::replay_bytes;
-pub use crate::run::{resume_bytes, run_bytes};
+pub use crate::run::{Resources, resume_bytes, run_bytes};

@@ -17,12 +17,18 @@ use std::sync::Wait;
 use std::thread::Threads;
 use turn_log::TurnLog;
 
+/// What a run takes from the one that asks for it: threads, and memory.
+#[derive(Drop)]
+pub struct Resources<'a, R> {
+    pub threads: &'a R,
+    pub alloc: Global,
+}
+
 /// Reads an image, runs it by a thread for each of 1 to 8 harts until each has stopped or has made so many turns, and
 /// writes the log of the turns and then the dump. The whole image is read before the first turn, the whole log is
 /// written before the dump, and nothing is written where memory or threads are wanting.
 pub fn run_bytes<I: Source, L: Sink, O: Sink, R: Threads + Wait + Sync>(
-    rt: &R,
-    alloc: Global,
+    resources: &Resources<'_, R>,
     image: &mut I,
     log: &mut L,
     out: &mut O,
@@ -39,8 +45,9 @@ pub fn run_bytes<I: Source, L: Sink, O: Sink, R: Threads + Wait + Sync>(
         (sink_of L.place L.failed L.took log.old log.new)
         (sink_of O.place O.failed O.took out.old out.new) result }
 {
+    let (threads, alloc) = (resources.threads, resources.alloc);
     let image_bytes = read_image_bytes(alloc, image)?;
-    let (log_bytes, text) = run_image(rt, alloc, image_bytes, harts, limit)?;
+    let (log_bytes, text) = run_image(threads, alloc, image_bytes, harts, limit)?;
     write_both(alloc, log, out, &log_bytes, text.as_bytes())
 }
 
@@ -48,8 +55,7 @@ pub fn run_bytes<I: Source, L: Sink, O: Sink, R: Threads + Wait + Sync>(
 /// stops before. The log that is written begins with that one. Both files are read before the first turn, the image
 /// before the log.
 pub fn resume_bytes<I: Source, P: Source, L: Sink, O: Sink, R: Threads + Wait + Sync>(
-    rt: &R,
-    alloc: Global,
+    resources: &Resources<'_, R>,
     image: &mut I,
     old: &mut P,
     log: &mut L,
@@ -66,9 +72,10 @@ pub fn resume_bytes<I: Source, P: Source, L: Sink, O: Sink, R: Threads + Wait + 
         (sink_of L.place L.failed L.took log.old log.new)
         (sink_of O.place O.failed O.took out.old out.new) result }
 {
+    let (threads, alloc) = (resources.threads, resources.alloc);
     let image_bytes = read_image_bytes(alloc, image)?;
     let old_bytes = read_all(alloc, old)?;
-    let (log_bytes, text) = resume_image(rt, alloc, image_bytes, old_bytes, limit)?;
+    let (log_bytes, text) = resume_image(threads, alloc, image_bytes, old_bytes, limit)?;
     write_both(alloc, log, out, &log_bytes, text.as_bytes())
 }
 

@@ -141,19 +141,11 @@ pub fn push_blame(alloc: Global, parts: &[Part], out: &mut String) -> Result<(),
 /// What the words of a command line ask about.
 fn question_of<'a>(alloc: Global, words: &'a [&'a str]) -> Result<Question<'a>, Failure> {
     match command(alloc, words) {
-        Ok(
-            Invocation::Blame {
-                x,
-                y,
-                address,
-                with_turns,
-                ..
-            },
-        ) => Ok(Question {
-            x,
-            y,
-            address,
-            with_turns,
+        Ok(Invocation::Blame { words: asked, .. }) => Ok(Question {
+            x: asked.x,
+            y: asked.y,
+            address: asked.address,
+            with_turns: asked.with_turns,
         }),
         _ => Err(Failure::Malformed("other words")),
     }

@@ -46,17 +46,10 @@ fn push_asked(invocation: &Invocation, out: &mut String) -> Result<(), AllocErro
         Invocation::Renew { old, new } => writeln!(out, "renew from {old} to {new}"),
         Invocation::Replay { image, log } => writeln!(out, "replay of {image} by {log}"),
         Invocation::Debug { image, log } => writeln!(out, "debug of {image} by {log}"),
-        Invocation::Blame {
-            image,
-            log,
-            x,
-            y,
-            address,
-            with_turns,
-        } => {
+        Invocation::Blame { image, log, words } => {
             write!(out, "blame of {image} by {log} at")?;
-            push_given(&[*x, *y, *address], out)?;
-            writeln!(out, "{}", if *with_turns { " with turns" } else { "" })
+            push_given(&[words.x, words.y, words.address], out)?;
+            writeln!(out, "{}", if words.with_turns { " with turns" } else { "" })
         }
         Invocation::Picture { algorithm, inputs } => {
             write!(out, "picture by {algorithm} of")?;

@@ -4,7 +4,7 @@
 use crate::commands::{push_answer, push_digits};
 use crate::devices::devices_of;
 use crate::failures::Failure;
-use hrv_engines::{Fault, resume_bytes, run_bytes};
+use hrv_engines::{Fault, Resources, resume_bytes, run_bytes};
 use std::alloc::Global;
 use std::sync::Wait;
 use std::thread::Threads;
@@ -27,8 +27,7 @@ pub fn push_run(
     let mut new = devices.new_log(alloc)?;
     let mut page = devices.page(alloc)?;
     let answered = run_bytes(
-        rt,
-        alloc,
+        &Resources { threads: rt, alloc },
         &mut devices.tape("image", &image)?,
         &mut new,
         &mut page,
@@ -55,8 +54,7 @@ pub fn push_resumption(
     let mut new = devices.new_log(alloc)?;
     let mut page = devices.page(alloc)?;
     let answered = resume_bytes(
-        rt,
-        alloc,
+        &Resources { threads: rt, alloc },
         &mut devices.tape("image", &image)?,
         &mut devices.tape("log", &log)?,
         &mut new,

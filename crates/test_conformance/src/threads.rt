@@ -5,7 +5,7 @@ ghost use Rattle.std.specs.Prelude.{◌≤◌, IfOk};
 use crate::compilations::compiled;
 use crate::failures::Failure;
 use crate::runs::limit_of;
-use hrv_engines::{replay_bytes, resume_bytes, run_bytes};
+use hrv_engines::{Resources, replay_bytes, resume_bytes, run_bytes};
 use std::alloc::{AllocError, Global};
 use std::sync::Wait;
 use std::thread::Threads;
@@ -63,8 +63,7 @@ pub fn push_rejoined(
     let (mut log, mut ran) = (empty_page(alloc), empty_page(alloc));
     let (mut source, mut turns) = (tape_of("image", &image), tape_of("old", &old));
     resume_bytes(
-        rt,
-        alloc,
+        &Resources { threads: rt, alloc },
         &mut source,
         &mut turns,
         &mut log,
@@ -88,7 +87,14 @@ fn push_run_by(
 {
     let (mut log, mut ran) = (empty_page(alloc), empty_page(alloc));
     let mut source = tape_of("image", image);
-    run_bytes(rt, alloc, &mut source, &mut log, &mut ran, harts, limit)?;
+    run_bytes(
+        &Resources { threads: rt, alloc },
+        &mut source,
+        &mut log,
+        &mut ran,
+        harts,
+        limit,
+    )?;
     push_replayed(alloc, image, &log.bytes, &ran.bytes, out)
 }
 
