@@ -1,6 +1,6 @@
 //! Buffers of pixels.
 
-ghost use Rattle.std.specs.Prelude.{◌≡◌, ◌<◌, ◌^◌, ◌==◌, ◌&&◌, IfSome, if◌then◌else◌};
+ghost use Rattle.std.specs.Prelude.{◌≡◌, ◌≢◌, ◌<◌, ◌*◌, ◌^◌, ◌==◌, ◌&&◌, IfNone, IfSome, if◌then◌else◌, length};
 ghost use Rattle.loop_ir.specs.Buffers.{IsBuffer, has_point, plane_of};
 
 use std::marker::Model;
@@ -37,7 +37,8 @@ impl Drop for Buffer {
 impl Buffer {
     /// A buffer of these pixels; none where there aren't as many as points.
     pub fn new(width: u32, height: u32, pixels: Vec<u32>) -> Option<Buffer>
-        ensures { IfSome result (λ own. own ≡ record { width = width; height = height; pixels = pixels.items }) }
+        ensures some { IfSome result (λ own. own ≡ record { width = width; height = height; pixels = pixels.items }) }
+        ensures none { IfNone result (length pixels.items ≢ width * height) }
     {
         if pixels.len() as u64 != u64::from(width) * u64::from(height) {
             return None;
