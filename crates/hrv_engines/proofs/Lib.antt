@@ -1,10 +1,12 @@
 mod Telling
+pub mod AlgorithmFronts
 pub mod Compilations
 pub mod Drawings
 pub mod ImageFronts
 pub mod LastTold
 pub mod MarkRows
 pub mod Numbers
+pub mod PictureFronts
 pub mod Pixels
 pub mod Printing
 pub mod Reading
@@ -14,3 +16,4 @@ pub mod Splits
 pub mod Steps
 pub mod StopsFound
 pub mod TalkSteps
+pub mod TextFronts

@@ -1,6 +1,6 @@
 -- What a call did with its devices, where what they give and take is a fact of their states and bytes.
 -- This project's own.
-use Rattle.std.specs.Prelude.{◌≡◌, ◌⊎◌, ℕ, ◌+◌, ◌*◌, ◌<◌, List, length, slice_get, Some}
+use Rattle.std.specs.Prelude.{◌≡◌, ◌⊎◌, ℕ, ◌+◌, ◌*◌, ◌<◌, List, ◌++◌, length, slice_get, Some}
 use Rattle.std.specs.Str.{IsUtf8}
 use Rattle.memory.specs.Addresses.{most_bytes, most_words}
 use Rattle.loader.specs.Spelling.{header_length}
@@ -8,7 +8,7 @@ use Rattle.loader.specs.declared.formats.Format.TheVariants.{Hrv2}
 
 -- what a call did with sources
 pub record Sources (I : Type 0) : Type 1 where
-  -- they gave these inputs, all that they had, or of an image more than any has
+  -- they gave these inputs: all that they had, or of an image, an algorithm or a picture more than any has
   pub gave : I → Type 0
   -- one with this path failed, and those before it gave their inputs
   pub failed : List ℕ → Type 0
@@ -81,6 +81,49 @@ text_of place failures gave ended before after = record {
   untouched = after ≡ before;
 }
 
+-- no text begins with these bytes
+abbrev pub BeginsNoText : List ℕ → Type 0
+BeginsNoText bytes = (rest : List ℕ) → IsUtf8 (bytes ++ rest) → ⊥
+
+-- a source that gave a text: all that it had, or a front of it with more than so many bytes
+abbrev pub GaveTextFront : (most : ℕ) {S : Type 0} (gave : S → List ℕ → S → Type 0) (ended : S → Type 0) → S → List ℕ → S → Type 0
+GaveTextFront most gave ended before text after =
+    IsUtf8 text × ((gave before text after × ended after) ⊎ ((most < length text) × ((rest : List ℕ) × gave before (text ++ rest) after)))
+
+-- a source that gave no text: it has no more bytes, and those are none, or none begins with them
+abbrev pub GaveNoTextFront : {S : Type 0} (gave : S → List ℕ → S → Type 0) (ended : S → Type 0) → S → S → Type 0
+GaveNoTextFront gave ended before after = (bytes : List ℕ) × gave before bytes after × ((ended after × (IsUtf8 bytes → ⊥)) ⊎ BeginsNoText bytes)
+
+-- A source of a text that needn't be read further than it takes to refuse it.
+abbrev pub text_front_of : (most : ℕ) {S : Type 0} (place : S → List ℕ) (failures : S → ℕ) (gave : S → List ℕ → S → Type 0) (ended : S → Type 0) (before after : S)
+    → Sources (List ℕ)
+text_front_of most place failures gave ended before after = record {
+  gave = λ text. GaveTextFront most gave ended before text after;
+  failed = λ path. (path ≡ place before) × ((failures before < failures after) ⊎ GaveNoTextFront gave ended before after);
+  well = failures after ≡ failures before;
+  untouched = after ≡ before;
+}
+
+-- An algorithm that is read has at most so many bytes. The law `long_algorithms_are_refused_in_line_1` says that a longer text is refused in
+-- line 1, and that its fault hangs on a front with all of that line alone.
+abbrev pub most_algorithm_bytes : ℕ
+most_algorithm_bytes = 65536
+
+-- an algorithm
+abbrev pub algorithm_text_of : {S : Type 0} (place : S → List ℕ) (failures : S → ℕ) (gave : S → List ℕ → S → Type 0) (ended : S → Type 0) (before after : S)
+    → Sources (List ℕ)
+algorithm_text_of = text_front_of most_algorithm_bytes
+
+-- A picture that is read has at most so many bytes: a heading of 32, and 12 for each pixel. The law `long_pictures_are_refused_by_their_front`
+-- says so, and that of longer ones the fault hangs on a front of more bytes alone.
+abbrev pub most_picture_bytes : ℕ
+most_picture_bytes = 32 + 12 * 1048576
+
+-- a picture
+abbrev pub picture_text_of : {S : Type 0} (place : S → List ℕ) (failures : S → ℕ) (gave : S → List ℕ → S → Type 0) (ended : S → Type 0) (before after : S)
+    → Sources (List ℕ)
+picture_text_of = text_front_of most_picture_bytes
+
 -- ---- several sources of texts
 
 -- each source gave its text, from the first states to the later ones
@@ -90,28 +133,29 @@ pub record GaveEach {S : Type 0} (gave : S → List ℕ → S → Type 0) (first
   pub each : (place : ℕ) (s t : S) → slice_get first place ≡ Some s → slice_get later place ≡ Some t
       → (text : List ℕ) × (slice_get texts place ≡ Some text) × gave s text t
 
--- The path is that of a source that failed, or that gave all that it had, which is no text. All before it gave their texts.
-pub record NamesFailed {S : Type 0} (path_of : S → List ℕ) (failed : S → ℕ) (gave : S → List ℕ → S → Type 0) (first later : List S) (path : List ℕ) : Type 0 where
+-- The path is that of a source that failed, or that gave no text. All before it gave their texts.
+pub record NamesFailed {S : Type 0} (path_of : S → List ℕ) (failed : S → ℕ) (gave : S → List ℕ → S → Type 0) (none : S → S → Type 0) (first later : List S) (path : List ℕ) : Type 0 where
   pub place : ℕ
   pub before : S
   pub after : S
   pub is_before : slice_get first place ≡ Some before
   pub is_after : slice_get later place ≡ Some after
   pub is_path : path ≡ path_of before
-  pub failed_there : (failed before < failed after) ⊎ GaveNoText (λ bytes. gave before bytes after)
+  pub failed_there : (failed before < failed after) ⊎ none before after
   pub earlier : (sooner : ℕ) (s t : S) → sooner < place → slice_get first sooner ≡ Some s → slice_get later sooner ≡ Some t
-      → (text : List ℕ) × IsUtf8 text × gave s text t
+      → (text : List ℕ) × gave s text t
 
 -- none of them failed
 abbrev pub NoneFailed : {S : Type 0} (failures : S → ℕ) (first later : List S) → Type 0
 NoneFailed {S} failures first later =
     (place : ℕ) (s t : S) → slice_get first place ≡ Some s → slice_get later place ≡ Some t → failures t ≡ failures s
 
-abbrev pub texts_of : {S : Type 0} (place : S → List ℕ) (failures : S → ℕ) (gave : S → List ℕ → S → Type 0) (ended : S → Type 0) (before after : List S)
+-- the texts of pictures
+abbrev pub picture_texts_of : {S : Type 0} (place : S → List ℕ) (failures : S → ℕ) (gave : S → List ℕ → S → Type 0) (ended : S → Type 0) (before after : List S)
     → Sources (List (List ℕ))
-texts_of place failures gave ended before after = record {
-  gave = λ texts. GaveEach (λ s text t. IsUtf8 text × gave s text t × ended t) before texts after;
-  failed = NamesFailed place failures (λ s bytes t. gave s bytes t × ended t) before after;
+picture_texts_of place failures gave ended before after = record {
+  gave = λ texts. GaveEach (GaveTextFront most_picture_bytes gave ended) before texts after;
+  failed = NamesFailed place failures (GaveTextFront most_picture_bytes gave ended) (GaveNoTextFront gave ended) before after;
   well = NoneFailed failures before after;
   untouched = after ≡ before;
 }

@@ -1,9 +1,15 @@
 //! Laws of what engines read, each the contract of a function that does nothing.
 
-ghost use Rattle.std.specs.Prelude.{◌≡◌, ◌<◌, ◌≤◌, ◌++◌, ℕ, List, length, Ok};
+ghost use Rattle.std.specs.Prelude.{◌≡◌, ◌<◌, ◌≤◌, ◌++◌, ◌∷◌, ℕ, List, length, Ok, Err};
+ghost use Rattle.std.specs.declared.alloc.Global.{Global};
+ghost use Rattle.line_text.specs.Lines.{IsLine};
 ghost use Rattle.loader.specs.Image.{ImageContents};
 ghost use Rattle.loader.specs.Spelling.{image_of};
-ghost use Rattle.hrv_engines.specs.Devices.{most_image_bytes};
+ghost use Rattle.halide_parser_syntax.specs.declared.faults.ParseFault.{ParseFault};
+ghost use Rattle.halide_parser.specs.Parsing.{parsed};
+ghost use Rattle.halide_pipeline.specs.Contents.{PictureContents};
+ghost use Rattle.picture.specs.Reading.{picture_of};
+ghost use Rattle.hrv_engines.specs.Devices.{most_algorithm_bytes, most_image_bytes, most_picture_bytes};
 
 /// More bytes than an image has are refused, and whatever begins with them with the same fault.
 pub fn long_images_are_refused_by_their_front()
@@ -11,4 +17,22 @@ pub fn long_images_are_refused_by_their_front()
         → length bytes ≤ most_image_bytes }
     ensures alike { (front rest : List ℕ) → most_image_bytes < length front
         → image_of (front ++ rest) ≡ image_of front }
+{}
+
+/// A text with more bytes than an algorithm has is refused in line 1, and with the same fault whatever stands behind a
+/// front of so many bytes that has all of that line.
+pub fn long_algorithms_are_refused_in_line_1()
+    ensures refused { (alloc : Global) (text : List ℕ) → most_algorithm_bytes < length text
+        → (fault : ParseFault) × (parsed alloc text ≡ Err (1, fault)) }
+    ensures alike { (alloc : Global) (line more rest : List ℕ) → IsLine line
+        → most_algorithm_bytes < length (line ++ 10 ∷ more)
+        → parsed alloc ((line ++ 10 ∷ more) ++ rest) ≡ parsed alloc (line ++ 10 ∷ more) }
+{}
+
+/// A text with more bytes than a picture has is refused, and whatever begins with it with the same fault.
+pub fn long_pictures_are_refused_by_their_front()
+    ensures refused { (text : List ℕ) (picture : PictureContents) → picture_of text ≡ Ok picture
+        → length text ≤ most_picture_bytes }
+    ensures alike { (front rest : List ℕ) → most_picture_bytes < length front
+        → picture_of (front ++ rest) ≡ picture_of front }
 {}

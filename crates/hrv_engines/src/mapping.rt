@@ -1,11 +1,11 @@
 //! Saying where the data and the code of compiled images lie: the command `map`.
 
 ghost use Rattle.std.specs.Prelude.{◌+◌, ◌<◌, ◌^◌};
-ghost use Rattle.hrv_engines.specs.Devices.{both, sink_of, text_of};
+ghost use Rattle.hrv_engines.specs.Devices.{algorithm_text_of, both, sink_of, text_of};
 ghost use Rattle.hrv_engines.specs.Engine.{Judges, Performs};
 ghost use Rattle.hrv_engines.specs.Map.{IsMap, IsRefusedMap};
 
-use crate::devices::{Sink, Source, read_text, write_all};
+use crate::devices::{Sink, Source, read_algorithm, read_text, write_all};
 use crate::faults::Fault;
 use hrv_compiler::compile;
 use std::alloc::Global;
@@ -22,11 +22,11 @@ pub fn map_bytes<A: Source, S: Source, O: Sink>(
     requires schedule { S.failed schedule.old + 1 < 2 ^ 64 }
     requires out { O.failed out.old + 1 < 2 ^ 64 }
     ensures { Performs (IsMap alloc) (IsRefusedMap alloc)
-        (both (text_of A.place A.failed A.gave A.ended algorithm.old algorithm.new)
+        (both (algorithm_text_of A.place A.failed A.gave A.ended algorithm.old algorithm.new)
         (text_of S.place S.failed S.gave S.ended schedule.old schedule.new))
         (sink_of O.place O.failed O.took out.old out.new) result }
 {
-    let algorithm_text = read_text(alloc, algorithm)?;
+    let algorithm_text = read_algorithm(alloc, algorithm)?;
     let schedule_text = read_text(alloc, schedule)?;
     let text = map_of(alloc, &algorithm_text, &schedule_text)?;
     write_all(alloc, out, &text)

@@ -1,5 +1,5 @@
 //! Devices in memory, for tests: a [`Tape`] that is read from and a [`Page`] that is written to. Each gives or takes a
-//! few bytes at a time, and fails where a test wants it. A test reads an image that is too long.
+//! few bytes at a time, and fails where a test wants it. Tests read images and texts that are too long.
 #![tactic(auto)]
 
 ghost use Rattle.std.specs.Prelude.{◌≡◌, ◌≤◌, ◌<◌, ◌++◌, [], length, IfOk};
@@ -9,6 +9,7 @@ use std::alloc::{AllocError, Global};
 use std::io;
 
 mod long_images;
+mod long_texts;
 
 /// Bytes that are read a few at a time. The read of a number fails, where there is one.
 #[derive(Drop)]

@@ -2,16 +2,16 @@ use Rattle.std.proofs.Common.{ap, refl, subst}
 use Rattle.std.specs.Prelude.{map}
 use Rattle.std.specs.String.{string_bytes}
 use Rattle.hrv_engines.specs.Compile.{IsCompilation, IsRefusedCompilation}
-use Rattle.hrv_engines.specs.Devices.{both, sink_of, text_of, texts_of}
+use Rattle.hrv_engines.specs.Devices.{algorithm_text_of, both, picture_texts_of, sink_of, text_of}
 use Rattle.hrv_engines.specs.Engine.{Writes}
 use Rattle.hrv_engines.proofs.Steps.{second_unread, unread, written}
 use Rattle.hrv_engines.proofs.compiling.compile_bytes.Goals as goal
 
 pub returns-in_err-input_texts : goal.returns-in_err-input_texts
 returns-in_err-input_texts g c =
-    let algorithm = text_of g.A.Source.place g.A.Source.failed g.A.Source.gave g.A.Source.ended c.args.algorithm.now c.read_text.new.source in
-    let schedule = text_of g.S.Source.place g.S.Source.failed g.S.Source.gave g.S.Source.ended c.args.schedule.now c.read_text-2.new.source in
-    let inputs = texts_of g.I.Source.place g.I.Source.failed g.I.Source.gave g.I.Source.ended c.args.inputs.now c.read_texts.new.sources in
+    let algorithm = algorithm_text_of g.A.Source.place g.A.Source.failed g.A.Source.gave g.A.Source.ended c.args.algorithm.now c.read_algorithm.new.source in
+    let schedule = text_of g.S.Source.place g.S.Source.failed g.S.Source.gave g.S.Source.ended c.args.schedule.now c.read_text.new.source in
+    let inputs = picture_texts_of g.I.Source.place g.I.Source.failed g.I.Source.gave g.I.Source.ended c.args.inputs.now c.read_texts.new.sources in
     let out = sink_of g.O.Sink.place g.O.Sink.failed g.O.Sink.took c.args.image.now c.args.image.now in
     let first = c.in_ok-algorithm_text in
     let second = c.in_ok-schedule_text in
@@ -23,9 +23,9 @@ returns-in_err-input_texts g c =
 
 pub returns : goal.returns
 returns g c =
-    let algorithm = text_of g.A.Source.place g.A.Source.failed g.A.Source.gave g.A.Source.ended c.args.algorithm.now c.read_text.new.source in
-    let schedule = text_of g.S.Source.place g.S.Source.failed g.S.Source.gave g.S.Source.ended c.args.schedule.now c.read_text-2.new.source in
-    let inputs = texts_of g.I.Source.place g.I.Source.failed g.I.Source.gave g.I.Source.ended c.args.inputs.now c.read_texts.new.sources in
+    let algorithm = algorithm_text_of g.A.Source.place g.A.Source.failed g.A.Source.gave g.A.Source.ended c.args.algorithm.now c.read_algorithm.new.source in
+    let schedule = text_of g.S.Source.place g.S.Source.failed g.S.Source.gave g.S.Source.ended c.args.schedule.now c.read_text.new.source in
+    let inputs = picture_texts_of g.I.Source.place g.I.Source.failed g.I.Source.gave g.I.Source.ended c.args.inputs.now c.read_texts.new.sources in
     let out = sink_of g.O.Sink.place g.O.Sink.failed g.O.Sink.took c.args.image.now c.write_all.new.sink in
     let first = c.in_ok-algorithm_text in
     let second = c.in_ok-schedule_text in

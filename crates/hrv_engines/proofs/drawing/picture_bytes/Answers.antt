@@ -1,7 +1,7 @@
 use Rattle.std.proofs.Common.{ap, refl, subst}
 use Rattle.std.specs.Prelude.{map}
 use Rattle.std.specs.String.{string_bytes}
-use Rattle.hrv_engines.specs.Devices.{both, sink_of, text_of, texts_of}
+use Rattle.hrv_engines.specs.Devices.{algorithm_text_of, both, picture_texts_of, sink_of}
 use Rattle.hrv_engines.specs.Drawing.{IsDrawing, IsRefusedDrawing}
 use Rattle.hrv_engines.specs.Engine.{Writes}
 use Rattle.hrv_engines.proofs.Steps.{unmeant, written}
@@ -9,8 +9,8 @@ use Rattle.hrv_engines.proofs.drawing.picture_bytes.Goals as goal
 
 pub returns-in_err-text : goal.returns-in_err-text
 returns-in_err-text g c =
-    let algorithm = text_of g.A.Source.place g.A.Source.failed g.A.Source.gave g.A.Source.ended c.args.algorithm.now c.read_text.new.source in
-    let inputs = texts_of g.I.Source.place g.I.Source.failed g.I.Source.gave g.I.Source.ended c.args.inputs.now c.read_texts.new.sources in
+    let algorithm = algorithm_text_of g.A.Source.place g.A.Source.failed g.A.Source.gave g.A.Source.ended c.args.algorithm.now c.read_algorithm.new.source in
+    let inputs = picture_texts_of g.I.Source.place g.I.Source.failed g.I.Source.gave g.I.Source.ended c.args.inputs.now c.read_texts.new.sources in
     let out = sink_of g.O.Sink.place g.O.Sink.failed g.O.Sink.took c.args.out.now c.args.out.now in
     let first = c.in_ok-algorithm_text in
     let second = c.in_ok-input_texts in
@@ -20,8 +20,8 @@ returns-in_err-text g c =
 
 pub returns : goal.returns
 returns g c =
-    let algorithm = text_of g.A.Source.place g.A.Source.failed g.A.Source.gave g.A.Source.ended c.args.algorithm.now c.read_text.new.source in
-    let inputs = texts_of g.I.Source.place g.I.Source.failed g.I.Source.gave g.I.Source.ended c.args.inputs.now c.read_texts.new.sources in
+    let algorithm = algorithm_text_of g.A.Source.place g.A.Source.failed g.A.Source.gave g.A.Source.ended c.args.algorithm.now c.read_algorithm.new.source in
+    let inputs = picture_texts_of g.I.Source.place g.I.Source.failed g.I.Source.gave g.I.Source.ended c.args.inputs.now c.read_texts.new.sources in
     let out = sink_of g.O.Sink.place g.O.Sink.failed g.O.Sink.took c.args.out.now c.write_all.new.sink in
     let first = c.in_ok-algorithm_text in
     let second = c.in_ok-input_texts in

@@ -1,15 +1,15 @@
 use Rattle.std.proofs.Common.{refl, subst}
 use Rattle.std.specs.String.{string_bytes}
 use Rattle.hrv_engines.specs.Map.{IsMap, IsRefusedMap}
-use Rattle.hrv_engines.specs.Devices.{both, sink_of, text_of}
+use Rattle.hrv_engines.specs.Devices.{algorithm_text_of, both, sink_of, text_of}
 use Rattle.hrv_engines.specs.Engine.{Writes}
 use Rattle.hrv_engines.proofs.Steps.{unmeant, written}
 use Rattle.hrv_engines.proofs.mapping.map_bytes.Goals as goal
 
 pub returns-in_err-text : goal.returns-in_err-text
 returns-in_err-text g c =
-    let algorithm = text_of g.A.Source.place g.A.Source.failed g.A.Source.gave g.A.Source.ended c.args.algorithm.now c.read_text.new.source in
-    let schedule = text_of g.S.Source.place g.S.Source.failed g.S.Source.gave g.S.Source.ended c.args.schedule.now c.read_text-2.new.source in
+    let algorithm = algorithm_text_of g.A.Source.place g.A.Source.failed g.A.Source.gave g.A.Source.ended c.args.algorithm.now c.read_algorithm.new.source in
+    let schedule = text_of g.S.Source.place g.S.Source.failed g.S.Source.gave g.S.Source.ended c.args.schedule.now c.read_text.new.source in
     let out = sink_of g.O.Sink.place g.O.Sink.failed g.O.Sink.took c.args.out.now c.args.out.now in
     let first = c.in_ok-algorithm_text in
     let second = c.in_ok-schedule_text in
@@ -20,8 +20,8 @@ returns-in_err-text g c =
 
 pub returns : goal.returns
 returns g c =
-    let algorithm = text_of g.A.Source.place g.A.Source.failed g.A.Source.gave g.A.Source.ended c.args.algorithm.now c.read_text.new.source in
-    let schedule = text_of g.S.Source.place g.S.Source.failed g.S.Source.gave g.S.Source.ended c.args.schedule.now c.read_text-2.new.source in
+    let algorithm = algorithm_text_of g.A.Source.place g.A.Source.failed g.A.Source.gave g.A.Source.ended c.args.algorithm.now c.read_algorithm.new.source in
+    let schedule = text_of g.S.Source.place g.S.Source.failed g.S.Source.gave g.S.Source.ended c.args.schedule.now c.read_text.new.source in
     let out = sink_of g.O.Sink.place g.O.Sink.failed g.O.Sink.took c.args.out.now c.write_all.new.sink in
     let first = c.in_ok-algorithm_text in
     let second = c.in_ok-schedule_text in
