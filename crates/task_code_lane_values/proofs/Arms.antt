@@ -27,7 +27,8 @@ use Rattle.task_code_lanes.specs.Groups.{slots, slot}
 use Rattle.task_code_lane_values.specs.declared.vectorized.Lanes.{Lanes}
 use Rattle.task_code_lane_values.specs.Leaving.{MakesLanes}
 use Rattle.task_code_lane_values.specs.inner.Parts.{IsSteady, MakesScalar, MakesSteady, MakesEach, MakesPoint, Nothing}
-use Rattle.task_code_lane_values.specs.inner.Parts.{TurnsOne, TurnsBy, TurnsTwo, AnyWord, LoadsPoint, Chooses}
+use Rattle.task_code_lane_values.specs.inner.Parts.{TurnsOne, TurnsBy, TurnsTwo, TurnsThree, AnyWord, LoadsPoint, Chooses}
+use Rattle.task_code_lane_values.proofs.Choosing.{by-condition, by-one, by-other}
 use Rattle.task_code_lane_values.proofs.Composing.{each-spread, each-one, each-by, each-two, each-three}
 
 module _ (places : Places) (scope : List Held) (own : Lanes) (k : ℕ) (in-stack : k < slots own.group) where
@@ -110,6 +111,21 @@ module _ (places : Places) (scope : List Held) (own : Lanes) (k : ℕ) (in-stack
       → Left c0 c1 k p → Left c1 c2 next q
       → TurnsTwo c2 c3 own.group k (word.applied o) → Left c0 c3 k x
   two-next x a b p q o next c0 c1 c2 c3 eo ep eq en first second z = two-arm x a b p q o c0 c1 c2 c3 eo ep eq first (subst (λ j. Left c1 c2 j q) en second) z
+
+  -- the second operand is made first
+  pub turned-next : (x a b p q : Expr) (o : Operation) (next : ℕ) (c0 c1 c2 c3 : List ℕ) → x ≡ e.Binary o a b → p ≡ a → q ≡ b → next ≡ k + 1
+      → Left c0 c1 k q → Left c1 c2 next p
+      → TurnsTwo c2 c3 own.group k (λ y z. word.applied o z y) → Left c0 c3 k x
+  turned-next x a b p q o next c0 c1 c2 c3 eo ep eq en second first z =
+      let beside = subst (λ j. Left c1 c2 j p) en first in
+      lanes-as c0 c3 x (e.Binary o a b) eo
+      (lanes-of c0 c3 (e.Binary o a b) (λ w m reads values i. May b w m reads values i × May a w m reads values i)
+      (λ reads values i. word.applied o (value reads (with own.counter i values) a) (value reads (with own.counter i values) b))
+      (λ w m reads values n some all i lt. let each = parts-of o a b w m reads values i (all i lt) in (each.1, each.0))
+      (λ reads values i. sym (value_binary reads (at i values) o a b))
+      (each-two places scope own k in-stack c0 c1 c2 c3 (May b) (May a) (λ reads values i. value reads (with own.counter i values) b)
+      (λ reads values i. value reads (with own.counter i values) a)
+      (λ y z. word.applied o z y) (each-of c0 c1 k b (subst (Left c0 c1 k) eq second)) (each-of c1 c2 (k + 1) a (subst (Left c1 c2 (k + 1)) ep beside)) z))
 
   -- the second operand is a scalar
   pub second-arm : (x a b p q : Expr) (o : Operation) (s : ℕ) (c0 c1 c2 c3 : List ℕ) → x ≡ e.Binary o a b → p ≡ a → q ≡ b → IsSteady own.counter q
@@ -201,31 +217,70 @@ module _ (places : Places) (scope : List Held) (own : Lanes) (k : ℕ) (in-stack
 
   -- ---- choices
 
-  pub choice-arm : (x c a b o p q : Expr) (next last : ℕ) (c0 c1 c2 c3 c4 : List ℕ) → k + 2 < slots own.group → x ≡ e.Select c a b → o ≡ c → p ≡ a
-      → q ≡ b → next ≡ k + 1 → last ≡ k + 2
-      → Left c0 c1 k o → Left c1 c2 next p → Left c2 c3 last q → Chooses c3 c4 own.group k → Left c0 c4 k x
-  choice-arm x c a b o p q next last c0 c1 c2 c3 c4 room es eo ep eq en el condition first second z =
-      let vc : Reads → Values → ℕ → ℕ = (λ reads values i. value reads (with own.counter i values) c) in
-      let va : Reads → Values → ℕ → ℕ = (λ reads values i. value reads (with own.counter i values) a) in
-      let vb : Reads → Values → ℕ → ℕ = (λ reads values i. value reads (with own.counter i values) b) in
-      lanes-as c0 c4 x (e.Select c a b) es
-      (lanes-of c0 c4 (e.Select c a b) (λ w m reads values i. May c w m reads values i × (May a w m reads values i × May b w m reads values i))
-      (λ reads values i. if vc reads values i == 0 then vb reads values i else va reads values i)
-      (λ w m reads values n some all i lt.
+  -- what memory has to have for the parts of a choice
+  parts-of-choice : (c a b : Expr) (w : World) (m : List ℕ) (reads : Reads) (values : Values) (i : ℕ) → May (e.Select c a b) w m reads values i
+      → May c w m reads values i × (May a w m reads values i × May b w m reads values i)
+  parts-of-choice c a b w m reads values i all =
       let each = all_parts (Loads w places m reads) (loads reads (at i values) c) (loads reads (at i values) a ++ loads reads (at i values) b)
-      (subst (AllByRecursion (Loads w places m reads)) (loads_select reads (at i values) c a b) (all i lt)) in
-      (each.0, all_parts (Loads w places m reads) (loads reads (at i values) a) (loads reads (at i values) b) each.1))
-      (λ reads values i. sym (value_select reads (at i values) c a b))
-      (each-three places scope own k in-stack room c0 c1 c2 c3 c4 (May c) (May a) (May b) vc va vb (each-of c0 c1 k c (subst (Left c0 c1 k) eo condition))
-      (each-of c1 c2 (k + 1) a (subst (λ j. Left c1 c2 j a) en (subst (Left c1 c2 next) ep first))) (each-of c2 c3 (k + 2) b (subst
-      (λ j. Left c2 c3 j b) el (subst (Left c2 c3 last) eq second))) z))
+      (subst (AllByRecursion (Loads w places m reads)) (loads_select reads (at i values) c a b) all) in
+      (each.0, all_parts (Loads w places m reads) (loads reads (at i values) a) (loads reads (at i values) b) each.1)
 
-  pub choice-next : (x c a b o p q : Expr) (next last : ℕ) (c0 c1 c2 c3 c4 : List ℕ) → x ≡ e.Select c a b → o ≡ c → p ≡ a → q ≡ b → next ≡ k + 1
-      → last ≡ next + 1 → next + 1 < slots own.group
-      → Left c0 c1 k o → Left c1 c2 next p → Left c2 c3 last q → Chooses c3 c4 own.group k → Left c0 c4 k x
-  choice-next x c a b o p q next last c0 c1 c2 c3 c4 es eo ep eq en el room condition first second z =
-      let e2 : next + 1 ≡ k + 2 = omega (arith, en) in
-      choice-arm x c a b o p q next last c0 c1 c2 c3 c4 (subst (λ n. n < slots own.group) e2 room) es eo ep eq en (el ∙ e2) condition first second z
+  abbrev chosen : ℕ → ℕ → ℕ → ℕ
+  chosen c a b = if c == 0 then b else a
+
+  abbrev worth : Expr → Reads → Values → ℕ → ℕ
+  worth x reads values i = value reads (with own.counter i values) x
+
+  -- three parts, in the order in which they are made
+  three-arm : (x y1 y2 y3 p1 p2 p3 : Expr) (says : ℕ → ℕ → ℕ → ℕ) (next last : ℕ) (c0 c1 c2 c3 c4 : List ℕ) → p1 ≡ y1 → p2 ≡ y2 → p3 ≡ y3
+      → next ≡ k + 1 → last ≡ next + 1 → next + 1 < slots own.group
+      → ((w : World) (m : List ℕ) (reads : Reads) (values : Values) (i : ℕ) → May x w m reads values i
+      → May y1 w m reads values i × (May y2 w m reads values i × May y3 w m reads values i))
+      → ((reads : Reads) (values : Values) (i : ℕ) → says (worth y1 reads values i) (worth y2 reads values i) (worth y3 reads values i) ≡ worth x reads values i)
+      → Left c0 c1 k p1 → Left c1 c2 next p2 → Left c2 c3 last p3 → TurnsThree c3 c4 own.group k says → Left c0 c4 k x
+  three-arm x y1 y2 y3 p1 p2 p3 says next last c0 c1 c2 c3 c4 e1 e2 e3 en el room can is first second third z =
+      let elast : last ≡ k + 2 = omega (arith, en, el) in
+      lanes-of c0 c4 x (λ w m reads values i. May y1 w m reads values i × (May y2 w m reads values i × May y3 w m reads values i))
+      (λ reads values i. says (worth y1 reads values i) (worth y2 reads values i) (worth y3 reads values i))
+      (λ w m reads values n some all i lt. can w m reads values i (all i lt)) is
+      (each-three places scope own k in-stack (omega (arith, en, room)) c0 c1 c2 c3 c4 (May y1) (May y2) (May y3) (worth y1) (worth y2) (worth y3) says
+      (each-of c0 c1 k y1 (subst (Left c0 c1 k) e1 first))
+      (each-of c1 c2 (k + 1) y2 (subst (λ j. Left c1 c2 j y2) en (subst (Left c1 c2 next) e2 second)))
+      (each-of c2 c3 (k + 2) y3 (subst (λ j. Left c2 c3 j y3) elast (subst (Left c2 c3 last) e3 third))) z)
+
+  module _ (x c a b o p q : Expr) (next last : ℕ) (c0 c1 c2 c3 c4 : List ℕ) (es : x ≡ e.Select c a b) (eo : o ≡ c) (ep : p ≡ a) (eq : q ≡ b)
+      (en : next ≡ k + 1) (el : last ≡ next + 1) (room : next + 1 < slots own.group) where
+    -- a choice where groups number what they number
+    choice-at : (i j h i' j' h' : ℕ) → i ≡ i' → j ≡ j' → h ≡ h' → Chooses c3 c4 own.group k i j h → Chooses c3 c4 own.group k i' j' h'
+    choice-at i j h i' j' h' ei ej eh z =
+        subst (λ u. Chooses c3 c4 own.group k i' j' u) eh (subst (λ u. Chooses c3 c4 own.group k i' u h) ej (subst (λ u. Chooses c3 c4 own.group k u j h) ei z))
+
+    last-is : last ≡ k + 2
+    last-is = omega (arith, en, el)
+
+    pub condition-next : Left c0 c1 k o → Left c1 c2 next p → Left c2 c3 last q → Chooses c3 c4 own.group k k next last → Left c0 c4 k x
+    condition-next first second third z =
+        lanes-as c0 c4 x (e.Select c a b) es
+        (three-arm (e.Select c a b) c a b o p q chosen next last c0 c1 c2 c3 c4 eo ep eq en el room
+        (λ w m reads values i all. let each = parts-of-choice c a b w m reads values i all in (each.0, (each.1.0, each.1.1)))
+        (λ reads values i. sym (value_select reads (at i values) c a b)) first second third
+        (by-condition own.group k c3 c4 (choice-at k next last k (k + 1) (k + 2) refl en last-is z)))
+
+    pub one-next : Left c0 c1 k p → Left c1 c2 next o → Left c2 c3 last q → Chooses c3 c4 own.group k next k last → Left c0 c4 k x
+    one-next first second third z =
+        lanes-as c0 c4 x (e.Select c a b) es
+        (three-arm (e.Select c a b) a c b p o q (λ y t z. chosen t y z) next last c0 c1 c2 c3 c4 ep eo eq en el room
+        (λ w m reads values i all. let each = parts-of-choice c a b w m reads values i all in (each.1.0, (each.0, each.1.1)))
+        (λ reads values i. sym (value_select reads (at i values) c a b)) first second third
+        (by-one own.group k c3 c4 (choice-at next k last (k + 1) k (k + 2) en refl last-is z)))
+
+    pub other-next : Left c0 c1 k q → Left c1 c2 next o → Left c2 c3 last p → Chooses c3 c4 own.group k next last k → Left c0 c4 k x
+    other-next first second third z =
+        lanes-as c0 c4 x (e.Select c a b) es
+        (three-arm (e.Select c a b) b c a q o p (λ z t y. chosen t y z) next last c0 c1 c2 c3 c4 eq eo ep en el room
+        (λ w m reads values i all. let each = parts-of-choice c a b w m reads values i all in (each.1.1, (each.0, each.1.0)))
+        (λ reads values i. sym (value_select reads (at i values) c a b)) first second third
+        (by-other own.group k c3 c4 (choice-at next last k (k + 1) (k + 2) k en last-is refl z)))
 
   -- ---- pixels
 

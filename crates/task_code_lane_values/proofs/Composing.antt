@@ -1,6 +1,6 @@
 -- Code over lanes that goes on behind other code.
 use Rattle.std.proofs.Common.{◌≡◌, ℕ, ◌+◌, ◌*◌, ◌^◌, ◌<◌, ◌≤◌, List, [], ◌∷◌, ◌++◌, length, refl, ◌∙◌, sym, subst, arith, inl, inr}
-use Rattle.std.specs.Prelude.{◌≢◌, ◌⊎◌, ◌%◌, ◌==◌, if◌then◌else◌}
+use Rattle.std.specs.Prelude.{◌≢◌, ◌⊎◌, ◌%◌}
 use Rattle.std.proofs.lemmas.Bool.{cases_lt}
 use Rattle.rv_insn.specs.declared.instructions.Insn.{Insn}
 use Rattle.rv_insn.specs.declared.instructions.Insn.TheVariants.{Vector}
@@ -27,7 +27,7 @@ use Rattle.task_code_lanes.proofs.Slots.{slot-lies}
 use Rattle.task_code_lanes.proofs.Rows as rows
 use Rattle.task_code_lane_values.specs.declared.vectorized.Lanes.{Lanes}
 use Rattle.task_code_lane_values.specs.Leaving.{IsUnder, LeavesLanes}
-use Rattle.task_code_lane_values.specs.inner.Parts.{MakesScalar, MakesEach, TurnsOne, TurnsBy, TurnsTwo, Chooses, Nothing}
+use Rattle.task_code_lane_values.specs.inner.Parts.{MakesScalar, MakesEach, TurnsOne, TurnsBy, TurnsTwo, TurnsThree, Nothing}
 
 -- ---- what stays
 
@@ -285,13 +285,13 @@ module _ (places : Places) (scope : List Held) (own : Lanes) (k : ℕ) (in-stack
         };
   }
 
-  -- a choice of two groups by a third one
-  pub each-three : k + 2 < slots own.group → (c0 c1 c2 c3 c4 : List ℕ) (mc ma mb : MayEach) (xc xa xb : Reads → Values → ℕ → ℕ)
+  -- an operation on three groups
+  pub each-three : k + 2 < slots own.group → (c0 c1 c2 c3 c4 : List ℕ) (mc ma mb : MayEach) (xc xa xb : Reads → Values → ℕ → ℕ) (says : ℕ → ℕ → ℕ → ℕ)
       → MakesEach c0 c1 places scope own k mc xc
-      → MakesEach c1 c2 places scope own (k + 1) ma xa → MakesEach c2 c3 places scope own (k + 2) mb xb → Chooses c3 c4 own.group k
+      → MakesEach c1 c2 places scope own (k + 1) ma xa → MakesEach c2 c3 places scope own (k + 2) mb xb → TurnsThree c3 c4 own.group k says
       → MakesEach c0 c4 places scope own k (λ w m reads values i. mc w m reads values i × (ma w m reads values i × mb w m reads values i))
-      (λ reads values i. if xc reads values i == 0 then xb reads values i else xa reads values i)
-  each-three room c0 c1 c2 c3 c4 mc ma mb xc xa xb o x y z = record {
+      (λ reads values i. says (xc reads values i) (xa reads values i) (xb reads values i))
+  each-three room c0 c1 c2 c3 c4 mc ma mb xc xa xb says o x y z = record {
     insns = o.insns ++ (x.insns ++ (y.insns ++ z.insns));
     emits = emits_then o.emits (emits_then x.emits (emits_then y.emits z.emits));
     does = λ w m values reads n f l are holders knows has some few may.
@@ -311,7 +311,7 @@ module _ (places : Places) (scope : List Held) (own : Lanes) (k : ℕ) (in-stack
         (lane (slot own.group k) i) h ∙ s.value i b) in
         let ex : (i : ℕ) → i < n → q.after (lane (slot own.group (k + 1)) i) ≡ xa reads values i =
         (λ i b. q.keeps (lane (slot own.group (k + 1)) i) (slot-under-two own.group k i n in-next few b) ∙ p.value i b) in
-        let t = z.does w m n q.after (xc reads values) (xa reads values) (xb reads values) l hq ec ex q.value p.small q.small in
+        let t = z.does w m n q.after (xc reads values) (xa reads values) (xb reads values) l hq ec ex q.value s.small p.small q.small in
         record {
           after = t.after;
           line = line-then w o.insns (x.insns ++ (y.insns ++ z.insns)) f s.after t.after m m m s.line

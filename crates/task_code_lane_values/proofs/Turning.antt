@@ -1,28 +1,34 @@
 -- Operations on lanes.
-use Rattle.std.proofs.Common.{◌≡◌, ℕ, ◌+◌, ◌*◌, ◌%◌, ◌^◌, ◌<◌, List, [], ◌∷◌, true, refl, ap, ◌∙◌, sym, subst, arith}
-use Rattle.std.specs.Prelude.{if◌then◌else◌}
+use Rattle.std.proofs.Common.{◌≡◌, ℕ, ◌+◌, ◌*◌, ◌%◌, ◌^◌, ◌<◌, List, [], ◌∷◌, length, Bool, true, refl, ap, ◌∙◌, sym, subst, arith}
+use Rattle.std.specs.Prelude.{◌==◌, if◌then◌else◌, not}
 use Rattle.rv_insn.specs.declared.instructions.Insn.TheVariants.{Vector}
 use Rattle.rv_insn.specs.declared.vector_instructions.VectorInsn.TheVariants as v
+use Rattle.rv_insn.specs.declared.vector_operations.ArithmeticVvOp.{ArithmeticVvOp}
+use Rattle.rv_insn.specs.declared.vector_operations.ArithmeticVvOp.TheVariants as vvs
 use Rattle.rv_insn.specs.declared.vector_operations.ArithmeticVxOp.{ArithmeticVxOp}
 use Rattle.rv_insn.specs.declared.vector_operations.ArithmeticVxOp.TheVariants as vxs
+use Rattle.rv_insn.specs.declared.vector_operations.CompareVvOp.{CompareVvOp}
+use Rattle.rv_insn.specs.declared.vector_operations.CompareVvOp.TheVariants as compares
 use Rattle.rv_insn.specs.declared.vector_operations.MultiplyOp.TheVariants as multiplies
+use Rattle.hart_core.specs.Alu.{one_if}
 use Rattle.lanes.specs.Words as lanes
-use Rattle.vector_unit.specs.Operations.{arithmetic_vx}
+use Rattle.vector_unit.specs.Operations.{arithmetic_vv, arithmetic_vx, compare_vv}
 use Rattle.halide_pipeline.specs.declared.expressions.Operation.{Operation}
 use Rattle.halide_pipeline.specs.declared.expressions.Operation.TheVariants as op
 use Rattle.halide_pipeline.specs.Words as word
-use Rattle.multi_hart_logic.specs.Paths.{lane}
+use Rattle.multi_hart_logic.specs.Alone.{World}
+use Rattle.multi_hart_logic.specs.Paths.{lane, IsGroup}
 use Rattle.multi_hart_logic.proofs.VectorRows as vector
 use Rattle.task_code_scalar.specs.Words.{Emits}
 use Rattle.task_code_scalar.proofs.Evaluation.{applied-below}
 use Rattle.task_code_scalar.proofs.Numbers.{less-is}
 use Rattle.task_code_lanes.specs.declared.groups.Group.{Group}
 use Rattle.task_code_lanes.specs.Groups.{registers, slots, slot}
-use Rattle.task_code_lanes.specs.Lanes.{lanes_operation}
+use Rattle.task_code_lanes.specs.Lanes.{compared}
 use Rattle.task_code_lanes.proofs.Slots.{SlotLies, slot-lies}
 use Rattle.task_code_lanes.proofs.Rows as rows
-use Rattle.task_code_lanes.proofs.Operations.{operation-leaves}
-use Rattle.task_code_lane_values.specs.inner.Parts.{TurnsBy, TurnsTwo, AnyWord, IsBy, IsTurnedBy}
+use Rattle.task_code_lanes.proofs.Operations.{Hold, Small, arithmetic-writes, product-writes, compared-leaves}
+use Rattle.task_code_lane_values.specs.inner.Parts.{TurnsBy, TurnsTwo, AnyWord, IsBy, IsTurnedBy, operation_rows}
 use Rattle.task_code_lane_values.proofs.Composing.{left-of}
 
 -- ---- instructions with a register
@@ -55,6 +61,41 @@ by-as-is o other own e is = subst (λ z. IsBy z own) (sym e) is
 pub turned-as-is : (o other : Operation) (own : ArithmeticVxOp) → o ≡ other → IsTurnedBy other own → IsTurnedBy o own
 turned-as-is o other own e is = subst (λ z. IsTurnedBy z own) (sym e) is
 
+-- ---- two groups
+
+module _ (w : World) (m : List ℕ) (l : length m ≡ w.size) (group : Group) (n k : ℕ) (lies : SlotLies group k) (a b : ℕ) (ia : IsGroup (registers group) a)
+    (ib : IsGroup (registers group) b) (f x y : ℕ → ℕ) (has : rows.Lanes w m l group n f) (hx : Hold w m l group n f a x) (hy : Hold w m l group n f b y)
+    (lx : Small w m l group n x) (ly : Small w m l group n y) where
+  abbrev d : ℕ
+  d = slot group k
+
+  by-vv : (o : ArithmeticVvOp) (h : ℕ → ℕ) → ((i : ℕ) → i < n → arithmetic_vv o 32 (x i) (y i) ≡ h i)
+      → rows.Leaves w m l group n (Vector (v.ArithmeticVv o d a b true) ∷ []) f k h
+  by-vv o h same =
+      rows.same-values w m l group n k lies same (rows.last w m l group n k lies
+      (arithmetic-writes w m l group n f has o d a b x y lies.is_group ia ib hx hy))
+
+  by-comparison : (o : CompareVvOp) (p q : ℕ) (z t : ℕ → ℕ) (h : ℕ → Bool) → IsGroup (registers group) p → IsGroup (registers group) q
+      → Hold w m l group n f p z → Hold w m l group n f q t → ((i : ℕ) → i < n → compare_vv o 32 (z i) (t i) ≡ h i)
+      → rows.Leaves w m l group n (compared o d p q) f k (λ i. one_if (h i))
+  by-comparison o p q z t h ip iq hz ht same = compared-leaves w m l group n k lies o f p q z t h has ip iq hz ht same
+
+  pub rows-leave : (o : Operation) → rows.Leaves w m l group n (operation_rows o d a b) f k (λ i. word.applied o (x i) (y i))
+  unfolding word.add word.subtract word.multiply
+  rows-leave op.Add = by-vv vvs.Vadd _ (λ i lt. refl)
+  rows-leave op.Subtract = by-vv vvs.Vsub _ (λ i lt. refl)
+  rows-leave op.Multiply = rows.last w m l group n k lies (product-writes w m l group n f has d a b x y lies.is_group ia ib hx hy)
+  rows-leave op.Minimum = by-vv vvs.Vmin _ (λ i lt. ap (λ c. if c then y i else x i) (less-is (y i) (x i) (ly i lt) (lx i lt)))
+  rows-leave op.Maximum = by-vv vvs.Vmax _ (λ i lt. ap (λ c. if c then y i else x i) (less-is (x i) (y i) (lx i lt) (ly i lt)))
+  rows-leave op.Less = by-comparison compares.Vmslt a b x y (λ i. word.less (x i) (y i)) ia ib hx hy (λ i lt. less-is (x i) (y i) (lx i lt) (ly i lt))
+  rows-leave op.LessOrEqual =
+      by-comparison compares.Vmsle a b x y (λ i. not (word.less (y i) (x i))) ia ib hx hy (λ i lt. ap not (less-is (y i) (x i) (ly i lt) (lx i lt)))
+  rows-leave op.Greater = by-comparison compares.Vmslt b a y x (λ i. word.less (y i) (x i)) ib ia hy hx (λ i lt. less-is (y i) (x i) (ly i lt) (lx i lt))
+  rows-leave op.GreaterOrEqual =
+      by-comparison compares.Vmsle b a y x (λ i. not (word.less (x i) (y i))) ib ia hy hx (λ i lt. ap not (less-is (x i) (y i) (lx i lt) (ly i lt)))
+  rows-leave op.Equal = by-comparison compares.Vmseq a b x y (λ i. x i == y i) ia ib hx hy (λ i lt. refl)
+  rows-leave op.NotEqual = by-comparison compares.Vmsne a b x y (λ i. not (x i == y i)) ia ib hx hy (λ i lt. refl)
+
 -- ---- one instruction
 
 module _ (group : Group) (k : ℕ) (in-stack : k < slots group) where
@@ -64,22 +105,39 @@ module _ (group : Group) (k : ℕ) (in-stack : k < slots group) where
   abbrev lies : SlotLies group k
   lies = slot-lies group k in-stack
 
-  pub two-made : (o : Operation) (c0 c1 : List ℕ) → k + 1 < slots group → Emits c0 c1 (lanes_operation o (slot group k) (slot group (k + 1)))
+  two-made : (o : Operation) (c0 c1 : List ℕ) → k + 1 < slots group → Emits c0 c1 (operation_rows o r r (slot group (k + 1)))
       → TurnsTwo c0 c1 group k (word.applied o)
   two-made o c0 c1 next x = record {
-    insns = lanes_operation o (slot group k) (slot group (k + 1));
+    insns = operation_rows o r r (slot group (k + 1));
     emits = x;
     does = λ w m n f u t l has hu ht lu lt.
-        left-of w m l group n (lanes_operation o (slot group k) (slot group (k + 1))) f k (λ i. word.applied o (u i) (t i)) (λ i b. applied-below o (u i)
-        (t i) (lu i b) (lt i b))
-        (operation-leaves w m l group n k lies (slot group (k + 1)) (slot-lies group (k + 1) next).is_group f u t has hu ht lu lt o);
+        left-of w m l group n (operation_rows o r r (slot group (k + 1))) f k (λ i. word.applied o (u i) (t i)) (λ i b. applied-below o (u i) (t i)
+        (lu i b) (lt i b))
+        (rows-leave w m l group n k lies r (slot group (k + 1)) lies.is_group (slot-lies group (k + 1) next).is_group f u t has hu ht lu lt o);
+  }
+
+  turned-made : (o : Operation) (c0 c1 : List ℕ) → k + 1 < slots group → Emits c0 c1 (operation_rows o r (slot group (k + 1)) r)
+      → TurnsTwo c0 c1 group k (λ x y. word.applied o y x)
+  turned-made o c0 c1 next x = record {
+    insns = operation_rows o r (slot group (k + 1)) r;
+    emits = x;
+    does = λ w m n f u t l has hu ht lu lt.
+        left-of w m l group n (operation_rows o r (slot group (k + 1)) r) f k (λ i. word.applied o (t i) (u i)) (λ i b. applied-below o (t i) (u i)
+        (lt i b) (lu i b))
+        (rows-leave w m l group n k lies (slot group (k + 1)) r (slot-lies group (k + 1) next).is_group lies.is_group f t u has ht hu lt lu o);
   }
 
   pub two-as : (o : Operation) (a b : ℕ) (c0 c1 : List ℕ) → k + 1 < slots group → a ≡ slot group k → b ≡ slot group (k + 1) → Emits c0 c1
-      (lanes_operation o a b)
+      (operation_rows o a a b)
       → TurnsTwo c0 c1 group k (word.applied o)
-  two-as o a b c0 c1 next ea eb x = two-made o c0 c1 next (subst (λ z. Emits c0 c1 (lanes_operation o (slot group k) z)) eb (subst (λ z. Emits c0 c1
-      (lanes_operation o z b)) ea x))
+  two-as o a b c0 c1 next ea eb x = two-made o c0 c1 next (subst (λ z. Emits c0 c1 (operation_rows o r r z)) eb (subst (λ z. Emits c0 c1
+      (operation_rows o z z b)) ea x))
+
+  pub turned-as : (o : Operation) (a b : ℕ) (c0 c1 : List ℕ) → k + 1 < slots group → a ≡ slot group k → b ≡ slot group (k + 1) → Emits c0 c1
+      (operation_rows o a b a)
+      → TurnsTwo c0 c1 group k (λ x y. word.applied o y x)
+  turned-as o a b c0 c1 next ea eb x = turned-made o c0 c1 next (subst (λ z. Emits c0 c1 (operation_rows o r z r)) eb (subst (λ z. Emits c0 c1
+      (operation_rows o z b z)) ea x))
 
   module _ (s : ℕ) (low : s < 32) (c0 c1 : List ℕ) (says : ℕ → ℕ → ℕ) (small : (x c : ℕ) → x < 2 ^ 32 → c < 2 ^ 32 → says x c < 2 ^ 32) where
     pub by-arithmetic : (o : ArithmeticVxOp) → ((x c : ℕ) → x < 2 ^ 32 → c < 2 ^ 32 → arithmetic_vx o 32 x c ≡ says x c) → Emits c0 c1 (Vector

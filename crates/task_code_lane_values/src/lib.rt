@@ -13,6 +13,7 @@
 #![tactic(auto)]
 
 pub mod loads;
+mod needs;
 pub mod operations;
 pub mod points;
 pub mod scalars;

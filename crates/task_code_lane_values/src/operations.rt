@@ -7,9 +7,9 @@ ghost use Rattle.rv_insn.specs.declared.vector_operations.ShiftViOp.TheVariants.
 ghost use Rattle.halide_pipeline.specs.Words as word;
 ghost use Rattle.task_code_scalar.specs.Words.{Emits};
 ghost use Rattle.task_code_lanes.specs.Groups.{slots};
-ghost use Rattle.task_code_lanes.specs.Lanes.{compared, flagged, lanes_operation};
+ghost use Rattle.task_code_lanes.specs.Lanes.{compared, flagged};
 ghost use Rattle.task_code_lane_values.specs.inner.Parts.{AnyWord, Chooses, IsBy, IsComparedBy};
-ghost use Rattle.task_code_lane_values.specs.inner.Parts.{IsTurnedBy, TurnsBy, TurnsOne, TurnsTwo};
+ghost use Rattle.task_code_lane_values.specs.inner.Parts.{IsTurnedBy, TurnsBy, TurnsOne, TurnsTwo, operation_rows};
 
 use halide_pipeline::Operation;
 use rv_insn::{
@@ -52,22 +52,23 @@ fn emit_compared(
     Ok(())
 }
 
-fn emit_operation(code: &mut Vec<u32>, op: Operation, r: u8, s: u8) -> Result<(), AllocError>
-    requires { (r < 32) × (s < 32) }
-    ensures { OnOk result (Emits code.old.items code.new.items (lanes_operation op r s)) }
+/// Appends an operation on the lanes of two groups.
+fn emit_operation(code: &mut Vec<u32>, op: Operation, d: u8, a: u8, b: u8) -> Result<(), AllocError>
+    requires { (d < 32) × (a < 32) × (b < 32) }
+    ensures { OnOk result (Emits code.old.items code.new.items (operation_rows op d a b)) }
 {
     match op {
-        Operation::Add => arithmetic(code, ArithmeticVvOp::Vadd, r, r, s)?,
-        Operation::Subtract => arithmetic(code, ArithmeticVvOp::Vsub, r, r, s)?,
-        Operation::Multiply => multiplication(code, MultiplyOp::Vmul, r, r, s)?,
-        Operation::Minimum => arithmetic(code, ArithmeticVvOp::Vmin, r, r, s)?,
-        Operation::Maximum => arithmetic(code, ArithmeticVvOp::Vmax, r, r, s)?,
-        Operation::Less => emit_compared(code, CompareVvOp::Vmslt, r, r, s)?,
-        Operation::LessOrEqual => emit_compared(code, CompareVvOp::Vmsle, r, r, s)?,
-        Operation::Greater => emit_compared(code, CompareVvOp::Vmslt, r, s, r)?,
-        Operation::GreaterOrEqual => emit_compared(code, CompareVvOp::Vmsle, r, s, r)?,
-        Operation::Equal => emit_compared(code, CompareVvOp::Vmseq, r, r, s)?,
-        Operation::NotEqual => emit_compared(code, CompareVvOp::Vmsne, r, r, s)?,
+        Operation::Add => arithmetic(code, ArithmeticVvOp::Vadd, d, a, b)?,
+        Operation::Subtract => arithmetic(code, ArithmeticVvOp::Vsub, d, a, b)?,
+        Operation::Multiply => multiplication(code, MultiplyOp::Vmul, d, a, b)?,
+        Operation::Minimum => arithmetic(code, ArithmeticVvOp::Vmin, d, a, b)?,
+        Operation::Maximum => arithmetic(code, ArithmeticVvOp::Vmax, d, a, b)?,
+        Operation::Less => emit_compared(code, CompareVvOp::Vmslt, d, a, b)?,
+        Operation::LessOrEqual => emit_compared(code, CompareVvOp::Vmsle, d, a, b)?,
+        Operation::Greater => emit_compared(code, CompareVvOp::Vmslt, d, b, a)?,
+        Operation::GreaterOrEqual => emit_compared(code, CompareVvOp::Vmsle, d, b, a)?,
+        Operation::Equal => emit_compared(code, CompareVvOp::Vmseq, d, a, b)?,
+        Operation::NotEqual => emit_compared(code, CompareVvOp::Vmsne, d, a, b)?,
     }
     Ok(())
 }
@@ -82,7 +83,23 @@ pub(crate) fn emit_two(
     requires { k + 1 < slots group }
     ensures { OnOk result (TurnsTwo code.old.items code.new.items group k (word.applied op)) }
 {
-    emit_operation(code, op, group.slot(k), group.slot(k + 1))?;
+    let r = group.slot(k);
+    emit_operation(code, op, r, r, group.slot(k + 1))?;
+    Ok(())
+}
+
+/// The same, where the lanes of the next group are the first operands.
+pub(crate) fn emit_two_turned(
+    code: &mut Vec<u32>,
+    group: Group,
+    op: Operation,
+    k: u8,
+) -> Result<(), AllocError>
+    requires { k + 1 < slots group }
+    ensures { OnOk result (TurnsTwo code.old.items code.new.items group k (λ x y. word.applied op y x)) }
+{
+    let r = group.slot(k);
+    emit_operation(code, op, r, group.slot(k + 1), r)?;
     Ok(())
 }
 
@@ -340,14 +357,20 @@ pub(crate) fn emit_remainder(
 
 // ---- choices
 
-/// Appends a choice by the lanes of a group: of those of the next one where they are not 0, else of those of the
-/// one behind it.
-pub(crate) fn emit_choice(code: &mut Vec<u32>, group: Group, k: u8) -> Result<(), AllocError>
-    requires { k + 2 < slots group }
-    ensures { OnOk result (Chooses code.old.items code.new.items group k) }
+/// Appends a choice by the lanes of group c, into group k: of those of group a where they are not 0, else of those of
+/// group b.
+pub(crate) fn emit_choice(
+    code: &mut Vec<u32>,
+    group: Group,
+    k: u8,
+    c: u8,
+    a: u8,
+    b: u8,
+) -> Result<(), AllocError>
+    requires { (k < slots group) × ((c < slots group) × ((a < slots group) × (b < slots group))) }
+    ensures { OnOk result (Chooses code.old.items code.new.items group k c a b) }
 {
-    let r = group.slot(k);
-    test_nonzero(code, r)?;
-    merge(code, r, group.slot(k + 2), group.slot(k + 1))?;
+    test_nonzero(code, group.slot(c))?;
+    merge(code, group.slot(k), group.slot(b), group.slot(a))?;
     Ok(())
 }

@@ -41,12 +41,12 @@ pub fn is_steady(e: &Expr, counter: Counter) -> bool
     }
 }
 
-/// The same, where so many, the expression itself, its first operand and so on, are known to have several: it asks
-/// where none is.
+/// The same of one that the scalar stack has room for, where so many, the expression itself, its first operand and so
+/// on, are known to have several: it asks where none is.
 pub(crate) fn known_steady(e: &Expr, counter: Counter, known: u32) -> bool
     ensures { result ≡ true → IsSteady counter e.now }
 {
-    known == 0 && is_steady(e, counter)
+    known == 0 && is_steady(e, counter) && need(e) <= STACK
 }
 
 /// Whether what stands beside its first operand has several.

@@ -4,14 +4,15 @@ ghost use Rattle.std.specs.Prelude.{◌<◌, ◌≡◌, ◌+◌, IfOk, OnOk};
 ghost use Rattle.task_code_lanes.specs.Groups.{slots};
 ghost use Rattle.task_code_lane_values.specs.Leaving.{MakesDistances, MakesLanes};
 
+use crate::needs::{First, first_of_choice, is_turned};
 use crate::operations::{
     emit_by, emit_choice, emit_masked, emit_quotient, emit_remainder, emit_shifted, emit_turned,
-    emit_two, takes_first, takes_second,
+    emit_two, emit_two_turned, takes_first, takes_second,
 };
 use crate::points::{
     Row, both_sums, dense_column, emit_distances, emit_gather, emit_point, emit_row, emit_scattered,
 };
-use crate::scalars::{emit_literal, emit_steady, first_moving, is_steady, known_steady};
+use crate::scalars::{emit_literal, emit_steady, first_moving, known_steady};
 use crate::sums::emit_sum;
 use crate::vectorized::LaneSite;
 use loop_ir::expressions::Expr;
@@ -79,7 +80,40 @@ fn emit_results(
         emit_turned(code, site.lanes.group, *operation, k, s)?;
         return Ok(());
     }
+    emit_both(alloc, code, site, e, spot)?;
+    Ok(())
+}
+
+/// Appends an operation's values, of both operands in groups. The second one comes first where it takes all groups.
+#[cycle(values)]
+fn emit_both(
+    alloc: Global,
+    code: &mut Vec<u32>,
+    site: &LaneSite<'_>,
+    e: &Expr,
+    spot: Spot,
+) -> Result<(), CodeFault>
+    requires { spot.k < slots site.now.lanes.group }
+    ensures { OnOk result (MakesLanes code.old.items code.new.items site.now.places.now site.now.scope.now
+        site.now.lanes spot.k e.now) }
+{
+    let Expr::Binary(operation, a, b) = e else {
+        return Err(CodeFault::TooDeep);
+    };
+    let k = spot.k;
+    let first = a.get();
+    let second = b.get();
     let next = above(site.lanes.group, k)?;
+    if is_turned(first, second, site.lanes, k) {
+        let beside = Spot {
+            k: next.k,
+            moving: spot.moving,
+        };
+        emit_at(alloc, code, site, second, Spot { k, moving: 0 })?;
+        emit_at(alloc, code, site, first, beside)?;
+        emit_two_turned(code, site.lanes.group, *operation, k)?;
+        return Ok(());
+    }
     emit_at(alloc, code, site, first, spot)?;
     emit_at(alloc, code, site, second, next)?;
     emit_two(code, site.lanes.group, *operation, k)?;
@@ -147,9 +181,9 @@ fn emit_remainders(
     Ok(())
 }
 
-/// Appends choices' values.
+/// Appends choices' values: the condition, then those between which it chooses.
 #[cycle(values)]
-fn emit_choices(
+fn emit_condition_first(
     alloc: Global,
     code: &mut Vec<u32>,
     site: &LaneSite<'_>,
@@ -169,7 +203,91 @@ fn emit_choices(
     emit_at(alloc, code, site, condition.get(), spot)?;
     emit_at(alloc, code, site, a.get(), next)?;
     emit_at(alloc, code, site, b.get(), last)?;
-    emit_choice(code, site.lanes.group, k)?;
+    emit_choice(code, site.lanes.group, k, k, next.k, last.k)?;
+    Ok(())
+}
+
+/// The same, where what a condition chooses comes first.
+#[cycle(values)]
+fn emit_one_first(
+    alloc: Global,
+    code: &mut Vec<u32>,
+    site: &LaneSite<'_>,
+    e: &Expr,
+    spot: Spot,
+) -> Result<(), CodeFault>
+    requires { spot.k < slots site.now.lanes.group }
+    ensures { OnOk result (MakesLanes code.old.items code.new.items site.now.places.now site.now.scope.now
+        site.now.lanes spot.k e.now) }
+{
+    let Expr::Select(condition, a, b) = e else {
+        return Err(CodeFault::TooDeep);
+    };
+    let k = spot.k;
+    let next = above(site.lanes.group, k)?;
+    let last = above(site.lanes.group, next.k)?;
+    let beside = Spot {
+        k: next.k,
+        moving: spot.moving,
+    };
+    emit_at(alloc, code, site, a.get(), Spot { k, moving: 0 })?;
+    emit_at(alloc, code, site, condition.get(), beside)?;
+    emit_at(alloc, code, site, b.get(), last)?;
+    emit_choice(code, site.lanes.group, k, next.k, k, last.k)?;
+    Ok(())
+}
+
+/// Or what is chosen without it.
+#[cycle(values)]
+fn emit_other_first(
+    alloc: Global,
+    code: &mut Vec<u32>,
+    site: &LaneSite<'_>,
+    e: &Expr,
+    spot: Spot,
+) -> Result<(), CodeFault>
+    requires { spot.k < slots site.now.lanes.group }
+    ensures { OnOk result (MakesLanes code.old.items code.new.items site.now.places.now site.now.scope.now
+        site.now.lanes spot.k e.now) }
+{
+    let Expr::Select(condition, a, b) = e else {
+        return Err(CodeFault::TooDeep);
+    };
+    let k = spot.k;
+    let next = above(site.lanes.group, k)?;
+    let last = above(site.lanes.group, next.k)?;
+    let beside = Spot {
+        k: next.k,
+        moving: spot.moving,
+    };
+    emit_at(alloc, code, site, b.get(), Spot { k, moving: 0 })?;
+    emit_at(alloc, code, site, condition.get(), beside)?;
+    emit_at(alloc, code, site, a.get(), last)?;
+    emit_choice(code, site.lanes.group, k, next.k, last.k, k)?;
+    Ok(())
+}
+
+/// Appends choices' values.
+#[cycle(values)]
+fn emit_choices(
+    alloc: Global,
+    code: &mut Vec<u32>,
+    site: &LaneSite<'_>,
+    e: &Expr,
+    spot: Spot,
+) -> Result<(), CodeFault>
+    requires { spot.k < slots site.now.lanes.group }
+    ensures { OnOk result (MakesLanes code.old.items code.new.items site.now.places.now site.now.scope.now
+        site.now.lanes spot.k e.now) }
+{
+    let Expr::Select(condition, a, b) = e else {
+        return Err(CodeFault::TooDeep);
+    };
+    match first_of_choice(condition.get(), a.get(), b.get(), site.lanes, spot.k) {
+        First::Condition => emit_condition_first(alloc, code, site, e, spot)?,
+        First::One => emit_one_first(alloc, code, site, e, spot)?,
+        First::Other => emit_other_first(alloc, code, site, e, spot)?,
+    }
     Ok(())
 }
 
@@ -195,7 +313,7 @@ fn emit_pixels(
         emit_point(alloc, code, site, at, &sums, k)?;
         return Ok(());
     }
-    if is_steady(y.get(), site.lanes.counter) {
+    if known_steady(y.get(), site.lanes.counter, 0) {
         let row = Row {
             source: at,
             y: y.get(),

@@ -1,12 +1,18 @@
 -- What parts of code over lanes do: scalar operands, lanes of any numbers, and single operations. This project's own.
-use Rattle.std.specs.Prelude.{◌≡◌, ◌<◌, ◌≤◌, ℕ, ◌+◌, ◌*◌, ◌%◌, ◌^◌, ◌==◌, if◌then◌else◌, List, length}
+use Rattle.std.specs.Prelude.{◌≡◌, ◌<◌, ◌≤◌, ℕ, ◌+◌, ◌*◌, ◌%◌, ◌^◌, ◌==◌, if◌then◌else◌, true, List, [], ◌∷◌, length}
 use Rattle.std.specs.List.{AllByRecursion}
 use Rattle.rv_insn.specs.declared.instructions.Insn.{Insn}
+use Rattle.rv_insn.specs.declared.instructions.Insn.TheVariants.{Vector}
+use Rattle.rv_insn.specs.declared.vector_instructions.VectorInsn.TheVariants as v
+use Rattle.rv_insn.specs.declared.vector_operations.ArithmeticVvOp.TheVariants as vvs
+use Rattle.rv_insn.specs.declared.vector_operations.CompareVvOp.TheVariants as compares
+use Rattle.rv_insn.specs.declared.vector_operations.MultiplyOp.TheVariants as multiplies
 use Rattle.rv_insn.specs.declared.vector_operations.ArithmeticVxOp.{ArithmeticVxOp}
 use Rattle.rv_insn.specs.declared.vector_operations.CompareVxOp.{CompareVxOp}
 use Rattle.hart_core.specs.Alu.{one_if}
 use Rattle.vector_unit.specs.Operations.{arithmetic_vx, compare_vx}
 use Rattle.halide_pipeline.specs.declared.expressions.Operation.{Operation}
+use Rattle.halide_pipeline.specs.declared.expressions.Operation.TheVariants as operations
 use Rattle.halide_pipeline.specs.declared.expressions.Source.{Source}
 use Rattle.halide_pipeline.specs.Words as word
 use Rattle.halide_pipeline.specs.Pixel.{Reads}
@@ -30,6 +36,7 @@ use Rattle.task_code_registers.specs.Scopes.{Knows, AreHolders}
 use Rattle.task_code_values.specs.Making.{Leaves}
 use Rattle.task_code_lanes.specs.declared.groups.Group.{Group}
 use Rattle.task_code_lanes.specs.Groups.{registers, slot}
+use Rattle.task_code_lanes.specs.Lanes.{compared}
 use Rattle.task_code_lanes.specs.Leaving.{HasLanes}
 use Rattle.task_code_lane_values.specs.declared.vectorized.Lanes.{Lanes}
 use Rattle.task_code_lane_values.specs.Leaving.{LeavesLanes}
@@ -169,11 +176,34 @@ pub record TurnsTwo (old new : List ℕ) (group : Group) (k : ℕ) (says : ℕ �
       → ((i : ℕ) → i < count → x i < 2 ^ 32) → ((i : ℕ) → i < count → y i < 2 ^ 32)
       → LeavesLanes world memory insns f group k count (λ i. says (x i) (y i))
 
--- A lane of the next group stays where that of group k isn't 0, else one of the group behind it: in group k.
-pub record Chooses (old new : List ℕ) (group : Group) (k : ℕ) : Type 0 where
+-- And of the lane and those of the next two groups.
+pub record TurnsThree (old new : List ℕ) (group : Group) (k : ℕ) (says : ℕ → ℕ → ℕ → ℕ) : Type 0 where
   pub insns : List Insn
   pub emits : Emits old new insns
-  pub does : (world : World) (memory : List ℕ) (count : ℕ) (f c x y : ℕ → ℕ) → length memory ≡ world.size → HasLanes group count f
-      → ((i : ℕ) → i < count → f (lane (slot group k) i) ≡ c i) → ((i : ℕ) → i < count → f (lane (slot group (k + 1)) i) ≡ x i)
-      → ((i : ℕ) → i < count → f (lane (slot group (k + 2)) i) ≡ y i) → ((i : ℕ) → i < count → x i < 2 ^ 32) → ((i : ℕ) → i < count → y i < 2 ^ 32)
-      → LeavesLanes world memory insns f group k count (λ i. if c i == 0 then y i else x i)
+  pub does : (world : World) (memory : List ℕ) (count : ℕ) (f x y z : ℕ → ℕ) → length memory ≡ world.size → HasLanes group count f
+      → ((i : ℕ) → i < count → f (lane (slot group k) i) ≡ x i) → ((i : ℕ) → i < count → f (lane (slot group (k + 1)) i) ≡ y i)
+      → ((i : ℕ) → i < count → f (lane (slot group (k + 2)) i) ≡ z i) → ((i : ℕ) → i < count → x i < 2 ^ 32) → ((i : ℕ) → i < count → y i < 2 ^ 32)
+      → ((i : ℕ) → i < count → z i < 2 ^ 32) → LeavesLanes world memory insns f group k count (λ i. says (x i) (y i) (z i))
+
+-- Group k gets a lane of group a where that of group c isn't 0, else one of group b.
+pub record Chooses (old new : List ℕ) (group : Group) (k c a b : ℕ) : Type 0 where
+  pub insns : List Insn
+  pub emits : Emits old new insns
+  pub does : (world : World) (memory : List ℕ) (count : ℕ) (f t x y : ℕ → ℕ) → length memory ≡ world.size → HasLanes group count f
+      → ((i : ℕ) → i < count → f (lane (slot group c) i) ≡ t i) → ((i : ℕ) → i < count → f (lane (slot group a) i) ≡ x i)
+      → ((i : ℕ) → i < count → f (lane (slot group b) i) ≡ y i) → ((i : ℕ) → i < count → x i < 2 ^ 32) → ((i : ℕ) → i < count → y i < 2 ^ 32)
+      → LeavesLanes world memory insns f group k count (λ i. if t i == 0 then y i else x i)
+
+-- the instructions of an operation on the lanes of groups at a and at b, into those at d
+abbrev pub operation_rows : Operation → ℕ → ℕ → ℕ → List Insn
+operation_rows operations.Add d a b = Vector (v.ArithmeticVv vvs.Vadd d a b true) ∷ []
+operation_rows operations.Subtract d a b = Vector (v.ArithmeticVv vvs.Vsub d a b true) ∷ []
+operation_rows operations.Multiply d a b = Vector (v.MultiplyVv multiplies.Vmul d a b true) ∷ []
+operation_rows operations.Minimum d a b = Vector (v.ArithmeticVv vvs.Vmin d a b true) ∷ []
+operation_rows operations.Maximum d a b = Vector (v.ArithmeticVv vvs.Vmax d a b true) ∷ []
+operation_rows operations.Less d a b = compared compares.Vmslt d a b
+operation_rows operations.LessOrEqual d a b = compared compares.Vmsle d a b
+operation_rows operations.Greater d a b = compared compares.Vmslt d b a
+operation_rows operations.GreaterOrEqual d a b = compared compares.Vmsle d b a
+operation_rows operations.Equal d a b = compared compares.Vmseq d a b
+operation_rows operations.NotEqual d a b = compared compares.Vmsne d a b

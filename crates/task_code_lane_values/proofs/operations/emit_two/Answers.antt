@@ -7,4 +7,4 @@ pub returns : goal.returns
 returns c =
     let next = c.requires in
     let low : c.args.k < slots c.args.group = omega (arith, next) in
-    two-as c.args.group c.args.k low c.args.op _ _ _ _ c.requires c.slot.ensures.0 c.slot-2.ensures.0 c.in_ok-emit_operation.ensures
+    two-as c.args.group c.args.k low c.args.op _ _ _ _ c.requires c.slot-r.ensures.0 c.slot.ensures.0 c.in_ok-emit_operation.ensures

@@ -1,7 +1,8 @@
 use Rattle.std.proofs.Common.{subst}
 use Rattle.std.specs.Prelude.{IfSome}
 use Rattle.task_code_values.specs.Operands.{IsSum}
-use Rattle.task_code_lane_values.proofs.Arms.{steady-as, two-next, second-arm, first-arm, divide-arm, shift-arm, point-arm, remainder-arm, choice-next}
+use Rattle.task_code_lane_values.proofs.Arms.{steady-as, two-next, second-arm, first-arm, divide-arm, shift-arm, point-arm, remainder-arm}
+use Rattle.task_code_lane_values.proofs.Arms.{turned-next, condition-next, one-next, other-next}
 use Rattle.task_code_lane_values.proofs.values.+values.Goals as goal
 
 pub emit_at-returns-then-known_steady : goal.emit_at-returns-then-known_steady
@@ -26,8 +27,17 @@ emit_results-returns-then-first_stays t c =
     c.in-Binary.is c.get-first.ensures c.get-second.ensures (c.known_steady-first_stays.ensures c.if-first_stays.true) c.in_ok-emit_at-2.ensures
     c.in_ok-s-2.ensures c.in_ok-emit_turned.ensures
 
-pub emit_results-returns : goal.emit_results-returns
-emit_results-returns t c =
+pub emit_both-returns-then-is_turned : goal.emit_both-returns-then-is_turned
+emit_both-returns-then-is_turned t c =
+    turned-next c.args.site.now.places.now c.args.site.now.scope.now c.args.site.now.lanes c.args.spot.k c.requires c.args.e.now c.in-Binary.a c.in-Binary.b _ _
+    c.in-Binary.operation
+    c.in_ok-next.next.k _ _ _ _
+    c.in-Binary.is c.get-first.ensures c.get-second.ensures c.in_ok-next.ensures.0 c.in_ok-emit_at.ensures
+    c.in_ok-emit_at-2.ensures
+    c.in_ok-emit_two_turned.ensures
+
+pub emit_both-returns : goal.emit_both-returns
+emit_both-returns t c =
     two-next c.args.site.now.places.now c.args.site.now.scope.now c.args.site.now.lanes c.args.spot.k c.requires c.args.e.now c.in-Binary.a c.in-Binary.b _ _
     c.in-Binary.operation
     c.in_ok-next.next.k _ _ _ _
@@ -64,12 +74,32 @@ emit_remainders-returns t c =
     c.in_ok-s-2.s _ _ _ _ c.in-Remainder.is c.get.ensures c.in_ok-emit_at.ensures c.in_ok-s-2.ensures
     c.in_ok-emit_remainder.ensures
 
-pub emit_choices-returns : goal.emit_choices-returns
-emit_choices-returns t c =
-    choice-next c.args.site.now.places.now c.args.site.now.scope.now c.args.site.now.lanes c.args.spot.k c.requires c.args.e.now c.in-Select.condition
+pub emit_condition_first-returns : goal.emit_condition_first-returns
+emit_condition_first-returns t c =
+    condition-next c.args.site.now.places.now c.args.site.now.scope.now c.args.site.now.lanes c.args.spot.k c.requires c.args.e.now c.in-Select.condition
     c.in-Select.a c.in-Select.b _ _ _
     c.in_ok-next.next.k
     c.in_ok-last.last.k _ _ _ _ _ c.in-Select.is c.get.ensures c.get-2.ensures c.get-3.ensures
+    c.in_ok-next.ensures.0
+    c.in_ok-last.ensures.0 c.in_ok-last.ensures.1 c.in_ok-emit_at.ensures c.in_ok-emit_at-2.ensures
+    c.in_ok-emit_at-3.ensures c.in_ok-emit_choice.ensures
+
+pub emit_one_first-returns : goal.emit_one_first-returns
+emit_one_first-returns t c =
+    one-next c.args.site.now.places.now c.args.site.now.scope.now c.args.site.now.lanes c.args.spot.k c.requires c.args.e.now c.in-Select.condition
+    c.in-Select.a c.in-Select.b _ _ _
+    c.in_ok-next.next.k
+    c.in_ok-last.last.k _ _ _ _ _ c.in-Select.is c.get-2.ensures c.get.ensures c.get-3.ensures
+    c.in_ok-next.ensures.0
+    c.in_ok-last.ensures.0 c.in_ok-last.ensures.1 c.in_ok-emit_at.ensures c.in_ok-emit_at-2.ensures
+    c.in_ok-emit_at-3.ensures c.in_ok-emit_choice.ensures
+
+pub emit_other_first-returns : goal.emit_other_first-returns
+emit_other_first-returns t c =
+    other-next c.args.site.now.places.now c.args.site.now.scope.now c.args.site.now.lanes c.args.spot.k c.requires c.args.e.now c.in-Select.condition
+    c.in-Select.a c.in-Select.b _ _ _
+    c.in_ok-next.next.k
+    c.in_ok-last.last.k _ _ _ _ _ c.in-Select.is c.get-2.ensures c.get-3.ensures c.get.ensures
     c.in_ok-next.ensures.0
     c.in_ok-last.ensures.0 c.in_ok-last.ensures.1 c.in_ok-emit_at.ensures c.in_ok-emit_at-2.ensures
     c.in_ok-emit_at-3.ensures c.in_ok-emit_choice.ensures
