@@ -7,7 +7,7 @@ import random
 import sys
 
 FOLDER = os.path.dirname(os.path.dirname(os.path.abspath(__file__)))
-sys.path.insert(0, os.path.join(FOLDER, "..", "conformance", "generate"))
+sys.path.insert(0, os.path.join(FOLDER, "..", "test_conformance", "generate"))
 
 import cases
 import pipelines
