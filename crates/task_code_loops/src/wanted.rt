@@ -336,21 +336,28 @@ fn count_by_others(
     Ok(())
 }
 
-/// Whether a sum goes up by 1 from one lane to the next.
-fn goes_along(sum: &Linear, lanes: Option<Counter>) -> bool {
+/// A variable that goes up from one lane to the next, and by how much.
+#[derive(Clone, Copy)]
+struct LaneStep {
+    counter: Counter,
+    stride: u32,
+}
+
+/// By how much a sum goes up from one lane to the next.
+fn stride_along(sum: &Linear, lanes: Option<LaneStep>) -> u32 {
     match lanes {
-        Some(counter) => stride_of(sum.terms.as_slice(), counter) == 1,
-        None => false,
+        Some(own) => words::multiply(stride_of(sum.terms.as_slice(), own.counter), own.stride),
+        None => 0,
     }
 }
 
 /// Counts the value of a split loop that is tested, where it isn't known to pass; of one that goes along with lanes,
-/// how far it is from the extent: so many lanes are left.
+/// how far it is from the extent: as many lanes are left as strides go into that.
 fn count_tested(
     alloc: Global,
     known: &[Known],
     bounds: &[Bound],
-    lanes: Option<Counter>,
+    lanes: Option<LaneStep>,
     extent: u32,
     found: &mut Vec<Use>,
 ) -> Result<(), AllocError> {
@@ -358,8 +365,10 @@ fn count_tested(
         let sum = own.sum.copy(alloc)?;
         let form = Form { sum, per_hart: 0 };
         if !is_below(&form, bounds, extent) {
-            if goes_along(&own.sum, lanes) {
-                let left = Linear::of_number(alloc, extent).minus(&own.sum)?;
+            let stride = stride_along(&own.sum, lanes);
+            if stride != 0 {
+                let most = words::add(extent, stride - 1);
+                let left = Linear::of_number(alloc, most).minus(&own.sum)?;
                 let form = Form {
                     sum: left,
                     per_hart: 0,
@@ -374,18 +383,26 @@ fn count_tested(
 }
 
 /// The variable of a loop whose iterations are lanes.
-fn lanes_of(counter: Counter, kind: LoopKind) -> Option<Counter> {
+fn lanes_of(counter: Counter, kind: LoopKind) -> Option<LaneStep> {
     match kind {
         LoopKind::Serial => None,
         LoopKind::Unrolled => None,
-        LoopKind::Vectorized => Some(counter),
+        LoopKind::Vectorized => Some(LaneStep { counter, stride: 1 }),
     }
 }
 
-/// The variable that goes along with lanes inside a split loop: that of the split loop, where its inner one does.
-fn along(counter: Counter, whole: &Whole, lanes: Option<Counter>) -> Option<Counter> {
+/// The variable that goes along with lanes inside a split loop: that of the split loop, where one of its two loops'
+/// does.
+fn along(counter: Counter, whole: &Whole, lanes: Option<LaneStep>) -> Option<LaneStep> {
     match lanes {
-        Some(own) if same_counter(own, whole.inner) => Some(counter),
+        Some(own) if same_counter(own.counter, whole.inner) => Some(LaneStep {
+            counter,
+            stride: own.stride,
+        }),
+        Some(own) if same_counter(own.counter, whole.outer) => Some(LaneStep {
+            counter,
+            stride: words::multiply(own.stride, whole.factor),
+        }),
         _ => lanes,
     }
 }
@@ -395,7 +412,7 @@ fn gather(
     alloc: Global,
     places: &Places,
     bounds: &[Bound],
-    lanes: Option<Counter>,
+    lanes: Option<LaneStep>,
     statement: &Stmt,
     found: &mut Vec<Use>,
 ) -> Result<(), AllocError> {

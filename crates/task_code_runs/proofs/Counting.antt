@@ -6,9 +6,7 @@ use Rattle.std.proofs.lemmas.Bool.{and_parts}
 use Rattle.rv_insn.specs.declared.instructions.Insn.TheVariants.{Vector}
 use Rattle.rv_insn.specs.declared.vector_instructions.VectorInsn.TheVariants as v
 use Rattle.vector_unit.specs.VectorState.{most_elements}
-use Rattle.loop_ir.specs.declared.expressions.Linear.{Linear}
 use Rattle.loop_ir.specs.Counters.{Values, with}
-use Rattle.loop_ir.specs.Expressions.{linear_value}
 use Rattle.loop_ir.specs.declared.expressions.Counter.{Counter}
 use Rattle.halide_pipeline.specs.Words as word
 use Rattle.halide_pipeline.specs.declared.expressions.Operation.TheVariants as op
@@ -18,14 +16,10 @@ use Rattle.multi_hart_logic.proofs.Paths.{line-then}
 use Rattle.task_code_scalar.specs.Words.{Emits}
 use Rattle.task_code_scalar.proofs.Spelling.{emits_then}
 use Rattle.task_code_registers.specs.declared.scopes.Held.{Held}
-use Rattle.task_code_registers.specs.declared.scopes.Form.{Form}
-use Rattle.task_code_registers.specs.Emitting.{MakesValue}
-use Rattle.task_code_registers.specs.Holding.{IsAt}
 use Rattle.task_code_registers.specs.Registers.{first_value, may_hold, zero_register}
-use Rattle.task_code_registers.specs.Scopes.{AreHolders, IsFree, IsKept}
-use Rattle.task_code_registers.proofs.Knowing.{kept-apart, knows-still, knows-zero, linear-small, may-hold, working-free}
+use Rattle.task_code_registers.specs.Scopes.{IsKept}
+use Rattle.task_code_registers.proofs.Knowing.{kept-apart, knows-still, knows-zero, may-hold}
 use Rattle.task_code_values.specs.Making.{MakesOfTwo}
-use Rattle.task_code_values.proofs.Standing.{form-alone}
 use Rattle.task_code_lanes.specs.declared.groups.Group.{Group}
 use Rattle.task_code_lanes.specs.declared.groups.Group.TheVariants as groups
 use Rattle.task_code_lanes.specs.Groups.{registers, slots, vtype_of, group_of_rounds}
@@ -33,8 +27,10 @@ use Rattle.task_code_lanes.specs.Leaving.{HasLanes}
 use Rattle.task_code_lane_values.specs.declared.vectorized.Lanes.{Lanes}
 use Rattle.task_code_vector.proofs.RowCode.{supported, most, has-lanes, configured-others}
 use Rattle.task_code_runs.proofs.Pointing.{address-free}
-use Rattle.task_code_runs.specs.Runs.{all_lanes, least_left, left_lanes}
-use Rattle.task_code_runs.specs.inner.Making.{are_registers, group_lanes, Configures, MakesLeast, MakesPointer}
+use Rattle.task_code_runs.specs.declared.left.Left.{Left}
+use Rattle.task_code_runs.specs.Runs.{all_lanes, least_left, left_by, left_lanes}
+use Rattle.task_code_runs.specs.inner.Making.{are_registers, group_lanes, Configures, MakesLeast, MakesLeft}
+use Rattle.task_code_runs.proofs.Sharing.{left-small, value-free}
 
 -- registers that are kept
 pub kept-low : (scope : List Held) (q : ℕ) → are_registers scope ≡ true → IsKept scope q → q < 32
@@ -66,19 +62,17 @@ all-configured scope own c0 c1 all z = record {
       };
 }
 
-pub left-configured : (scope : List Held) (own : Lanes) (left sum : Linear) (b : ℕ) (c0 c1 c2 : List ℕ) → are_registers scope ≡ true → sum ≡ left
-    → MakesPointer c0 c1 scope own.counter b (record { sum = sum; per_hart = 0 }) → Emits c1 c2 (Vector (v.Vsetvli 0 b (vtype_of own.group)) ∷ [])
+pub left-configured : (scope : List Held) (own : Lanes) (left : Left) (b : ℕ) (c0 c1 c2 : List ℕ) → are_registers scope ≡ true
+    → MakesLeft c0 c1 scope own.counter b left → Emits c1 c2 (Vector (v.Vsetvli 0 b (vtype_of own.group)) ∷ [])
     → Configures c0 c2 scope own (left_lanes own (left ∷ []))
-left-configured scope own left sum b c0 c1 c2 all es p z = record {
+left-configured scope own left b c0 c1 c2 all p z = record {
   insns = p.insns ++ (Vector (v.Vsetvli 0 b (vtype_of own.group)) ∷ []);
   emits = emits_then p.emits z;
   does = λ w m values f l holders knows.
-      let a = p.does w m w.hart values f l holders knows in
+      let a = p.does w m values f l holders knows in
       let n = min (a.after b) (most_elements (vtype_of own.group)) in
       let is = most own.group in
-      let e : n ≡ left_lanes own (left ∷ []) values =
-      ap (λ k. min (a.after b) k) is
-      ∙ ap (λ k. min k (all_lanes own)) (a.value ∙ form-alone w.hart (with own.counter 0 values) (record { sum = sum; per_hart = 0 }) left refl es) in
+      let e : n ≡ left_lanes own (left ∷ []) values = ap (λ k. min (a.after b) k) is ∙ ap (λ k. min k (all_lanes own)) a.value in
       record {
         after = configure a.after n (vtype_of own.group);
         line = line-then w p.insns (Vector (v.Vsetvli 0 b (vtype_of own.group)) ∷ []) f a.after (configure a.after n (vtype_of own.group)) m m m a.line
@@ -90,11 +84,7 @@ left-configured scope own left sum b c0 c1 c2 all es p z = record {
       };
 }
 
--- where values are made, no form is held
-value-free : (scope : List Held) → AreHolders scope → IsFree scope first_value
-value-free scope holders = working-free scope first_value holders (inr (omega arith, omega arith))
-
-pub least-configured : (scope : List Held) (own : Lanes) (first : Linear) (others : List Linear) (c0 c1 c2 : List ℕ) → are_registers scope ≡ true
+pub least-configured : (scope : List Held) (own : Lanes) (first : Left) (others : List Left) (c0 c1 c2 : List ℕ) → are_registers scope ≡ true
     → MakesLeast c0 c1 scope own.counter first others → Emits c1 c2 (Vector (v.Vsetvli 0 first_value (vtype_of own.group)) ∷ [])
     → Configures c0 c2 scope own (left_lanes own (first ∷ others))
 least-configured scope own first others c0 c1 c2 all p z = record {
@@ -127,34 +117,16 @@ less-than-both x y n one two = go (word.less y x)
     go true = two
     go false = one
 
-least-small : (counter : Counter) (first : Linear) (others : List Linear) (values : Values) → least_left counter first others values < 2 ^ 32
-least-small counter first [] values = linear-small (with counter 0 values) first
+least-small : (counter : Counter) (first : Left) (others : List Left) (values : Values) → least_left counter first others values < 2 ^ 32
+least-small counter first [] values = left-small counter first values
 least-small counter first (next ∷ others) values =
-    less-than-both (least_left counter next others values) (linear_value (with counter 0 values) first) (2 ^ 32) (least-small counter next others values)
-    (linear-small (with counter 0 values) first)
+    less-than-both (least_left counter next others values) (left_by counter first values) (2 ^ 32) (least-small counter next others values)
+    (left-small counter first values)
 
-pub least-last : (scope : List Held) (counter : Counter) (first sum : Linear) (others : List Linear) (start : Form) (c0 c1 : List ℕ) → others ≡ []
-    → sum ≡ first → IsAt counter 0 (record { sum = sum; per_hart = 0 }) start → MakesValue c0 c1 scope start first_value
-    → MakesLeast c0 c1 scope counter first others
-least-last scope counter first sum others start c0 c1 none es law x = subst (MakesLeast c0 c1 scope counter first) (sym none) (record {
-  insns = x.insns;
-  emits = x.emits;
-  does = λ w m values f l holders knows.
-      let a = x.does w m w.hart (with counter 0 values) f l holders (value-free scope holders) knows in
-      record {
-        after = a.after;
-        line = a.line;
-        value = a.value ∙ law.value w.hart 0 values
-            ∙ form-alone w.hart (with counter 0 values) (record { sum = sum; per_hart = 0 }) first refl es;
-        others = λ q apart address one two. a.others q apart one two;
-      };
-})
-
-pub least-more : (scope : List Held) (counter : Counter) (first sum next : Linear) (others rest : List Linear) (b : ℕ) (c0 c1 c2 c3 : List ℕ)
-    → others ≡ next ∷ rest → sum ≡ first → MakesLeast c0 c1 scope counter next rest
-    → MakesPointer c1 c2 scope counter b (record { sum = sum; per_hart = 0 }) → MakesOfTwo c2 c3 4 first_value first_value b (word.applied op.Minimum)
-    → MakesLeast c0 c3 scope counter first others
-least-more scope counter first sum next others rest b c0 c1 c2 c3 is es x p z = subst (MakesLeast c0 c3 scope counter first) (sym is) (record {
+pub least-more : (scope : List Held) (counter : Counter) (first next : Left) (others rest : List Left) (b : ℕ) (c0 c1 c2 c3 : List ℕ)
+    → others ≡ next ∷ rest → MakesLeast c0 c1 scope counter next rest → MakesLeft c1 c2 scope counter b first
+    → MakesOfTwo c2 c3 4 first_value first_value b (word.applied op.Minimum) → MakesLeast c0 c3 scope counter first others
+least-more scope counter first next others rest b c0 c1 c2 c3 is x p z = subst (MakesLeast c0 c3 scope counter first) (sym is) (record {
   insns = (x.insns ++ p.insns) ++ z.insns;
   emits = emits_then (emits_then x.emits p.emits) z.emits;
   does = λ w m values f l holders knows.
@@ -164,20 +136,18 @@ least-more scope counter first sum next others rest b c0 c1 c2 c3 is es x p z = 
       (λ q kept.
       let u = kept-apart scope q holders kept in
       one.others q (value-free scope holders q kept) (address-free scope holders q kept) u.0 u.1) knows in
-      let two = p.does w m w.hart values one.after l holders still in
+      let two = p.does w m values one.after l holders still in
       let stays : two.after first_value ≡ least_left counter next rest values =
       two.others first_value (λ e. omega (arith, e)) (λ e. omega (arith, e)) (λ e. omega (arith, e)) ∙ one.value in
-      let own : two.after b ≡ linear_value at first =
-      two.value ∙ form-alone w.hart at (record { sum = sum; per_hart = 0 }) first refl es in
       let zero : two.after zero_register ≡ 0 =
       two.others zero_register (λ e. omega (arith, e)) (λ e. omega (arith, e)) (λ e. omega (arith, e)) ∙ knows-zero w.hart scope at one.after still in
       let three = z.does w m two.after l zero (subst (λ n. n < 2 ^ 32) (sym stays) (least-small counter next rest values))
-      (subst (λ n. n < 2 ^ 32) (sym own) (linear-small at first)) in
+      (subst (λ n. n < 2 ^ 32) (sym two.value) (left-small counter first values)) in
       record {
         after = three.after;
         line = line-then w (x.insns ++ p.insns) z.insns f two.after three.after m m m
             (line-then w x.insns p.insns f one.after two.after m m m one.line two.line) three.line;
-        value = three.value ∙ ap (λ n. word.minimum n (two.after b)) stays ∙ ap (word.minimum (least_left counter next rest values)) own;
+        value = three.value ∙ ap (λ n. word.minimum n (two.after b)) stays ∙ ap (word.minimum (least_left counter next rest values)) two.value;
         others = λ q apart address s1 s2.
             three.others q apart s1 s2 ∙ two.others q address s1 s2 ∙ one.others q apart address s1 s2;
       };

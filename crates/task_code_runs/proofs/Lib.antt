@@ -4,4 +4,5 @@ pub mod Fronts
 pub mod Idling
 pub mod Pointing
 pub mod Running
+pub mod Sharing
 pub mod Storing

@@ -1,12 +1,11 @@
 -- What appended code does of a vectorized loop, whatever its instructions are: all iterations at once. This project's own.
-use Rattle.std.specs.Prelude.{◌≡◌, ◌<◌, ◌≤◌, ℕ, ◌*◌, min, true, List, [], ◌∷◌, length, None}
+use Rattle.std.specs.Prelude.{◌≡◌, ◌<◌, ◌≤◌, ℕ, ◌*◌, ◌/◌, min, true, List, [], ◌∷◌, length, None}
 use Rattle.rv_insn.specs.declared.instructions.Insn.{Insn}
 use Rattle.halide_pipeline.specs.Pixel.{Planes, Reads}
 use Rattle.halide_pipeline.specs.Points.{Point}
 use Rattle.halide_pipeline.specs.Words as word
 use Rattle.std.specs.Prelude.{Bool}
 use Rattle.loop_ir.specs.declared.expressions.Counter.{Counter}
-use Rattle.loop_ir.specs.declared.expressions.Linear.{Linear}
 use Rattle.loop_ir.specs.declared.statements.LoopKind.TheVariants.{Vectorized}
 use Rattle.loop_ir.specs.declared.statements.Stmt.{Stmt}
 use Rattle.loop_ir.specs.declared.statements.Stmt.TheVariants as statements
@@ -25,20 +24,24 @@ use Rattle.task_code_registers.specs.Doing.{Did}
 use Rattle.task_code_registers.specs.Scopes.{Knows, AreHolders, IsKept}
 use Rattle.task_code_lanes.specs.Groups.{registers}
 use Rattle.task_code_lane_values.specs.declared.vectorized.Lanes.{Lanes}
+use Rattle.task_code_runs.specs.declared.left.Left.{Left}
 use Rattle.task_code_runs.specs.AtOnce.{MayRun}
 
 -- how many iterations there are lanes for
 abbrev pub all_lanes : Lanes → ℕ
 all_lanes own = 4 * registers own.group
 
--- the least of sums in the first one, as numbers with a sign
-abbrev pub least_left : Counter → Linear → List Linear → Values → ℕ
-least_left counter first [] values = linear_value (with counter 0 values) first
-least_left counter first (next ∷ others) values =
-    word.minimum (least_left counter next others values) (linear_value (with counter 0 values) first)
+-- how many of them a sum leaves: as many as strides go into it in the first one
+abbrev pub left_by : Counter → Left → Values → ℕ
+left_by counter own values = linear_value (with counter 0 values) own.sum / own.stride
 
--- as many of them as the least of the sums says in the first one, or all where there is no sum
-abbrev pub left_lanes : Lanes → List Linear → Values → ℕ
+-- the least that one of some leaves, as numbers with a sign
+abbrev pub least_left : Counter → Left → List Left → Values → ℕ
+least_left counter first [] values = left_by counter first values
+least_left counter first (next ∷ others) values = word.minimum (least_left counter next others values) (left_by counter first values)
+
+-- that many, or all where there is no sum
+abbrev pub left_lanes : Lanes → List Left → Values → ℕ
 left_lanes own [] values = all_lanes own
 left_lanes own (first ∷ others) values = min (least_left own.counter first others values) (all_lanes own)
 

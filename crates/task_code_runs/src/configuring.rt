@@ -9,20 +9,18 @@ ghost use Rattle.task_code_runs.specs.Runs.{left_lanes};
 ghost use Rattle.task_code_runs.specs.inner.Making as spec;
 ghost use Rattle.task_code_runs.specs.inner.Making.{Configures, MakesLeast};
 
-use crate::pointers::emit_pointer;
+use crate::left::{Left, emit_first_left, emit_left};
 use halide_pipeline::Operation;
-use loop_ir::expressions::{Counter, Linear};
+use loop_ir::expressions::Counter;
 use rv_insn::{Insn, Length5, VectorInsn, Vtype10};
 use std::alloc::{AllocError, Global};
 use task_code_lane_values::vectorized::Lanes;
 use task_code_lanes::groups::Group;
 use task_code_lanes::vectors::configure;
-use task_code_registers::holding::at_value;
 use task_code_registers::registers::{FIRST_VALUE, may_hold};
-use task_code_registers::scopes::{Form, Held};
+use task_code_registers::scopes::Held;
 use task_code_scalar::CodeFault;
 use task_code_scalar::instructions::{put, register};
-use task_code_values::operands::emit_reached;
 use task_code_values::operations::emit_operation;
 
 /// Whether registers hold all forms of a scope, and neither the number of lanes nor their configuration does.
@@ -73,43 +71,40 @@ fn put_all(code: &mut Vec<u32>, group: Group) -> Result<(), AllocError>
     Ok(())
 }
 
-/// Appends what leaves the least of some sums in a loop's first iteration, as numbers with a sign, where values are
-/// made.
+/// Appends what leaves the least number of iterations that one of some sums leaves, as numbers with a sign, where
+/// values are made.
 fn emit_least(
     alloc: Global,
     code: &mut Vec<u32>,
     scope: &[Held],
     counter: Counter,
-    first: &Linear,
-    others: &[Linear],
+    first: &Left,
+    others: &[Left],
 ) -> Result<(), CodeFault>
     ensures { OnOk result (MakesLeast code.old.items code.new.items scope.now counter first.now others.now) }
 {
-    let sum = first.copy(alloc)?;
-    let form = Form { sum, per_hart: 0 };
     match others {
         [] => {
-            let start = at_value(alloc, &form, counter, 0)?;
-            emit_reached(alloc, code, scope, &start, FIRST_VALUE)?;
+            emit_first_left(alloc, code, scope, counter, first)?;
             Ok(())
         }
         [next, rest @ ..] => {
             emit_least(alloc, code, scope, counter, next, rest)?;
-            let register = emit_pointer(alloc, code, scope, counter, &form)?;
+            let register = emit_left(alloc, code, scope, counter, first)?;
             emit_operation(code, Operation::Minimum, FIRST_VALUE, FIRST_VALUE, register)?;
             Ok(())
         }
     }
 }
 
-/// Appends what configures a lane for each of as many iterations as the least of the sums says in the first one, or for
-/// each where there is no sum.
+/// Appends what configures a lane for each of as many iterations as the least that one of the sums leaves, or for each
+/// where there is no sum.
 pub fn emit_left_lanes(
     alloc: Global,
     code: &mut Vec<u32>,
     scope: &[Held],
     own: Lanes,
-    left: &[Linear],
+    left: &[Left],
 ) -> Result<(), CodeFault>
     requires { spec.are_registers scope.now ≡ true }
     ensures { OnOk result (Configures code.old.items code.new.items scope.now own (left_lanes own left.now)) }
@@ -120,9 +115,7 @@ pub fn emit_left_lanes(
             Ok(())
         }
         [only] => {
-            let sum = only.copy(alloc)?;
-            let form = Form { sum, per_hart: 0 };
-            let register = emit_pointer(alloc, code, scope, own.counter, &form)?;
+            let register = emit_left(alloc, code, scope, own.counter, only)?;
             configure(code, own.group, register)?;
             Ok(())
         }

@@ -6,6 +6,7 @@ ghost use Rattle.task_code_runs.specs.Runs.{EmitsRun, left_lanes};
 ghost use Rattle.task_code_runs.specs.inner.Making.{StoresLanes};
 
 use crate::configuring::{are_registers, emit_left_lanes};
+use crate::left::Left;
 use crate::pointers::emit_pointer;
 use halide_pipeline::Source;
 use loop_ir::expressions::Linear;
@@ -133,8 +134,8 @@ fn emit_stored(
     Ok(())
 }
 
-/// Appends the code of a vectorized loop that does a store in as many of its first iterations as the least of the sums
-/// says in the first one, or in each where there is no sum: all at once.
+/// Appends the code of a vectorized loop that does a store in as many of its first iterations as the least that one of
+/// the sums leaves, or in each where there is no sum: all at once.
 ///
 /// # Errors
 ///
@@ -144,7 +145,7 @@ pub fn emit_run(
     code: &mut Vec<u32>,
     site: &Site<'_>,
     own: Lanes,
-    left: &[Linear],
+    left: &[Left],
     store: &Store,
 ) -> Result<(), CodeFault>
     ensures { OnOk result (EmitsRun code.old.items code.new.items site.now.places.now site.now.scope.now own

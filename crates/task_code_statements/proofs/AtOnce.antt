@@ -1,8 +1,10 @@
 -- A vectorized loop whose body is a single store, behind the values of split loops.
-use Rattle.std.proofs.Common.{◌≡◌, ℕ, ◌+◌, ◌*◌, ◌<◌, ◌≤◌, List, [], ◌∷◌, ◌++◌, length, Bool, true, false, refl, ap, ◌∙◌, sym, subst, arith, cond}
+use Rattle.std.proofs.Common.{◌≡◌, ℕ, zero, suc, ◌+◌, ◌/◌, ◌*◌, ◌<◌, ◌≤◌, List, [], ◌∷◌, ◌++◌, length, Bool, true, false, refl, ap, ◌∙◌, sym, subst, arith, cond}
 use Rattle.std.specs.Prelude.{◌%◌, ◌^◌, ◌-◌, ◌&&◌, if◌then◌else◌, min, nat_lt, Option, Some, None}
+use Rattle.std.proofs.Math.Nat.{div-mul-le_self, le-mul_of_pos_right, lt-div-mul-add, mul-le-mul_right}
 use Rattle.std.proofs.lemmas.Bool.{true≢false}
 use Rattle.std.proofs.lemmas.Bool.Decides.{nat_tests}
+use Rattle.std.proofs.lemmas.Nat.{le-div, mul-le}
 use Rattle.std.specs.List.{list_all}
 use Rattle.halide_pipeline.specs.Pixel.{Planes, Reads}
 use Rattle.halide_pipeline.specs.Points.{Point}
@@ -41,7 +43,8 @@ use Rattle.task_code_lanes.specs.declared.groups.Group.TheVariants as groups
 use Rattle.task_code_lanes.specs.Groups.{registers}
 use Rattle.task_code_lane_values.specs.declared.vectorized.Lanes.{Lanes}
 use Rattle.task_code_runs.specs.Naming.{AreNamed}
-use Rattle.task_code_runs.specs.Runs.{EmitsRun, StoresAs, all_lanes, least_left, left_lanes, run_of}
+use Rattle.task_code_runs.specs.declared.left.Left.{Left}
+use Rattle.task_code_runs.specs.Runs.{EmitsRun, StoresAs, all_lanes, least_left, left_by, left_lanes, run_of}
 use Rattle.task_code_runs.proofs.Idling.{none-hit, none-run}
 use Rattle.task_code_names.specs.declared.names.Named.{Named}
 use Rattle.task_code_names.specs.Names.{AreNames, IsNamedStore}
@@ -265,6 +268,46 @@ and-true : (a : Bool) → cond a true false ≡ a
 and-true true = refl
 and-true false = refl
 
+-- ---- how many iterations are left
+
+-- a sum so many strides further on
+far : (x stride more first here : ℕ) → first ≡ (x + 0 * stride) % 2 ^ 32 → here ≡ (x + more) % 2 ^ 32 → first < 2 ^ 31 → more ≤ 15 * 2 ^ 27
+    → here ≡ first + more
+far x stride more first here e0 ei low few = omega (arith, e0, ei, low, few)
+
+abbrev room_of : ℕ → ℕ → ℕ → ℕ
+room_of first extent stride = (extent + (stride - 1)) - first
+
+abbrev quotient_of : ℕ → ℕ → ℕ → ℕ
+quotient_of first extent stride = room_of first extent stride / stride
+
+module _ (first extent stride : ℕ) (some : 1 ≤ stride) (begins : first < extent) where
+  one-left : 1 ≤ quotient_of first extent stride
+  one-left = le-div 1 (room_of first extent stride) stride some (omega (arith, some, begins))
+
+  most-left : quotient_of first extent stride ≤ extent
+  most-left = go (quotient_of first extent stride) (div-mul-le_self (room_of first extent stride) stride)
+    where
+      go : (q : ℕ) → q * stride ≤ room_of first extent stride → q ≤ extent
+      go zero l = omega arith
+      go (suc p) l = let less : p ≤ p * stride = le-mul_of_pos_right p some in omega (arith, l, less, some, begins)
+
+  -- an iteration passes before so many
+  passed-by : (i : ℕ) → nat_lt (first + i * stride) extent ≡ nat_lt i (quotient_of first extent stride)
+  passed-by i = go (nat_lt i (quotient_of first extent stride)) refl
+    where
+      go : (t : Bool) → nat_lt i (quotient_of first extent stride) ≡ t → nat_lt (first + i * stride) extent ≡ t
+      go true is =
+          let less : suc i * stride ≤ quotient_of first extent stride * stride =
+          mul-le-mul_right stride (below-so i (quotient_of first extent stride) is) in
+          let low = div-mul-le_self (room_of first extent stride) stride in
+          is-below (first + i * stride) extent (omega (arith, less, low, some, begins))
+      go false is =
+          let more : quotient_of first extent stride * stride ≤ i * stride =
+          mul-le-mul_right stride (not-below i (quotient_of first extent stride) is) in
+          let high : room_of first extent stride < quotient_of first extent stride * stride + stride = lt-div-mul-add some in
+          is-past (first + i * stride) extent (omega (arith, more, high, some, begins))
+
 module _ (context inner : Context) (counter : Counter) (count : ℕ) (group : Group) (body : Stmt) (made : Guarded) (parts : Parted)
     (ec : count ≡ 4 * registers group) (loop : MeetsLoop context counter count inner) (of : IsStoreOf inner body made)
     (parted : IsParted counter made.guards.items parts) (values named : Values) (same : AreNamed values named) (meets : Meets context named) where
@@ -307,12 +350,11 @@ module _ (context inner : Context) (counter : Counter) (count : ℕ) (group : Gr
     sum_at guard i = linear_value (lane_at i) guard.sum
 
     -- a test further on
-    further : (guard : Guard) (left : Linear) → IsLeft bounds counter guard left → (i : ℕ) → i < 16 → sum_at guard i ≡ sum_at guard 0 + i
+    further : (guard : Guard) (left : Left) → IsLeft bounds counter guard left → (i : ℕ) → i < 16 → sum_at guard i ≡ sum_at guard 0 + i * left.stride
     further guard left is i few =
-        let e0 = linear-with counter 0 1 named guard.sum (sym is.stride) in
-        let ei = linear-with counter i 1 named guard.sum (sym is.stride) in
-        let low = is.begins named below-at in
-        omega (arith, e0, ei, low, few)
+        far (guard.sum.number + sum_of named (others_of counter guard.sum.terms)) left.stride (i * left.stride) (sum_at guard 0) (sum_at guard i)
+        (linear-with counter 0 left.stride named guard.sum (sym is.stride)) (linear-with counter i left.stride named guard.sum (sym is.stride))
+        (is.begins named below-at) (mul-le i left.stride 15 (2 ^ 27) (omega (arith, few)) is.few)
 
     -- which iterations pass tests
     record Counts (guards : List Guard) (n : ℕ) : Type 0 where
@@ -320,28 +362,30 @@ module _ (context inner : Context) (counter : Counter) (count : ℕ) (group : Gr
       small : n < 2 ^ 31
       passes_are : (i : ℕ) → i < 16 → passes guards (lane_at i) ≡ nat_lt i n
 
-    counts-one : (guard : Guard) (left : Linear) → IsLeft bounds counter guard left → is_passed guard (lane_at 0) ≡ true
-        → Counts (guard ∷ []) (linear_value (lane_at 0) left)
+    counts-one : (guard : Guard) (left : Left) → IsLeft bounds counter guard left → is_passed guard (lane_at 0) ≡ true
+        → Counts (guard ∷ []) (left_by counter left named)
     unfolding word.subtract
     counts-one guard left is passed =
-        let begins = below-so (sum_at guard 0) guard.extent passed in
+        let first = sum_at guard 0 in
+        let begins = below-so first guard.extent passed in
         let small = is.small in
-        let value : linear_value (lane_at 0) left ≡ guard.extent - sum_at guard 0 =
-        is.value_is (lane_at 0) ∙ (let g : word.subtract guard.extent (sum_at guard 0) ≡ guard.extent - sum_at guard 0 = omega (arith, small, begins) in g) in
+        let some = is.some in
+        let few = is.few in
+        let count = quotient_of first guard.extent left.stride in
+        let value : linear_value (lane_at 0) left.sum ≡ (guard.extent + (left.stride - 1)) - first =
+        is.value_is (lane_at 0)
+        ∙ (let g : word.subtract (guard.extent + (left.stride - 1)) first ≡ (guard.extent + (left.stride - 1)) - first =
+        omega (arith, small, begins, few) in g) in
+        let same : left_by counter left named ≡ count = ap (λ n. n / left.stride) value in
+        let one = one-left first guard.extent left.stride some begins in
+        let most = most-left first guard.extent left.stride some begins in
         record {
-          some = omega (arith, value, begins);
-          small = omega (arith, value, small);
-          passes_are = λ i few.
-              let step = further guard left is i few in
-              and-true (is_passed guard (lane_at i)) ∙ as-left i guard.extent (sum_at guard 0) (sum_at guard i) (linear_value (lane_at 0) left) step begins value;
+          some = omega (arith, same, one);
+          small = omega (arith, same, most, small);
+          passes_are = λ i below.
+              and-true (is_passed guard (lane_at i)) ∙ ap (λ n. nat_lt n guard.extent) (further guard left is i below)
+              ∙ passed-by first guard.extent left.stride some begins i ∙ ap (nat_lt i) (sym same);
         }
-      where
-        as-left : (i extent first here count : ℕ) → here ≡ first + i → first < extent → count ≡ extent - first → nat_lt here extent ≡ nat_lt i count
-        as-left i extent first here count eh low ec = go (nat_lt i count) refl
-          where
-            go : (t : Bool) → nat_lt i count ≡ t → nat_lt here extent ≡ t
-            go true is = let less = below-so i count is in is-below here extent (omega (arith, eh, low, ec, less))
-            go false is = let more = not-below i count is in is-past here extent (omega (arith, eh, low, ec, more))
 
     counts-more : (guard : Guard) (guards : List Guard) (one n : ℕ) → Counts (guard ∷ []) one → Counts guards n
         → Counts (guard ∷ guards) (word.minimum n one)
@@ -354,14 +398,14 @@ module _ (context inner : Context) (counter : Counter) (count : ℕ) (group : Gr
     }
 
     -- which pass all tests, where the first one does
-    counts : (guard : Guard) (guards : List Guard) (own : Linear) (left : List Linear) → AreLeft bounds counter (guard ∷ guards) (own ∷ left)
+    counts : (guard : Guard) (guards : List Guard) (own : Left) (left : List Left) → AreLeft bounds counter (guard ∷ guards) (own ∷ left)
         → passes (guard ∷ guards) (lane_at 0) ≡ true → Counts (guard ∷ guards) (least_left counter own left named)
     counts guard [] own [] are passed = counts-one guard own are.0 (both-pass (is_passed guard (lane_at 0)) true passed).0
     counts guard [] own (next ∷ left) are passed = absurd are.1
     counts guard (more ∷ guards) own [] are passed = absurd are.1
     counts guard (more ∷ guards) own (next ∷ left) are passed =
         let both = both-pass (is_passed guard (lane_at 0)) (passes (more ∷ guards) (lane_at 0)) passed in
-        counts-more guard (more ∷ guards) (linear_value (lane_at 0) own) (least_left counter next left named) (counts-one guard own are.0 both.0)
+        counts-more guard (more ∷ guards) (left_by counter own named) (least_left counter next left named) (counts-one guard own are.0 both.0)
         (counts more guards next left are.1 both.1)
 
     -- as many iterations as lanes
@@ -371,7 +415,7 @@ module _ (context inner : Context) (counter : Counter) (count : ℕ) (group : Gr
       passed : (i : ℕ) → i < n → passes guards (lane_at i) ≡ true
       stopped : (i : ℕ) → n ≤ i → i < 4 * registers group → passes guards (lane_at i) ≡ false
 
-    all-or-least : (guards : List Guard) (left : List Linear) → AreLeft bounds counter guards left → passes guards (lane_at 0) ≡ true
+    all-or-least : (guards : List Guard) (left : List Left) → AreLeft bounds counter guards left → passes guards (lane_at 0) ≡ true
         → Stores guards (left_lanes lanes left named)
     all-or-least [] [] are passed = record {
       some = some-lanes group;
@@ -395,7 +439,7 @@ module _ (context inner : Context) (counter : Counter) (count : ℕ) (group : Gr
         }
 
     -- what fails in the first iteration fails in all
-    fails-on : (guards : List Guard) (left : List Linear) → AreLeft bounds counter guards left → passes guards (lane_at 0) ≡ false
+    fails-on : (guards : List Guard) (left : List Left) → AreLeft bounds counter guards left → passes guards (lane_at 0) ≡ false
         → (i : ℕ) → i < 16 → passes guards (lane_at i) ≡ false
     fails-on [] left are failed i few = absurd (true≢false failed)
     fails-on (guard ∷ guards) [] are failed i few = absurd are
@@ -411,7 +455,7 @@ module _ (context inner : Context) (counter : Counter) (count : ℕ) (group : Gr
             ap (λ b. cond b (passes guards (lane_at i)) false)
             (still-fails (sum_at guard 0) (sum_at guard i) guard.extent (omega (arith, step)) is)
 
-    module _ (left : List Linear) (are : AreLeft bounds counter parts.hanging.items left) where
+    module _ (left : List Left) (are : AreLeft bounds counter parts.hanging.items left) where
       -- where the first iteration passes, as many store as are left
       pub stored-left : passes parts.fixed.items (lane_at 0) ≡ true → passes parts.hanging.items (lane_at 0) ≡ true
           → StoresAs lanes body made.store values named (left_lanes lanes left named)
@@ -507,7 +551,7 @@ vector-emits places scope context own lanes body made c0 c1 none words en are is
 
 -- as the emitters call it
 pub vector-behind : (places : Places) (scope : List Held) (context : Context) (own : Bound) (lanes : Lanes) (body : Stmt) (made : Run)
-    (c0 c1 none words : List ℕ) (fixed : List Guard) (left : List Linear) (seen : List ℕ) → none ≡ [] → AreLanes scope own lanes
+    (c0 c1 none words : List ℕ) (fixed : List Guard) (left : List Left) (seen : List ℕ) → none ≡ [] → AreLanes scope own lanes
     → IsRunOf context lanes body made → EmitsRun none words places scope lanes (left_lanes lanes left) made.store → left ≡ made.left.items
     → fixed ≡ made.fixed.items → seen ≡ words
     → WordsBehind c0 c1 scope fixed seen → EmitsStatement c0 c1 places scope (Meets context) (s.For own.counter own.count Vectorized body)

@@ -20,6 +20,7 @@ use Rattle.task_code_registers.proofs.Striding.{linear-steady}
 use Rattle.task_code_loops.specs.declared.bounds.Bound.{Bound}
 use Rattle.task_code_loops.specs.Bounds.{IsBelow}
 use Rattle.task_code_loops.specs.Guarding.{GuardsWords, stored_if}
+use Rattle.task_code_runs.specs.declared.left.Left.{Left}
 use Rattle.task_code_runs.proofs.Fronts.{cons-of}
 use Rattle.task_code_statements.specs.declared.guards.Guard.{Guard}
 use Rattle.task_code_statements.specs.declared.guards.Parted.{Parted}
@@ -134,14 +135,17 @@ module _ (counter : Counter) (guards others : List Guard) (first own : Guard) (r
 
 -- ---- how many iterations are left
 
-pub left-is-of : (bounds : List Bound) (counter : Counter) (guard : Guard) (left extent : Linear) (start : Form) (stride : ℕ)
-    → ((values : Values) → linear_value values extent ≡ guard.extent)
-    → ((values : Values) → linear_value values left ≡ word.subtract (linear_value values extent) (linear_value values guard.sum))
-    → stride ≡ strides counter guard.sum.terms % 2 ^ 32 → stride ≡ 1 → guard.extent ≤ 2147483647
-    → IsAt counter 0 (record { sum = guard.sum; per_hart = 0 }) start → IsBelow bounds start 2147483647 → IsLeft bounds counter guard left
-left-is-of bounds counter guard left extent start stride ex is est one small law below = record {
+pub left-is-of : (bounds : List Bound) (counter : Counter) (guard : Guard) (sum extent : Linear) (start : Form) (stride : ℕ)
+    → ((values : Values) → linear_value values extent ≡ guard.extent + (stride - 1))
+    → ((values : Values) → linear_value values sum ≡ word.subtract (linear_value values extent) (linear_value values guard.sum))
+    → stride ≡ strides counter guard.sum.terms % 2 ^ 32 → (stride ≡ 0 → ⊥) → stride ≤ 134217728 → guard.extent ≤ 2147483647
+    → IsAt counter 0 (record { sum = guard.sum; per_hart = 0 }) start → IsBelow bounds start 2147483647
+    → IsLeft bounds counter guard (record { sum = sum; stride = stride })
+left-is-of bounds counter guard sum extent start stride ex is est some few small law below = record {
   value_is = λ values. is values ∙ ap (λ n. word.subtract n (linear_value values guard.sum)) (ex values);
-  stride = sym est ∙ one;
+  stride = sym est;
+  some = omega (arith, some);
+  few = omega (arith, few);
   small = omega (arith, small);
   begins = λ values are.
       subst (λ n. n < 2 ^ 31)
@@ -149,10 +153,10 @@ left-is-of bounds counter guard left extent start stride ex is est one small law
       (let less = below 0 (with counter 0 values) are in omega (arith, less));
 }
 
-pub left-none : (bounds : List Bound) (counter : Counter) (guards : List Guard) (left : List Linear) → guards ≡ [] → AddsLeft bounds counter guards left left
+pub left-none : (bounds : List Bound) (counter : Counter) (guards : List Guard) (left : List Left) → guards ≡ [] → AddsLeft bounds counter guards left left
 left-none bounds counter guards left is = subst (λ g. AddsLeft bounds counter g left left) (sym is) ([], sym (append-nil left), tt)
 
-pub left-more : (bounds : List Bound) (counter : Counter) (guards others : List Guard) (first : Guard) (own : Linear) (old pushed new : List Linear)
+pub left-more : (bounds : List Bound) (counter : Counter) (guards others : List Guard) (first : Guard) (own : Left) (old pushed new : List Left)
     → guards ≡ first ∷ others → IsLeft bounds counter first own → pushed ≡ old ++ (own ∷ []) → AddsLeft bounds counter others pushed new
     → AddsLeft bounds counter guards old new
 left-more bounds counter guards others first own old pushed new is one ep rest = subst (λ g. AddsLeft bounds counter g old new) (sym is) (

@@ -1,11 +1,10 @@
 -- Bodies of vectorized loops as single stores, behind tests or not. This project's own.
-use Rattle.std.specs.Prelude.{◌≡◌, ◌<◌, ◌≤◌, ℕ, ◌%◌, ◌^◌, true, false, Bool, nat_lt, cond, if◌then◌else◌, List, [], ◌∷◌, ◌++◌, None}
+use Rattle.std.specs.Prelude.{◌≡◌, ◌<◌, ◌≤◌, ℕ, ◌+◌, ◌-◌, ◌%◌, ◌^◌, true, false, Bool, nat_lt, cond, if◌then◌else◌, List, [], ◌∷◌, ◌++◌, None}
 use Rattle.rv_insn.specs.declared.instructions.Insn.{Insn}
 use Rattle.halide_pipeline.specs.Pixel.{Planes, Reads}
 use Rattle.halide_pipeline.specs.Points.{Point}
 use Rattle.halide_pipeline.specs.Words as word
 use Rattle.loop_ir.specs.declared.expressions.Counter.{Counter}
-use Rattle.loop_ir.specs.declared.expressions.Linear.{Linear}
 use Rattle.loop_ir.specs.declared.statements.Stmt.{Stmt}
 use Rattle.loop_ir.specs.declared.statements.Stmt.TheVariants as statements
 use Rattle.loop_ir.specs.AtOnce.{effect}
@@ -24,6 +23,7 @@ use Rattle.task_code_loops.specs.declared.bounds.Bound.{Bound}
 use Rattle.task_code_loops.specs.Bounds.{AreBelow}
 use Rattle.task_code_loops.specs.Guarding.{stored_if}
 use Rattle.task_code_lane_values.specs.declared.vectorized.Lanes.{Lanes}
+use Rattle.task_code_runs.specs.declared.left.Left.{Left}
 use Rattle.task_code_runs.specs.Naming.{AreNamed}
 use Rattle.task_code_runs.specs.Runs.{StoresAs, all_lanes, left_lanes}
 use Rattle.task_code_statements.specs.declared.contexts.Context.{Context}
@@ -78,23 +78,25 @@ pub record IsParted (counter : Counter) (guards : List Guard) (made : Parted) : 
   pub passes_is : (values : Values) → passes guards values ≡ cond (passes made.fixed.items values) (passes made.hanging.items values) false
   pub lack : GuardsLack counter made.fixed.items
 
--- A sum says how many iterations of a loop pass a test from one on, where the first one does: all before some number.
-pub record IsLeft (bounds : List Bound) (counter : Counter) (guard : Guard) (left : Linear) : Type 0 where
-  pub value_is : (values : Values) → linear_value values left ≡ word.subtract guard.extent (linear_value values guard.sum)
-  pub stride : strides counter guard.sum.terms % 2 ^ 32 ≡ 1
+-- How many strides go into a sum says how many iterations of a loop pass a test from one on, where the first one does: all before some number.
+pub record IsLeft (bounds : List Bound) (counter : Counter) (guard : Guard) (left : Left) : Type 0 where
+  pub value_is : (values : Values) → linear_value values left.sum ≡ word.subtract (guard.extent + (left.stride - 1)) (linear_value values guard.sum)
+  pub stride : strides counter guard.sum.terms % 2 ^ 32 ≡ left.stride
+  pub some : 1 ≤ left.stride
+  pub few : left.stride ≤ 2 ^ 27
   pub small : guard.extent < 2 ^ 31
   pub begins : (values : Values) → AreBelow bounds (with counter 0 values) → linear_value (with counter 0 values) guard.sum < 2 ^ 31
 
 -- so it is of each test
-abbrev pub AreLeft : List Bound → Counter → List Guard → List Linear → Type 0
+abbrev pub AreLeft : List Bound → Counter → List Guard → List Left → Type 0
 AreLeft bounds counter [] [] = Unit {0}
 AreLeft bounds counter [] (own ∷ left) = ⊥
 AreLeft bounds counter (guard ∷ guards) [] = ⊥
 AreLeft bounds counter (guard ∷ guards) (own ∷ left) = IsLeft bounds counter guard own × AreLeft bounds counter guards left
 
 -- such sums behind others
-abbrev pub AddsLeft : List Bound → Counter → List Guard → List Linear → List Linear → Type 0
-AddsLeft bounds counter guards old new = (left : List Linear) × (new ≡ old ++ left) × AreLeft bounds counter guards left
+abbrev pub AddsLeft : List Bound → Counter → List Guard → List Left → List Left → Type 0
+AddsLeft bounds counter guards old new = (left : List Left) × (new ≡ old ++ left) × AreLeft bounds counter guards left
 
 -- tests with those of the first iteration
 abbrev pub TestFirst : List Bound → Counter → List Guard → List Guard → List Guard → Type 0

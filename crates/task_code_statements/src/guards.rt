@@ -13,10 +13,14 @@ use task_code_loops::bounds::{Bound, is_below};
 use task_code_loops::guards::emit_guarded;
 use task_code_registers::holding::{at_value, stride_of};
 use task_code_registers::scopes::{Form, Held};
+use task_code_runs::left::Left;
 use task_code_scalar::{CodeFault, append};
 
-/// The largest extent that leaves no negative number. No sum that begins below it turns over 2^32 in a run.
+/// The largest extent that leaves no negative number.
 const MOST_EXTENT: u32 = (1 << 31) - 1;
+
+/// The largest stride at which no sum that begins below that extent turns over 2^32 in a run.
+const MOST_STRIDE: u32 = 1 << 27;
 
 /// A sum that has to be below an extent.
 #[derive(Debug)]
@@ -124,27 +128,27 @@ fn left_of(
     bounds: &[Bound],
     counter: Counter,
     guard: &Guard,
-) -> Result<Linear, CodeFault>
+) -> Result<Left, CodeFault>
     ensures { IfOk result (IsLeft bounds.now counter guard.now) }
 {
     let stride = stride_of(guard.sum.terms.as_slice(), counter);
-    if stride != 1 || guard.extent > MOST_EXTENT {
+    if stride == 0 || stride > MOST_STRIDE || guard.extent > MOST_EXTENT {
         return Err(CodeFault::TooDeep);
     }
     let start = first_of(alloc, counter, guard)?;
     if !is_below(&start, bounds, MOST_EXTENT) {
         return Err(CodeFault::TooDeep);
     }
-    let extent = Linear::of_number(alloc, guard.extent);
-    let left = extent.minus(&guard.sum)?;
-    Ok(left)
+    let extent = Linear::of_number(alloc, guard.extent + (stride - 1));
+    let sum = extent.minus(&guard.sum)?;
+    Ok(Left { sum, stride })
 }
 
-/// Adds a sum to others.
-fn push_sum(sums: &mut Vec<Linear>, sum: Linear) -> Result<(), AllocError>
-    ensures { OnOk result (sums.new.items ≡ sums.old.items ++ (sum ∷ [])) }
+/// Adds what a test leaves to what others do.
+fn push_left(left: &mut Vec<Left>, own: Left) -> Result<(), AllocError>
+    ensures { OnOk result (left.new.items ≡ left.old.items ++ (own ∷ [])) }
 {
-    sums.push(sum)?;
+    left.push(own)?;
     Ok(())
 }
 
@@ -153,7 +157,7 @@ fn add_left(
     alloc: Global,
     bounds: &[Bound],
     counter: Counter,
-    left: &mut Vec<Linear>,
+    left: &mut Vec<Left>,
     guards: &[Guard],
 ) -> Result<(), CodeFault>
     ensures { OnOk result (AddsLeft bounds.now counter guards.now left.old.items left.new.items) }
@@ -162,7 +166,7 @@ fn add_left(
         [] => Ok(()),
         [first, others @ ..] => {
             let own = left_of(alloc, bounds, counter, first)?;
-            push_sum(left, own)?;
+            push_left(left, own)?;
             add_left(alloc, bounds, counter, left, others)?;
             Ok(())
         }
@@ -194,15 +198,15 @@ fn add_tests_at_start(
 #[derive(Drop)]
 pub struct Tests {
     pub fixed: Vec<Guard>,
-    pub left: Vec<Linear>,
+    pub left: Vec<Left>,
 }
 
 /// What of tests is asked in front of a loop.
 ///
 /// # Errors
 ///
-/// Memory ran out, or the sum of a test that hangs on the loop's lanes doesn't grow by 1 an iteration, or may be so
-/// large that it turns over.
+/// Memory ran out, or the sum of a test that hangs on the loop's lanes grows by so much, or may be so large, that it
+/// turns over.
 pub fn tests_of(
     alloc: Global,
     bounds: &[Bound],

@@ -14,7 +14,7 @@ use crate::plain::is_plain_store;
 use crate::rewriting::store_by_others;
 use crate::splits::enter_split;
 use crate::statements::mentions;
-use loop_ir::expressions::{Counter, Linear};
+use loop_ir::expressions::Counter;
 use loop_ir::statements::{LoopKind, Stmt, Store};
 use std::alloc::Global;
 use task_code_lane_values::vectorized::Lanes;
@@ -22,6 +22,7 @@ use task_code_lanes::groups::Group;
 use task_code_loops::bounds::Bound;
 use task_code_names::names::store_by_names;
 use task_code_registers::scopes::Held;
+use task_code_runs::left::Left;
 use task_code_runs::runs::emit_run;
 use task_code_scalar::CodeFault;
 use task_code_values::sites::Site;
@@ -115,7 +116,7 @@ fn stored_by(alloc: Global, context: &Context, body: &Stmt) -> Result<Guarded, C
 pub struct Run {
     pub store: Store,
     pub fixed: Vec<Guard>,
-    pub left: Vec<Linear>,
+    pub left: Vec<Left>,
 }
 
 impl Drop for Run {
@@ -173,8 +174,8 @@ fn lanes_for(scope: &[Held], own: Bound) -> Result<Lanes, CodeFault>
 ///
 /// # Errors
 ///
-/// Memory ran out, the body is no single store, the sum of a test doesn't grow by 1 an iteration or may turn over, or
-/// groups and registers do not suffice for this way of making code.
+/// Memory ran out, the body is no single store, the sum of a test may turn over, or groups and registers do not suffice
+/// for this way of making code.
 pub fn emit_vectorized(
     alloc: Global,
     code: &mut Vec<u32>,

@@ -3,7 +3,6 @@ use Rattle.std.specs.Prelude.{◌≡◌, ◌≢◌, ◌<◌, ◌≤◌, ℕ, ◌
 use Rattle.rv_insn.specs.declared.instructions.Insn.{Insn}
 use Rattle.halide_pipeline.specs.Pixel.{Planes}
 use Rattle.loop_ir.specs.declared.expressions.Counter.{Counter}
-use Rattle.loop_ir.specs.declared.expressions.Linear.{Linear}
 use Rattle.loop_ir.specs.declared.statements.Stmt.{Stmt}
 use Rattle.loop_ir.specs.declared.statements.Store.{Store}
 use Rattle.loop_ir.specs.Counters.{Values, with}
@@ -23,7 +22,8 @@ use Rattle.task_code_lanes.specs.declared.groups.Group.TheVariants as groups
 use Rattle.task_code_lanes.specs.Leaving.{HasLanes}
 use Rattle.task_code_lane_values.specs.declared.vectorized.Lanes.{Lanes}
 use Rattle.task_code_runs.specs.AtOnce.{MayRun}
-use Rattle.task_code_runs.specs.Runs.{StoresAs, least_left, run_of}
+use Rattle.task_code_runs.specs.declared.left.Left.{Left}
+use Rattle.task_code_runs.specs.Runs.{StoresAs, least_left, left_by, run_of}
 
 abbrev pub group_lanes : Group → ℕ
 group_lanes groups.One = 4
@@ -69,7 +69,16 @@ pub record MakesPointer (old new : List ℕ) (scope : List Held) (counter : Coun
   pub does : (world : World) (memory : List ℕ) (hart : ℕ) (values : Values) (f : ℕ → ℕ) → length memory ≡ world.size → AreHolders scope
       → Knows hart scope (with counter 0 values) f → Points world memory insns f b (form_value hart (with counter 0 values) form)
 
--- ---- the least of sums
+-- ---- how many iterations sums leave
+
+-- appended code leaves in a register how many a sum leaves
+pub record MakesLeft (old new : List ℕ) (scope : List Held) (counter : Counter) (b : ℕ) (left : Left) : Type 0 where
+  pub insns : List Insn
+  pub emits : Emits old new insns
+  pub some : 1 ≤ b
+  pub source : IsSource b
+  pub does : (world : World) (memory : List ℕ) (values : Values) (f : ℕ → ℕ) → length memory ≡ world.size → AreHolders scope
+      → Knows world.hart scope (with counter 0 values) f → Points world memory insns f b (left_by counter left values)
 
 -- straight code that leaves v where values are made; that register, the scratch registers and that of addresses may change
 pub record Least (world : World) (memory : List ℕ) (insns : List Insn) (f : ℕ → ℕ) (v : ℕ) : Type 0 where
@@ -78,8 +87,8 @@ pub record Least (world : World) (memory : List ℕ) (insns : List Insn) (f : �
   pub value : after first_value ≡ v
   pub others : (q : ℕ) → q ≢ first_value → q ≢ address_register → q ≢ scratch → q ≢ second_scratch → after q ≡ f q
 
--- appended code leaves the least of sums in the first iteration there
-pub record MakesLeast (old new : List ℕ) (scope : List Held) (counter : Counter) (first : Linear) (others : List Linear) : Type 0 where
+-- appended code leaves the least there that one of some leaves
+pub record MakesLeast (old new : List ℕ) (scope : List Held) (counter : Counter) (first : Left) (others : List Left) : Type 0 where
   pub insns : List Insn
   pub emits : Emits old new insns
   pub does : (world : World) (memory : List ℕ) (values : Values) (f : ℕ → ℕ) → length memory ≡ world.size → AreHolders scope

@@ -15,8 +15,8 @@ pub returns-in_ok-configure-in-len1 : goal.returns-in_ok-configure-in-len1
 returns-in_ok-configure-in-len1 c =
     subst (λ l. Configures c.args.code.now.items c.configure.new.code.items c.args.scope.now c.args.own (left_lanes c.args.own l))
     (sym (only-there c.args.left.now c.only-item.result c.in-len1.len_at_least c.in-len1.len_below c.only-item.is))
-    (left-configured c.args.scope.now c.args.own c.only-item.result c.in_ok-sum-in-len1.sum c.in_ok-register-in-len1.register _ _ _ c.requires
-    c.in_ok-sum-in-len1.ensures c.in_ok-register-in-len1.ensures c.in_ok-configure-in-len1.ensures)
+    (left-configured c.args.scope.now c.args.own c.only-item.result c.in_ok-register-in-len1.register _ _ _ c.requires c.in_ok-register-in-len1.ensures
+    c.in_ok-configure-in-len1.ensures)
 
 pub returns-in_ok-configure-in-len1-up : goal.returns-in_ok-configure-in-len1-up
 returns-in_ok-configure-in-len1-up c =
