@@ -2,9 +2,8 @@
 use Rattle.std.proofs.Common.{◌≡◌, ℕ, ◌+◌, ◌^◌, ◌<◌, ◌≤◌, List, [], ◌∷◌, ◌++◌, length, map, Some, Ok, refl, ap, ◌∙◌, append_assoc, arith}
 use Rattle.std.specs.List.{AllByRecursion}
 use Rattle.std.proofs.lemmas.List.{append-nil}
-use Rattle.line_text.specs.Lines.{IsLine, lines_of, text_of}
-use Rattle.line_text.specs.LineReading.{taken_from}
-use Rattle.memory.specs.Addresses.{most_words}
+use Rattle.line_text.specs.Lines.{IsLine, lines_of, text_of, taken_from}
+use Rattle.memory.specs.Access.{most_words}
 use Rattle.rv_encoding.specs.Decoding.{decoded}
 use Rattle.assembler_syntax.specs.Tokens.{tokens_of}
 use Rattle.assembler_syntax.specs.Statements.{statement_of}

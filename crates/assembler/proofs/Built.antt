@@ -2,7 +2,7 @@
 use Rattle.std.proofs.Common.{vec_len, ◌≡◌, ℕ, ◌+◌, ◌==◌, suc, true, false, List, [], ◌∷◌, ◌++◌, length, Option, Some, None, Ok, Err, refl, sym, ap, subst, ◌∙◌}
 use Rattle.std.proofs.lemmas.List.{append-nil}
 use Rattle.std.specs.Prelude.{unwrap_or}
-use Rattle.memory.specs.Addresses.{text_start}
+use Rattle.memory.specs.Access.{text_start}
 use Rattle.loader.specs.Image.{ImageContents}
 use Rattle.loader.specs.declared.outputs.Output.{Output}
 use Rattle.assembler.specs.Judging.{Given, Item, nothing, these_items, these_bytes}

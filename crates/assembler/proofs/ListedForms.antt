@@ -1,6 +1,6 @@
 -- What an instruction shows is read as its form and its fields.
 use Rattle.std.proofs.Common.{◌≡◌, ℤ, true, List, [], ◌∷◌, Ok, arith, ap}
-use Rattle.rv_insn.specs.Meaning.{fields_of}
+use Rattle.rv_insn.specs.Table.{fields_of}
 use Rattle.rv_insn.specs.declared.instructions.Insn.{Insn}
 use Rattle.assembler_mnemonics.specs.Forms.{form_of}
 use Rattle.assembler_mnemonics.specs.Placing.{placed}

@@ -5,7 +5,7 @@ use Rattle.std.specs.Int.{w32, cast_unsigned}
 use Rattle.std.specs.Str.{bytes_eq}
 use Rattle.std.proofs.lemmas.Bool.{and_parts, le-leb}
 use Rattle.std.proofs.lemmas.Int.{ints}
-use Rattle.rv_insn.specs.Meaning.{fields_of}
+use Rattle.rv_insn.specs.Table.{fields_of}
 use Rattle.rv_insn.specs.declared.instructions.Insn.{Insn}
 use Rattle.assembler_mnemonics.specs.Forms.{form_of, mnemonic}
 use Rattle.assembler_mnemonics.specs.Named.{forms, vector_forms, form_among, form_named}

@@ -4,11 +4,10 @@ use Rattle.std.specs.List.{AllByRecursion}
 use Rattle.std.proofs.lemmas.List.{append-nil}
 use Rattle.std.proofs.lemmas.List.Elements.{All-head, All-tail}
 use Rattle.std.proofs.lemmas.Bool.Decides.{nat_tests}
-use Rattle.line_text.specs.Lines.{IsLine, lines_of, text_of}
-use Rattle.line_text.specs.LineReading.{taken_from}
-use Rattle.memory.specs.Addresses.{text_start, most_words}
+use Rattle.line_text.specs.Lines.{IsLine, lines_of, text_of, taken_from}
+use Rattle.memory.specs.Access.{text_start, most_words}
 use Rattle.loader.specs.declared.outputs.Output.{Output}
-use Rattle.rv_insn.specs.Meaning.{Means, fields_of}
+use Rattle.rv_insn.specs.Table.{Means, fields_of}
 use Rattle.rv_insn.specs.declared.instructions.Insn.{Insn}
 use Rattle.rv_encoding.specs.Decoding.{decoded}
 use Rattle.rv_encoding.proofs.Rows.{one_spelling}

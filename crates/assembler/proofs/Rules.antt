@@ -5,10 +5,8 @@ use Rattle.std.proofs.lemmas.List.{length-replicate}
 use Rattle.std.proofs.Math.Nat.{min-eq_left, min-eq_right}
 use Rattle.std.specs.Prelude.{IfOk, IfSome, unsigned_abs}
 use Rattle.std.specs.Int.{w32, to_le_bytes}
-use Rattle.line_text.specs.Reading.{◌>>=◌}
-use Rattle.line_text.specs.Lines.{lines_of}
-use Rattle.line_text.specs.LineReading.{located, taken_from}
-use Rattle.memory.specs.Addresses.{text_start, is_text_word, most_words, most_bytes}
+use Rattle.line_text.specs.Lines.{◌>>=◌, located, taken_from, lines_of}
+use Rattle.memory.specs.Access.{text_start, is_text_word, most_words, most_bytes}
 use Rattle.loader.specs.Image.{ImageContents, is_entry, is_output, is_output_or_none, is_within_limits, judged}
 use Rattle.loader.specs.declared.outputs.Output.{Output as Picture}
 use Rattle.assembler_mnemonics.specs.declared.forms.Form.{Form}

@@ -1,9 +1,7 @@
 -- A whole text, line by line.
 use Rattle.std.proofs.Common.{◌≡◌, ℕ, ◌+◌, List, [], ◌∷◌, Result, Ok, Err, refl, sym, ap, subst, true≢false, ◌∙◌}
 use Rattle.std.specs.Result.{IsErr, IsErrAnd}
-use Rattle.line_text.specs.Reading.{◌>>=◌, Fails, FailsAt, at_line}
-use Rattle.line_text.specs.Lines.{lines_of}
-use Rattle.line_text.specs.LineReading.{taken_from}
+use Rattle.line_text.specs.Lines.{◌>>=◌, Fails, FailsAt, at_line, taken_from, lines_of}
 use Rattle.line_text.specs.declared.read_errors.ReadError.{ReadError}
 use Rattle.line_text.specs.declared.read_errors.ReadError.TheVariants as errors
 use Rattle.assembler_syntax.specs.Tokens.{tokens_of}

@@ -1,6 +1,6 @@
 -- Words of instructions, by the instruction table.
 use Rattle.std.proofs.Common.{◌≡◌, ℕ, ℤ, List, Ok, refl, sym}
-use Rattle.rv_insn.specs.Meaning.{Means, fields_of}
+use Rattle.rv_insn.specs.Table.{Means, fields_of}
 use Rattle.rv_insn.specs.declared.instructions.Insn.{Insn}
 use Rattle.assembler_mnemonics.specs.declared.forms.Form.{Form}
 use Rattle.assembler_mnemonics.specs.Forms.{form_of, IsWord}

@@ -1,7 +1,7 @@
 -- What a text means, as contracts say it, and words for code that builds an object line by line.
 -- This project's own.
 use Rattle.std.specs.Prelude.{◌≡◌, ℕ, List, Result, Ok, Err}
-use Rattle.line_text.specs.Reading.{Fails, FailsAt}
+use Rattle.line_text.specs.Lines.{Fails, FailsAt}
 use Rattle.line_text.specs.declared.read_errors.ReadError.{ReadError}
 use Rattle.line_text.specs.declared.read_errors.LocatedError.{LocatedError}
 use Rattle.loader.specs.Image.{ImageContents}

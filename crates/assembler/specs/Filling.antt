@@ -1,7 +1,7 @@
 -- Words for code that fills a form's fields: what it does is what was judged.
 -- This project's own.
 use Rattle.std.specs.Prelude.{◌≡◌, ℕ, ℤ, List, Result, Ok, Err}
-use Rattle.line_text.specs.Reading.{◌>>=◌}
+use Rattle.line_text.specs.Lines.{◌>>=◌}
 use Rattle.assembler_mnemonics.specs.Placing.{placed}
 use Rattle.assembler.specs.Faults.{both}
 use Rattle.assembler.specs.declared.faults.AsmFault.{AsmFault}

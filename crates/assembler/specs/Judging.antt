@@ -1,13 +1,13 @@
 -- What an operand gives in its slot, and what a line gives: words and bytes, or its least fault.
 -- This project's own; that `li` and `la` are LUI and ADDI is of RISC-V Unprivileged ISA 20191213, chapter 25.
-use Rattle.line_text.specs.Reading.{◌>>=◌}
+use Rattle.line_text.specs.Lines.{◌>>=◌}
 use Rattle.std.specs.Prelude.{ℕ, ◌+◌, ◌*◌, ◌/◌, ◌%◌, ◌^◌, ◌==◌, ◌&&◌, Bool, not, nat_lt, nat_le, if◌then◌else◌, true, ℤ, pos, negsuc, ◌-ℤ◌, List, [], ◌∷◌, ◌++◌, replicate, codes, Option, Some, None, option_map, Result, Ok, Err}
 use Rattle.std.specs.Prelude.{unsigned_abs}
 use Rattle.std.specs.Int.{w32, to_le_bytes, cast_unsigned, int_rem_euclid, int_shr}
 use Rattle.std.specs.Int.Signed.{le_z}
 use Rattle.std.specs.Ordering.{int_eq}
 use Rattle.std.specs.Str.{bytes_eq}
-use Rattle.memory.specs.Addresses.{is_text_word, most_bytes}
+use Rattle.memory.specs.Access.{is_text_word, most_bytes}
 use Rattle.rv_insn.specs.Encoding.{signed}
 use Rattle.rv_insn.specs.declared.operations.AluImmOp.TheVariants.{Addi}
 use Rattle.loader.specs.Image.{is_output, most_pixels}

@@ -1,8 +1,8 @@
 -- What a line gives, or its least fault.
 -- This project's own.
 use Rattle.std.specs.Prelude.{ℕ, ◌==◌, ◌&&◌, Bool, true, nat_le, List, Option, Some, None, Result, Ok}
-use Rattle.memory.specs.Addresses.{most_words, most_bytes}
-use Rattle.line_text.specs.Reading.{◌>>=◌}
+use Rattle.memory.specs.Access.{most_words, most_bytes}
+use Rattle.line_text.specs.Lines.{◌>>=◌}
 use Rattle.assembler_syntax.specs.Tokens.{tokens_of}
 use Rattle.assembler_syntax.specs.Statements.{statement_of, head_of}
 use Rattle.assembler_syntax.specs.declared.statements.Command.{Command}

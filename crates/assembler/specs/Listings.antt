@@ -2,7 +2,7 @@
 -- This project's own.
 use Rattle.std.specs.Prelude.{◌≡◌, ℕ, ◌<◌, ◌^◌, List, [], None, Ok}
 use Rattle.std.specs.List.{All}
-use Rattle.memory.specs.Addresses.{text_start}
+use Rattle.memory.specs.Access.{text_start}
 use Rattle.loader.specs.Image.{ImageContents}
 use Rattle.disassembler.specs.Listing.{addressed_listing, listing}
 use Rattle.assembler.specs.Object.{Assembled, IsObject, assembled}

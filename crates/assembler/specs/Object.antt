@@ -1,10 +1,8 @@
 -- The object that a text without faulty lines means, and the first faulty line of any other.
 -- This project's own.
 use Rattle.std.specs.Prelude.{◌≡◌, ℕ, ◌+◌, List, [], ◌∷◌, ◌++◌, length, ◌==◌, if◌then◌else◌, Option, Some, None, Result, Ok, Err}
-use Rattle.line_text.specs.Reading.{◌>>=◌}
-use Rattle.line_text.specs.Lines.{lines_of}
-use Rattle.line_text.specs.LineReading.{taken_from}
-use Rattle.memory.specs.Addresses.{text_start}
+use Rattle.line_text.specs.Lines.{◌>>=◌, taken_from, lines_of}
+use Rattle.memory.specs.Access.{text_start}
 use Rattle.loader.specs.Image.{ImageContents}
 use Rattle.loader.specs.declared.outputs.Output.{Output}
 use Rattle.assembler_mnemonics.specs.Forms.{IsWord}

@@ -2,7 +2,7 @@
 -- This project's own.
 use Rattle.std.specs.Prelude.{ℕ, ◌+◌, ◌*◌, ◌^◌, min, if◌then◌else◌, ℤ, pos, List, [], ◌∷◌, ◌++◌, Option, Some, None, codes}
 use Rattle.std.specs.Str.{bytes_eq}
-use Rattle.memory.specs.Addresses.{text_start, data_start}
+use Rattle.memory.specs.Access.{text_start, data_start}
 use Rattle.assembler_mnemonics.specs.declared.forms.Form.{Form}
 use Rattle.assembler_mnemonics.specs.Named.{form_named}
 use Rattle.assembler_syntax.specs.Tokens.{tokens_of}

@@ -2,7 +2,7 @@
 
 ghost use Rattle.std.specs.Prelude.{◌≡◌, ◌+◌, ◌/◌, ◌%◌, ◌^◌, ◌≤◌, IsTrue};
 ghost use Rattle.std.specs.Prelude.{unsigned_abs};
-ghost use Rattle.memory.specs.Addresses.{is_text_word};
+ghost use Rattle.memory.specs.Access.{is_text_word};
 ghost use Rattle.rv_insn.specs.Encoding.{signed};
 ghost use Rattle.loader.specs.Image.{most_pixels};
 ghost use Rattle.assembler_mnemonics.specs.Registers.{integer_letter};

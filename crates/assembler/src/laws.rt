@@ -1,7 +1,7 @@
 //! Laws of the assembler, each the contract of a function that does nothing: its caller learns the law.
 
 ghost use Rattle.std.specs.Prelude.{◌≤◌, ℕ, List, length};
-ghost use Rattle.memory.specs.Addresses.{most_words};
+ghost use Rattle.memory.specs.Access.{most_words};
 ghost use Rattle.assembler.specs.Listings.{AreWords, AssemblesBack, AssemblesBackFrom};
 
 use assembler_mnemonics::laws::{fields_fit, means_is_word, mnemonics_tell_apart};

@@ -1,8 +1,8 @@
 -- Forms and fields against instructions: an instruction is made again from its form and its fields.
 use Rattle.std.proofs.Common.{◌≡◌, ℕ, ◌==◌, ℤ, pos, negsuc, List, ◌↔◌, refl, sym, ◌∙◌, ap, arith, Bool, true, false}
 use Rattle.rv_insn.specs.Encoding.{bit_of}
-use Rattle.rv_insn.specs.Meaning.{name_of, fields_of, Means}
-use Rattle.rv_insn.specs.VectorMeaning.{vector_fields_of}
+use Rattle.rv_insn.specs.Table.{name_of, fields_of, Means}
+use Rattle.rv_insn.specs.VectorTable.{vector_fields_of}
 use Rattle.rv_insn.specs.declared.instructions.Insn.{Insn}
 use Rattle.rv_insn.specs.declared.instructions.Insn.TheVariants.{Lui, Auipc, Jal, Jalr, Branch, Load, Store, AluImm, Shift, Alu, AmoaddW, Fence, Ecall, Ebreak, Vector}
 use Rattle.rv_insn.specs.declared.vector_instructions.VectorInsn.{VectorInsn}

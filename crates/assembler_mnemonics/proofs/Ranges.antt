@@ -12,9 +12,8 @@ use Rattle.std.proofs.lemmas.Option.{slice_get-map, get_or_from_slice_get}
 use Rattle.std.proofs.lemmas.Slice.Eq.{bytes_eq-Decides}
 use Rattle.rv_insn.specs.Encoding.{number_at, Field, field_of, Row, span}
 use Rattle.rv_insn.specs.Encoding.Field.{Unsigned, Signed}
-use Rattle.rv_insn.specs.Table.{table, scalar_table, r_type, i_type, s_type, b_type, u_type, j_type, amo_type, whole_word}
+use Rattle.rv_insn.specs.Table.{table, scalar_table, r_type, i_type, s_type, b_type, u_type, j_type, amo_type, whole_word, fields_of, Means}
 use Rattle.rv_insn.specs.VectorTable.{vector_table}
-use Rattle.rv_insn.specs.Meaning.{fields_of, Means}
 use Rattle.rv_insn.specs.declared.instructions.Insn.{Insn}
 use Rattle.rv_insn.specs.declared.instructions.Insn.TheVariants.{Lui, Auipc, Jal, Jalr, Branch, Load, Store, AluImm, Shift, Alu, AmoaddW, Fence, Ecall, Ebreak, Vector}
 use Rattle.assembler_mnemonics.specs.declared.slots.Slot.{Slot}

@@ -3,11 +3,9 @@
 -- 19, for the names; that the bits aq and rl are written behind the name of amoadd.w is of chapter 25 of the former.
 use Rattle.std.specs.Prelude.{◌≡◌, ℕ, ℤ, Bool, true, false, List, [], ◌++◌, map, codes}
 use Rattle.std.specs.List.{Contains}
-use Rattle.rv_insn.specs.Encoding.{Holds, Row, field_of}
-use Rattle.rv_insn.specs.Table.{table}
-use Rattle.rv_insn.specs.Meaning.{branch_name, load_name, store_name, alu_imm_name, shift_name, alu_name}
-use Rattle.rv_insn.specs.Addressing.{mode_of}
-use Rattle.rv_insn.specs.VectorMeaning.{arithmetic_vv_name, arithmetic_vx_name, arithmetic_vi_name, shift_vi_name, compare_vv_name, compare_vx_name, compare_vi_name, multiply_vv_name, multiply_vx_name, reduction_name, load_elements_name, store_elements_name}
+use Rattle.rv_insn.specs.Encoding.{Holds, Row, field_of, mode_of}
+use Rattle.rv_insn.specs.Table.{table, branch_name, load_name, store_name, alu_imm_name, shift_name, alu_name}
+use Rattle.rv_insn.specs.VectorTable.{arithmetic_vv_name, arithmetic_vx_name, arithmetic_vi_name, shift_vi_name, compare_vv_name, compare_vx_name, compare_vi_name, multiply_vv_name, multiply_vx_name, reduction_name, load_elements_name, store_elements_name}
 use Rattle.rv_insn.specs.declared.instructions.Insn.{Insn}
 use Rattle.rv_insn.specs.declared.instructions.Insn.TheVariants.{Lui, Auipc, Jal, Jalr, Branch, Load, Store, AluImm, Shift, Alu, AmoaddW, Fence, Ecall, Ebreak, Vector}
 use Rattle.rv_insn.specs.declared.vector_instructions.VectorInsn.{VectorInsn}

@@ -2,7 +2,7 @@
 -- RISC-V Unprivileged ISA 20191213, section 2.1, and Vector Extension 1.0, section 3.1.
 use Rattle.std.specs.Prelude.{ℕ, ◌+◌, ◌*◌, ◌-◌, ◌==◌, ◌&&◌, not, nat_lt, if◌then◌else◌, List, [], ◌∷◌, Option, Some, None}
 use Rattle.std.specs.Fmt.{decimal}
-use Rattle.line_text.specs.Classes.{is_digit}
+use Rattle.line_text.specs.Lines.{is_digit}
 
 -- the letters `x` of an integer register and `v` of a vector register
 abbrev pub integer_letter : ℕ

@@ -1,7 +1,7 @@
 //! Instructions from forms and the numbers in their fields.
 
 ghost use Rattle.std.specs.Prelude.{◌≡◌, ◌<◌, pos, length};
-ghost use Rattle.rv_insn.specs.Meaning.{fields_of};
+ghost use Rattle.rv_insn.specs.Table.{fields_of};
 ghost use Rattle.assembler_mnemonics.specs.Forms.{form_of};
 ghost use Rattle.assembler_mnemonics.specs.Slots.{blank, shape, field_at, IsWithin, FitsSlots, Keeps};
 ghost use Rattle.assembler_mnemonics.specs.inner.Groups.{IsOperation, IsAccess};

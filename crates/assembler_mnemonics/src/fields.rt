@@ -2,9 +2,9 @@
 
 ghost use Rattle.std.specs.Prelude.{◌≡◌, ◌<◌, ◌≤◌, pos, length, slice_set, [], ◌∷◌, ◌++◌};
 ghost use Rattle.rv_insn.specs.Encoding.{bit_of};
-ghost use Rattle.rv_insn.specs.Addressing.{offset_fields};
-ghost use Rattle.rv_insn.specs.Meaning.{fields_of};
-ghost use Rattle.rv_insn.specs.VectorMeaning.{vector_fields_of};
+ghost use Rattle.rv_insn.specs.Encoding.{offset_fields};
+ghost use Rattle.rv_insn.specs.Table.{fields_of};
+ghost use Rattle.rv_insn.specs.VectorTable.{vector_fields_of};
 ghost use Rattle.assembler_mnemonics.specs.Forms.{vector_form_of};
 ghost use Rattle.assembler_mnemonics.specs.Slots as spec;
 ghost use Rattle.assembler_mnemonics.specs.inner.Groups.{HasOther, IsConfiguration, IsElementAccess};

@@ -1,7 +1,7 @@
 //! Laws of the table, each the contract of a function that does nothing: its caller learns the law.
 
 ghost use Rattle.std.specs.Prelude.{◌≡◌, ◌<◌, ℕ, ℤ, ◌↔◌, List, length, Some, true};
-ghost use Rattle.rv_insn.specs.Meaning.{name_of, fields_of, Means};
+ghost use Rattle.rv_insn.specs.Table.{name_of, fields_of, Means};
 ghost use Rattle.rv_insn.specs.declared.instructions.Insn.{Insn};
 ghost use Rattle.assembler_mnemonics.specs.declared.forms.Form.{Form};
 ghost use Rattle.assembler_mnemonics.specs.Forms.{form_of, mnemonic, row_name, IsWord};

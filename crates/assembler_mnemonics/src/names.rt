@@ -1,7 +1,7 @@
 //! The mnemonics of each group of operations.
 
 ghost use Rattle.std.specs.Prelude.{◌≡◌};
-ghost use Rattle.rv_insn.specs.Meaning.{branch_name, load_name, store_name, alu_imm_name, shift_name, alu_name};
+ghost use Rattle.rv_insn.specs.Table.{branch_name, load_name, store_name, alu_imm_name, shift_name, alu_name};
 
 use rv_insn::{AluImmOp, AluOp, BranchOp, LoadOp, ShiftOp, StoreOp};
 

@@ -2,8 +2,8 @@
 
 ghost use Rattle.std.specs.Prelude.{◌≡◌, pos, length, [], ◌∷◌, ◌++◌};
 ghost use Rattle.rv_insn.specs.Encoding.{bit_of};
-ghost use Rattle.rv_insn.specs.Addressing.{mode_of, offset_fields};
-ghost use Rattle.rv_insn.specs.VectorMeaning.{vector_fields_of};
+ghost use Rattle.rv_insn.specs.Encoding.{mode_of, offset_fields};
+ghost use Rattle.rv_insn.specs.VectorTable.{vector_fields_of};
 ghost use Rattle.rv_insn.specs.declared.vector_instructions.VectorInsn.TheVariants as insns;
 ghost use Rattle.assembler_mnemonics.specs.Forms.{vector_form_of};
 ghost use Rattle.assembler_mnemonics.specs.Slots.{vector_blank, vector_shape, access_blank, access_operands, FitsSlots};

@@ -1,10 +1,10 @@
 //! The mnemonics of each group of vector operations.
 
 ghost use Rattle.std.specs.Prelude.{◌≡◌};
-ghost use Rattle.rv_insn.specs.VectorMeaning.{arithmetic_vv_name, arithmetic_vx_name, arithmetic_vi_name};
-ghost use Rattle.rv_insn.specs.VectorMeaning.{shift_vi_name, compare_vv_name, compare_vx_name, compare_vi_name};
-ghost use Rattle.rv_insn.specs.VectorMeaning.{multiply_vv_name, multiply_vx_name, reduction_name, load_elements_name};
-ghost use Rattle.rv_insn.specs.VectorMeaning.{store_elements_name};
+ghost use Rattle.rv_insn.specs.VectorTable.{arithmetic_vv_name, arithmetic_vx_name, arithmetic_vi_name};
+ghost use Rattle.rv_insn.specs.VectorTable.{shift_vi_name, compare_vv_name, compare_vx_name, compare_vi_name};
+ghost use Rattle.rv_insn.specs.VectorTable.{multiply_vv_name, multiply_vx_name, reduction_name, load_elements_name};
+ghost use Rattle.rv_insn.specs.VectorTable.{store_elements_name};
 
 use rv_insn::{
     AddressMode, ArithmeticViOp, ArithmeticVvOp, ArithmeticVxOp, CompareViOp, CompareVvOp,

@@ -3,7 +3,7 @@ use Rattle.std.proofs.Common.{◌≡◌, ℕ, ◌+◌, ◌-◌, ◌*◌, ◌%◌
 use Rattle.std.proofs.Math.ListN.{get_or}
 use Rattle.std.proofs.lemmas.List.{take_all}
 use Rattle.std.proofs.lemmas.List.Sums.{fold_more}
-use Rattle.line_text.specs.Numbers.{decimal_number, hexadecimal_number, hexadecimal_value}
+use Rattle.line_text.specs.Lines.{decimal_number, hexadecimal_number, hexadecimal_value}
 use Rattle.std.proofs.lemmas.Bool.{leb-false, lt-leb}
 use Rattle.assembler_syntax.specs.Tokens.{capped}
 

@@ -1,7 +1,7 @@
 -- Taking tokens one after the other, as a loop does.
 use Rattle.std.proofs.Common.{◌≡◌, ℕ, zero, suc, ◌-◌, ◌<◌, true, false, List, [], ◌∷◌, ◌++◌, length, refl, sym, ap, rules, ◌∙◌, append_assoc, arith}
 use Rattle.std.proofs.lemmas.List.{append-nil}
-use Rattle.line_text.specs.Classes.{skip_blanks, ends}
+use Rattle.line_text.specs.Lines.{skip_blanks, ends}
 use Rattle.assembler_syntax.specs.declared.tokens.Token.{Token}
 use Rattle.assembler_syntax.specs.Tokens.{front_token, tokens_from, tokens_of}
 

@@ -2,7 +2,7 @@
 -- This project's own, after the assembly syntax of RISC-V Unprivileged ISA 20191213, chapter 25.
 use Rattle.std.specs.Prelude.{ℕ, ◌&&◌, Bool, true, false, nat_le, if◌then◌else◌, ℤ, List, [], ◌∷◌, length, Option, Some, None}
 use Rattle.std.specs.List.{list_all}
-use Rattle.line_text.specs.Classes.{begins_name, continues_name}
+use Rattle.line_text.specs.Lines.{begins_name, continues_name}
 use Rattle.assembler_syntax.specs.declared.tokens.Token.{Token}
 use Rattle.assembler_syntax.specs.declared.tokens.Token.TheVariants as t
 use Rattle.assembler_syntax.specs.declared.statements.Operand.{Operand}

@@ -2,8 +2,7 @@
 -- This project's own, after the assembly syntax of RISC-V Unprivileged ISA 20191213, chapter 25.
 use Rattle.std.specs.Prelude.{ℕ, zero, suc, ◌+◌, ◌%◌, ◌^◌, ◌-◌, ◌==◌, ◌||◌, ◌&&◌, Bool, nat_lt, nat_le, if◌then◌else◌, ℤ, pos, ◌-ℤ◌, List, [], ◌∷◌, length, take, drop}
 use Rattle.std.specs.List.{prefix_len, list_all}
-use Rattle.line_text.specs.Classes.{begins_name, continues_name, is_digit, is_hexadecimal, skip_blanks, ends}
-use Rattle.line_text.specs.Numbers.{decimal_number, hexadecimal_number}
+use Rattle.line_text.specs.Lines.{begins_name, continues_name, is_digit, is_hexadecimal, skip_blanks, ends, decimal_number, hexadecimal_number}
 use Rattle.assembler_syntax.specs.declared.tokens.Token.{Token}
 use Rattle.assembler_syntax.specs.declared.tokens.Token.TheVariants as t
 

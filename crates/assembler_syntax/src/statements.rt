@@ -2,7 +2,7 @@
 
 ghost use Rattle.std.specs.Prelude.{◌≡◌, ◌<◌, ◌≤◌, ◌∷◌, length, option_map, IfOk, IfSome};
 ghost use Rattle.std.specs.List.{list_all, prefix_len};
-ghost use Rattle.line_text.specs.Classes.{continues_name};
+ghost use Rattle.line_text.specs.Lines.{continues_name};
 ghost use Rattle.assembler_syntax.specs.Statements as spec;
 
 use crate::tokens::Token;

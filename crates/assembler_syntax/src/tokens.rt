@@ -1,9 +1,9 @@
 //! The tokens of a line.
 
 ghost use Rattle.std.specs.List.{list_all};
-ghost use Rattle.line_text.specs.Classes.{is_digit, is_hexadecimal};
+ghost use Rattle.line_text.specs.Lines.{is_digit, is_hexadecimal};
 ghost use Rattle.std.specs.Prelude.{◌≡◌, ◌≤◌, ◌<◌, ◌^◌, ◌+◌, pos, ◌-ℤ◌, length, IfOk};
-ghost use Rattle.line_text.specs.Numbers.{decimal_number, hexadecimal_number, hexadecimal_value};
+ghost use Rattle.line_text.specs.Lines.{decimal_number, hexadecimal_number, hexadecimal_value};
 ghost use Rattle.assembler_syntax.specs.Tokens as spec;
 
 use line_text::spans::{begins_name, continues_name, ends, is_digit, is_hexadecimal, skip_blanks};

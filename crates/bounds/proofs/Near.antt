@@ -3,7 +3,8 @@ use Rattle.std.proofs.Common.{◌≡◌, ℕ, ◌+◌, ◌-◌, ◌^◌, ◌≤�
 use Rattle.std.specs.Prelude.{nat_le}
 use Rattle.std.proofs.lemmas.Bool.{and_parts, leb-true}
 use Rattle.bounds_ranges.specs.declared.ranges.Range.{Range}
-use Rattle.bounds_ranges.specs.Ranges.{origin, IsFit, widened}
+use Rattle.bounds_ranges.specs.Ranges.{IsFit, widened}
+use Rattle.bounds_ranges.specs.Numbers.{origin}
 use Rattle.bounds.specs.declared.boxes.SourceBox.{SourceBox}
 use Rattle.bounds.specs.Boxes.{IsBox, IsBoxOrNone, IsFitBox, are_near, stays}
 

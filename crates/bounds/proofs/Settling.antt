@@ -2,7 +2,7 @@
 use Rattle.std.proofs.Common.{◌≡◌, ℕ, ◌+◌, ◌*◌, Bool, true, false, List, [], ◌∷◌, refl, arith}
 use Rattle.std.specs.Prelude.{not, nat_lt, if◌then◌else◌}
 use Rattle.bounds_ranges.specs.declared.bases.Multiple.{Multiple}
-use Rattle.bounds_ranges.specs.Bases.{zero_multiple, more_sum, less_sum}
+use Rattle.bounds_ranges.specs.Ranges.{zero_multiple, more_sum, less_sum}
 use Rattle.bounds.specs.Views.{chosen, inner_part, outer_part}
 
 less_head : (test : Bool) (m : Multiple) (v a b c : ℕ) → a + b ≡ c

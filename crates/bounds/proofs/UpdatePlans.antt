@@ -6,7 +6,7 @@ use Rattle.halide_pipeline.specs.declared.definitions.Update.{Update}
 use Rattle.schedule_lines.specs.declared.stages.Stage.{Stage}
 use Rattle.schedule.specs.declared.plans.FuncPlan.{FuncPlan}
 use Rattle.schedule.specs.Accepted.{IsPlan, IsUpdateStage}
-use Rattle.schedule_loops.specs.Counts.{AreSplits}
+use Rattle.schedule_loops.specs.Visits.{AreSplits}
 use Rattle.schedule_loops.proofs.AcceptedStages.{pair_at}
 use Rattle.schedule_loops.proofs.Few.{few_splits}
 

@@ -1,33 +1,34 @@
 -- Boxes of sources: which points of an input or a Func are read or computed.
 --
 -- A box is a range for each dimension, the second one 0 to 0 where there is one dimension. The box of a Func that is computed at a
--- loop is that of one iteration: its ranges have bases over the loops of the host, the Func whose loop it is, and `lasts` has the
+-- loop is that of one iteration: its ranges have bases over the loops of the consumer, the Func whose loop it is, and `lasts` has the
 -- greatest value of each of these. All other boxes have no base.
 -- This project's own.
-use Rattle.std.specs.Prelude.{◌≡◌, ℕ, ◌+◌, ◌-◌, ◌*◌, ◌^◌, ◌&&◌, nat_le, Bool, true, if◌then◌else◌, List, [], ◌∷◌, Option, Some, None}
+use Rattle.std.specs.Prelude.{◌≡◌, ℕ, ◌+◌, ◌-◌, ◌^◌, ◌&&◌, nat_le, Bool, true, if◌then◌else◌, List, [], ◌∷◌, Option, Some, None, ◌==◌, false}
 use Rattle.std.specs.List.{AllByRecursion}
 use Rattle.halide_pipeline.specs.declared.expressions.Source.{Source}
 use Rattle.bounds_ranges.specs.declared.expressions.Asked.{Asked}
 use Rattle.bounds_ranges.specs.declared.ranges.Ends.{Ends}
 use Rattle.bounds_ranges.specs.declared.ranges.Range.{Range}
-use Rattle.bounds_ranges.specs.Bases.{no_base}
-use Rattle.bounds_ranges.specs.Ranges.{origin, every, ends_of, fit, IsFit, widened, together, hull}
-use Rattle.bounds.specs.declared.boxes.HostLoop.{HostLoop}
+use Rattle.bounds_ranges.specs.Ranges.{no_base, every, ends_of, fit, IsFit, widened, together, hull}
+use Rattle.bounds_ranges.specs.Numbers.{origin}
+use Rattle.bounds.specs.declared.boxes.ConsumerLoop.{ConsumerLoop}
 use Rattle.bounds.specs.declared.boxes.SourceBox.{SourceBox}
 use Rattle.bounds.specs.declared.boxes.Spread.{Spread}
-use Rattle.bounds.specs.Sources.{same_source}
+use Rattle.halide_pipeline.specs.declared.expressions.Source.TheVariants as sources
+
+-- ---- Sources told apart.
+
+abbrev pub same_source : Source → Source → Bool
+same_source (sources.Input a) (sources.Input b) = a == b
+same_source (sources.Func a) (sources.Func b) = a == b
+same_source _ _ = false
+
+-- ---- boxes
 
 -- the greatest values of loops that aren't there
 abbrev pub no_loops : List ℕ
 no_loops = 0 ∷ 0 ∷ 0 ∷ 0 ∷ 0 ∷ []
-
--- how many numbers a range has, in one iteration
-abbrev pub extent : Range → ℕ
-extent range = range.high + 1 - range.low
-
--- how many points a box has, in one iteration
-abbrev pub points : SourceBox → ℕ
-points own = extent own.x * extent own.y
 
 -- ---- A box stays within -2^24 to 2^24, whatever the values of the loops.
 
@@ -63,19 +64,19 @@ in_front own behind = if stays own then Some (own ∷ behind) else None
 -- are widened first if any two of them differ in base; for all others each range is widened.
 
 -- the greatest values of the loops of a box's bases
-abbrev pub lasts_of : Option HostLoop → List ℕ
+abbrev pub lasts_of : Option ConsumerLoop → List ℕ
 lasts_of None = no_loops
-lasts_of (Some host) = host.lasts
+lasts_of (Some consumer) = consumer.lasts
 
--- A range that is asked by a reader with these loops, as one over the loops of the source's host. All that read a Func at a loop
--- have its host's loops, so nothing is lost.
-abbrev pub taken_over : Option HostLoop → List ℕ → Range → Range
+-- A range that is asked by a reader with these loops, as one over the loops of the source's consumer. All that read a Func at a loop
+-- have its consumer's loops, so nothing is lost.
+abbrev pub taken_over : Option ConsumerLoop → List ℕ → Range → Range
 taken_over None lasts range = fit no_loops no_base (widened lasts range)
-taken_over (Some host) lasts range = fit host.lasts range.base (ends_of range)
+taken_over (Some consumer) lasts range = fit consumer.lasts range.base (ends_of range)
 
 -- What has no two ends in order, as no range of an expression does, would count as every word.
-abbrev pub taken : Option HostLoop → List ℕ → Range → Range
-taken host lasts range = if nat_le range.low range.high then taken_over host lasts range else every
+abbrev pub taken : Option ConsumerLoop → List ℕ → Range → Range
+taken consumer lasts range = if nat_le range.low range.high then taken_over consumer lasts range else every
 
 abbrev pub with_range : List ℕ → Option Range → Range → Range
 with_range lasts None range = range
@@ -85,17 +86,17 @@ abbrev pub joined : List ℕ → Bool → Option Range → Range → Option Rang
 joined lasts counts own range = if counts then Some (with_range lasts own range) else own
 
 -- with one read, of whose dimensions these count
-abbrev pub with_read : Option HostLoop → List ℕ → Bool → Bool → Spread → Asked → Spread
-with_read host lasts first second spread read = record {
-  x = joined (lasts_of host) first spread.x (taken host lasts read.x);
-  y = joined (lasts_of host) second spread.y (taken host lasts read.y);
+abbrev pub with_read : Option ConsumerLoop → List ℕ → Bool → Bool → Spread → Asked → Spread
+with_read consumer lasts first second spread read = record {
+  x = joined (lasts_of consumer) first spread.x (taken consumer lasts read.x);
+  y = joined (lasts_of consumer) second spread.y (taken consumer lasts read.y);
 }
 
 -- with all reads of the source among these
-abbrev pub gathered : Option HostLoop → List ℕ → Source → Bool → Bool → Spread → List Asked → Spread
-gathered host lasts source first second spread [] = spread
-gathered host lasts source first second spread (read ∷ others) =
-    gathered host lasts source first second (if same_source read.source source then with_read host lasts first second spread read else spread) others
+abbrev pub gathered : Option ConsumerLoop → List ℕ → Source → Bool → Bool → Spread → List Asked → Spread
+gathered consumer lasts source first second spread [] = spread
+gathered consumer lasts source first second spread (read ∷ others) =
+    gathered consumer lasts source first second (if same_source read.source source then with_read consumer lasts first second spread read else spread) others
 
 -- nothing is read yet
 abbrev pub no_spread : Spread
@@ -110,8 +111,8 @@ box_of lasts None y = None
 box_of lasts (Some x) y = box_with lasts x y
 
 -- the box of what is read, if anything is
-abbrev pub spread_box : Option HostLoop → Spread → Option SourceBox
-spread_box host spread = box_of (lasts_of host) spread.x spread.y
+abbrev pub spread_box : Option ConsumerLoop → Spread → Option SourceBox
+spread_box consumer spread = box_of (lasts_of consumer) spread.x spread.y
 
 -- ---- what is joined keeps to the words
 
@@ -127,9 +128,3 @@ IsFitBox (Some own) = IsFit own.lasts own.x × IsFit own.lasts own.y
 pub record IsSpread (lasts : List ℕ) (spread : Spread) : Type 0 where
   pub x : IsFitOrNone lasts spread.x
   pub y : IsFitOrNone lasts spread.y
-
--- ---- of the sources of a list
-
-abbrev pub box_in : Option (Option SourceBox) → Option SourceBox
-box_in None = None
-box_in (Some own) = own

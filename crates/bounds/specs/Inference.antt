@@ -2,15 +2,17 @@
 --
 -- Where some box leaves -2^24 to 2^24 there are no boxes.
 -- This project's own.
-use Rattle.std.specs.Prelude.{◌≡◌, ℕ, ◌+◌, ◌-◌, ◌==◌, Bool, true, not, if◌then◌else◌, List, [], ◌∷◌, length, slice_get, Option, Some, None}
+use Rattle.std.specs.Prelude.{◌≡◌, ℕ, ◌+◌, ◌-◌, ◌==◌, Bool, true, not, if◌then◌else◌, List, [], ◌∷◌, length, slice_get, Option, Some, None, suc, ◌^◌, false, ◌++◌}
 use Rattle.halide_pipeline.specs.declared.definitions.Func.{Func}
 use Rattle.halide_pipeline.specs.declared.definitions.Input.{Input}
 use Rattle.halide_pipeline.specs.declared.definitions.Output.{Output}
 use Rattle.halide_pipeline.specs.declared.definitions.Update.{Update}
 use Rattle.halide_pipeline.specs.declared.expressions.Source.{Source}
 use Rattle.halide_pipeline.specs.declared.expressions.Source.TheVariants as sources
-use Rattle.halide_pipeline.specs.Definitions.{is_first_in_place, is_second_in_place}
+use Rattle.halide_pipeline.specs.WellFormed.{is_first_in_place, is_second_in_place}
 use Rattle.halide_pipeline.specs.Pipelines.{Pipeline}
+use Rattle.halide_pipeline.specs.declared.definitions.Reduction.{Reduction}
+use Rattle.halide_pipeline.specs.declared.expressions.Expr.{Expr}
 use Rattle.schedule.specs.declared.plans.FuncPlan.{FuncPlan}
 use Rattle.schedule.specs.declared.schedules.Schedule.{Schedule}
 use Rattle.schedule.specs.declared.standings.LoopPlace.{LoopPlace}
@@ -18,23 +20,93 @@ use Rattle.schedule.specs.declared.standings.Place.{Place}
 use Rattle.schedule.specs.declared.standings.Place.TheVariants as places
 use Rattle.schedule.specs.declared.standings.Standing.{Standing}
 use Rattle.bounds_ranges.specs.declared.ranges.Range.{Range}
-use Rattle.bounds_ranges.specs.Bases.{no_base}
-use Rattle.bounds_ranges.specs.Ranges.{origin, fit}
-use Rattle.bounds.specs.declared.boxes.HostLoop.{HostLoop}
+use Rattle.bounds_ranges.specs.Ranges.{no_base, fit, literal}
+use Rattle.bounds_ranges.specs.Numbers.{origin, spot}
+use Rattle.bounds_ranges.specs.declared.expressions.Asked.{Asked}
+use Rattle.bounds_ranges.specs.declared.expressions.OwnCalls.{OwnCalls}
+use Rattle.bounds_ranges.specs.declared.expressions.Variables.{Variables}
+use Rattle.bounds_ranges.specs.Expressions.{Ranged, walked, walked_update}
+use Rattle.bounds.specs.declared.boxes.ConsumerLoop.{ConsumerLoop}
 use Rattle.bounds.specs.declared.boxes.SourceBox.{SourceBox}
 use Rattle.bounds.specs.declared.boxes.Spread.{Spread}
-use Rattle.bounds.specs.Asks.{update_asked, func_asked, unplaced}
 use Rattle.bounds.specs.Boxes.{no_loops, lasts_of, gathered, no_spread, spread_box, in_front}
-use Rattle.bounds.specs.Views.{host_loop, view_of}
+use Rattle.bounds.specs.Views.{consumer_loop, view_of}
+
+-- ---- variables
+
+-- a reduction variable has its values one after the other, from the least
+abbrev pub reduction_range : List ℕ → Reduction → Range
+reduction_range lasts own = fit lasts no_base (record { low = spot own.minimum; high = spot own.minimum + (own.extent - 1) })
+
+abbrev pub second_range : List ℕ → Option Reduction → Range
+second_range lasts None = literal lasts 0
+second_range lasts (Some own) = reduction_range lasts own
+
+-- those of a pure definition, whose arguments lie in this box
+abbrev pub pure_variables : SourceBox → Variables
+pure_variables view = record {
+  first_argument = view.x;
+  second_argument = view.y;
+  first_reduction = literal view.lasts 0;
+  second_reduction = literal view.lasts 0;
+}
+
+abbrev pub update_variables : SourceBox → Update → Variables
+update_variables view update = record {
+  first_argument = view.x;
+  second_argument = view.y;
+  first_reduction = reduction_range view.lasts update.first;
+  second_reduction = second_range view.lasts update.second;
+}
+
+abbrev pub own_calls : ℕ → Update → OwnCalls
+own_calls place update = record { func = place; first_in_place = is_first_in_place update; second_in_place = is_second_in_place update }
+
+module _ (inputs : List Input) (funcs : List Func) (flags : List Bool) (place : ℕ) (view : SourceBox) where
+  -- ---- an update: its left indexes, in which arguments out of place may be anywhere, and its right side. The left side is a read
+  -- of the own Func at its indexes.
+
+  unfoldable pub left : Update → Expr → Ranged
+  left update index = walked_update view.lasts inputs flags funcs place (own_calls place update) true (update_variables view update) index
+
+  abbrev pub second_left : Update → Option Expr → Ranged
+  second_left update None = record { range = literal view.lasts 0; asked = [] }
+  second_left update (Some index) = left update index
+
+  unfoldable pub right : Update → Ranged
+  right update = walked_update view.lasts inputs flags funcs (suc place) (own_calls place update) false (update_variables view update) update.right
+
+  abbrev pub left_read : Update → Asked
+  left_read update = record { source = sources.Func place; x = (left update update.left_x).range; y = (second_left update update.left_y).range }
+
+  unfoldable pub update_asked : Update → List Asked
+  update_asked update =
+      (left update update.left_x).asked ++ ((second_left update update.left_y).asked ++ (left_read update ∷ (right update).asked))
+
+  abbrev pub updates_asked : List Update → List Asked
+  updates_asked [] = []
+  updates_asked (update ∷ others) = update_asked update ++ updates_asked others
+
+  -- ---- all of the Func at this place
+  unfoldable pub func_asked : Func → List Asked
+  func_asked func = (walked view.lasts inputs flags funcs place (pure_variables view) func.pure).asked ++ updates_asked func.updates
+
+-- ---- what a Func reads of itself out of place doesn't hang on its box: its arguments may be anywhere
+
+abbrev pub anywhere : Range
+anywhere = fit no_loops no_base (record { low = origin - 2 ^ 24; high = origin + 2 ^ 24 })
+
+abbrev pub unplaced : SourceBox
+unplaced = record { x = anywhere; y = anywhere; lasts = no_loops }
 
 -- ---- the output's picture is wanted: so many pixels from 0 on
 
 abbrev pub pixels_range : List ℕ → ℕ → Range
 pixels_range lasts count = fit lasts no_base (record { low = origin; high = origin + (count - 1) })
 
-abbrev pub wanted : Output → ℕ → Option HostLoop → Spread
-wanted output at host =
-    if at == output.func then record { x = Some (pixels_range (lasts_of host) output.width); y = Some (pixels_range (lasts_of host) output.height) }
+abbrev pub wanted : Output → ℕ → Option ConsumerLoop → Spread
+wanted output at consumer =
+    if at == output.func then record { x = Some (pixels_range (lasts_of consumer) output.width); y = Some (pixels_range (lasts_of consumer) output.height) }
     else no_spread
 
 -- ---- the loop at which a Func is computed
@@ -44,59 +116,59 @@ abbrev pub box_at : ℕ → ℕ → List (Option SourceBox) → Option SourceBox
 box_at place at [] = None
 box_at place at (first ∷ others) = if at == place then first else box_at place (at + 1) others
 
-abbrev pub host_of : LoopPlace → Option FuncPlan → Option SourceBox → Option HostLoop
-host_of place None own = None
-host_of place (Some plan) None = None
-host_of place (Some plan) (Some own) = Some (host_loop plan own place.inside)
+abbrev pub consumer_of : LoopPlace → Option FuncPlan → Option SourceBox → Option ConsumerLoop
+consumer_of place None own = None
+consumer_of place (Some plan) None = None
+consumer_of place (Some plan) (Some own) = Some (consumer_loop plan own place.inside)
 
 -- ---- what a Func with updates reads of itself: its left indexes and its own calls, where they don't stand in place
 
 module _ (pipeline : Pipeline) (flags : List Bool) where
-  unfoldable pub own_update : ℕ → Option HostLoop → Spread → Update → Spread
-  own_update at host spread update =
-      gathered host no_loops (sources.Func at) (not (is_first_in_place update)) (not (is_second_in_place update)) spread
+  unfoldable pub own_update : ℕ → Option ConsumerLoop → Spread → Update → Spread
+  own_update at consumer spread update =
+      gathered consumer no_loops (sources.Func at) (not (is_first_in_place update)) (not (is_second_in_place update)) spread
       (update_asked pipeline.inputs pipeline.funcs flags at unplaced update)
 
-  abbrev pub own_updates : ℕ → Option HostLoop → Spread → List Update → Spread
-  own_updates at host spread [] = spread
-  own_updates at host spread (update ∷ others) = own_updates at host (own_update at host spread update) others
+  abbrev pub own_updates : ℕ → Option ConsumerLoop → Spread → List Update → Spread
+  own_updates at consumer spread [] = spread
+  own_updates at consumer spread (update ∷ others) = own_updates at consumer (own_update at consumer spread update) others
 
   -- with what a Func reads of a source, whose arguments lie in this box
-  unfoldable pub read_in : ℕ → SourceBox → Option HostLoop → Source → Spread → Func → Spread
-  read_in at view host source spread func =
-      gathered host view.lasts source true true spread (func_asked pipeline.inputs pipeline.funcs flags at view func)
+  unfoldable pub read_in : ℕ → SourceBox → Option ConsumerLoop → Source → Spread → Func → Spread
+  read_in at view consumer source spread func =
+      gathered consumer view.lasts source true true spread (func_asked pipeline.inputs pipeline.funcs flags at view func)
 
-  abbrev pub read_of : ℕ → SourceBox → Option HostLoop → Source → Spread → Option Func → Spread
-  read_of at view host source spread None = spread
-  read_of at view host source spread (Some func) = read_in at view host source spread func
+  abbrev pub read_of : ℕ → SourceBox → Option ConsumerLoop → Source → Spread → Option Func → Spread
+  read_of at view consumer source spread None = spread
+  read_of at view consumer source spread (Some func) = read_in at view consumer source spread func
 
 -- ---- all that read a source
 
 module _ (pipeline : Pipeline) (schedule : Schedule) (flags : List Bool) where
   -- with what the Func at a place reads of the source
-  abbrev pub read_by : ℕ → SourceBox → Option HostLoop → Source → Spread → Spread
-  read_by at own host source spread =
-      read_of pipeline flags at (view_of (slice_get schedule.funcs at) (slice_get schedule.standings at) own host) host source spread (slice_get pipeline.funcs at)
+  abbrev pub read_by : ℕ → SourceBox → Option ConsumerLoop → Source → Spread → Spread
+  read_by at own consumer source spread =
+      read_of pipeline flags at (view_of (slice_get schedule.funcs at) (slice_get schedule.standings at) own consumer) consumer source spread (slice_get pipeline.funcs at)
 
-  abbrev pub read_by_box : ℕ → Option SourceBox → Option HostLoop → Source → Spread → Spread
-  read_by_box at None host source spread = spread
-  read_by_box at (Some own) host source spread = read_by at own host source spread
+  abbrev pub read_by_box : ℕ → Option SourceBox → Option ConsumerLoop → Source → Spread → Spread
+  read_by_box at None consumer source spread = spread
+  read_by_box at (Some own) consumer source spread = read_by at own consumer source spread
 
   -- with what the Funcs from a place on read of it, which have these boxes
-  abbrev pub read_from : ℕ → Option HostLoop → Source → List (Option SourceBox) → Spread → Spread
-  read_from at host source [] spread = spread
-  read_from at host source (first ∷ others) spread = read_from (at + 1) host source others (read_by_box at first host source spread)
+  abbrev pub read_from : ℕ → Option ConsumerLoop → Source → List (Option SourceBox) → Spread → Spread
+  read_from at consumer source [] spread = spread
+  read_from at consumer source (first ∷ others) spread = read_from (at + 1) consumer source others (read_by_box at first consumer source spread)
 
   -- ---- the box of a Func
 
-  abbrev pub computed_box : ℕ → Func → List (Option SourceBox) → Option HostLoop → Option SourceBox
-  computed_box at func behind host =
-      spread_box host (read_from (at + 1) host (sources.Func at) behind (own_updates pipeline flags at host (wanted pipeline.output at host) func.updates))
+  abbrev pub computed_box : ℕ → Func → List (Option SourceBox) → Option ConsumerLoop → Option SourceBox
+  computed_box at func behind consumer =
+      spread_box consumer (read_from (at + 1) consumer (sources.Func at) behind (own_updates pipeline flags at consumer (wanted pipeline.output at consumer) func.updates))
 
   -- A Func that is inlined or computed nowhere has no box.
   abbrev pub placed_box : ℕ → Func → List (Option SourceBox) → Place → Option SourceBox
   placed_box at func behind places.Root = computed_box at func behind None
-  placed_box at func behind (places.At place) = computed_box at func behind (host_of place (slice_get schedule.funcs place.func) (box_at place.func (at + 1) behind))
+  placed_box at func behind (places.At place) = computed_box at func behind (consumer_of place (slice_get schedule.funcs place.func) (box_at place.func (at + 1) behind))
   placed_box at func behind places.Inlined = None
   placed_box at func behind places.Nowhere = None
 

@@ -11,10 +11,10 @@ use Rattle.schedule.specs.declared.schedules.Schedule.{Schedule}
 use Rattle.schedule.specs.declared.standings.Place.{Place}
 use Rattle.schedule.specs.declared.standings.Place.TheVariants as places
 use Rattle.schedule.specs.declared.standings.Standing.{Standing}
-use Rattle.bounds_weights.specs.Need.{needs, has_frames}
+use Rattle.bounds_weights.specs.Weight.{needs, has_frames}
 use Rattle.bounds.specs.declared.boxes.SourceBox.{SourceBox}
 use Rattle.bounds.specs.declared.layout.Layout.{Layout}
-use Rattle.bounds.specs.Boxes.{points}
+use Rattle.bounds.specs.Extents.{points}
 
 -- where the data begin
 abbrev pub data_start : ℕ

@@ -1,13 +1,12 @@
-pub mod Sources
 pub mod Boxes
 pub mod Views
-pub mod Asks
+pub mod Extents
 pub mod Inference
 pub mod Faults
-pub mod Judging
 pub mod Layout
 pub mod Verdict
 pub mod Plans
 pub mod Tasks
 pub mod Finding
 pub mod Parts
+pub mod Stages

@@ -5,25 +5,13 @@ use Rattle.std.specs.Prelude.{ℕ, List, Option, Some, None, slice_get}
 use Rattle.halide_pipeline.specs.declared.definitions.Func.{Func}
 use Rattle.halide_pipeline.specs.declared.definitions.Update.{Update}
 use Rattle.halide_pipeline.specs.Pipelines.{Pipeline}
-use Rattle.halide_pipeline.specs.Pixel.{second_extent}
 use Rattle.schedule_lines.specs.declared.stages.Stage.{Stage}
 use Rattle.schedule_lines.specs.declared.stages.StageName.{StageName}
 use Rattle.schedule.specs.declared.plans.FuncPlan.{FuncPlan}
 use Rattle.schedule.specs.declared.schedules.Schedule.{Schedule}
-use Rattle.schedule_loops.specs.declared.extents.Extents.{Extents}
-use Rattle.schedule_loops.specs.Iterations.{iteration_count}
+use Rattle.schedule_loops.specs.Visits.{iteration_count}
 use Rattle.bounds.specs.declared.boxes.SourceBox.{SourceBox}
-use Rattle.bounds.specs.Boxes.{box_in, extent}
-use Rattle.bounds.specs.Views.{extents_of}
-
--- how many values each variable of an update takes, over a box
-abbrev pub update_extents : SourceBox → Update → Extents
-update_extents own update = record {
-  first_argument = extent own.x;
-  second_argument = extent own.y;
-  first_reduction = update.first.extent;
-  second_reduction = second_extent update.second;
-}
+use Rattle.bounds.specs.Extents.{box_in, extents_of, update_extents}
 
 abbrev pub update_tasks : SourceBox → Option Update → Option Stage → Option ℕ
 update_tasks own None stage = None

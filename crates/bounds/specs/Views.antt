@@ -1,6 +1,6 @@
 -- Between which numbers the arguments of a Func lie where it reads a source.
 --
--- For a source that is an input or computed at root these are the Func's own box. A source that is computed at a loop of the host is
+-- For a source that is an input or computed at root these are the Func's own box. A source that is computed at a loop of the consumer is
 -- asked while the loops from that one outward stay: they go into the base, and those inside take all their values. Loops stand innermost first.
 -- This project's own.
 use Rattle.std.specs.Prelude.{◌≡◌, ◌≤◌, ℕ, suc, ◌+◌, ◌-◌, nat_lt, Bool, false, not, if◌then◌else◌, List, [], ◌∷◌, take, drop, length, slice_get, Option, Some, None}
@@ -12,27 +12,22 @@ use Rattle.schedule_lines.specs.declared.stages.Loop.{Loop}
 use Rattle.schedule_lines.specs.declared.stages.LoopId.{LoopId}
 use Rattle.schedule_lines.specs.declared.stages.Split.{Split}
 use Rattle.schedule_lines.specs.declared.stages.Stage.{Stage}
-use Rattle.schedule_lines.specs.Loops.{same_id}
+use Rattle.schedule_lines.specs.Directives.{same_id}
 use Rattle.schedule.specs.declared.plans.FuncPlan.{FuncPlan}
 use Rattle.schedule.specs.declared.schedules.Schedule.{Schedule}
 use Rattle.schedule.specs.declared.standings.Standing.{Standing}
 use Rattle.schedule.specs.Legal.{is_root}
 use Rattle.schedule_loops.specs.declared.extents.Extents.{Extents}
-use Rattle.schedule_loops.specs.Counts.{counts, strides, AreSplits}
+use Rattle.schedule_loops.specs.Visits.{counts, strides, AreSplits}
 use Rattle.schedule_loops.specs.Reach.{reach, has_uneven}
 use Rattle.bounds_ranges.specs.declared.bases.Multiple.{Multiple}
 use Rattle.bounds_ranges.specs.declared.ranges.Range.{Range}
-use Rattle.bounds_ranges.specs.Bases.{no_base, zero_multiple, more_sum, less_sum}
-use Rattle.bounds_ranges.specs.Ranges.{ends_of, fit}
-use Rattle.bounds.specs.declared.boxes.HostLoop.{HostLoop}
+use Rattle.bounds_ranges.specs.Ranges.{no_base, zero_multiple, more_sum, less_sum, ends_of, fit}
+use Rattle.bounds.specs.declared.boxes.ConsumerLoop.{ConsumerLoop}
 use Rattle.bounds.specs.declared.boxes.SourceBox.{SourceBox}
-use Rattle.bounds.specs.Boxes.{extent}
+use Rattle.bounds.specs.Extents.{extents_of}
 
--- ---- the loops of a host
-
--- how many values the arguments take in a box
-abbrev pub extents_of : SourceBox → Extents
-extents_of own = record { first_argument = extent own.x; second_argument = extent own.y; first_reduction = 0; second_reduction = 0 }
+-- ---- the loops of a consumer
 
 -- how many loops stand inside this one
 abbrev pub inner_count : LoopId → List Loop → ℕ
@@ -54,13 +49,13 @@ lasts_in extents splits loops =
     ∷ last_at extents splits loops 4 ∷ []
 
 -- a loop of the pure definition of a Func
-unfoldable pub host_loop_in : Extents → List Split → List Loop → LoopId → HostLoop
-host_loop_in extents splits loops id = record { inside = id; inner = inner_count id loops; lasts = lasts_in extents splits loops }
+unfoldable pub consumer_loop_in : Extents → List Split → List Loop → LoopId → ConsumerLoop
+consumer_loop_in extents splits loops id = record { inside = id; inner = inner_count id loops; lasts = lasts_in extents splits loops }
 
-abbrev pub host_loop : FuncPlan → SourceBox → LoopId → HostLoop
-host_loop plan own id = host_loop_in (extents_of own) plan.pure.splits plan.pure.loops id
+abbrev pub consumer_loop : FuncPlan → SourceBox → LoopId → ConsumerLoop
+consumer_loop plan own id = consumer_loop_in (extents_of own) plan.pure.splits plan.pure.loops id
 
--- ---- arguments of the host
+-- ---- arguments of the consumer
 
 -- how far a turn of a loop takes a variable; not at all, where none is there or it is over another one
 abbrev pub multiple_of : List Split → Variable → Option Loop → Multiple
@@ -83,15 +78,15 @@ argument lasts extents splits loops inner variable range =
     if has_uneven splits variable (drop inner loops) then fit lasts no_base (ends_of range)
     else fit lasts (base_in splits loops variable inner) (record { low = range.low; high = range.low + reach extents splits variable (take inner loops) })
 
-unfoldable pub host_view_in : Extents → List Split → List Loop → ℕ → SourceBox → HostLoop → SourceBox
-host_view_in extents splits loops inner own host = record {
-  x = argument host.lasts extents splits loops inner variables.FirstArgument own.x;
-  y = argument host.lasts extents splits loops inner variables.SecondArgument own.y;
-  lasts = host.lasts;
+unfoldable pub consumer_view_in : Extents → List Split → List Loop → ℕ → SourceBox → ConsumerLoop → SourceBox
+consumer_view_in extents splits loops inner own consumer = record {
+  x = argument consumer.lasts extents splits loops inner variables.FirstArgument own.x;
+  y = argument consumer.lasts extents splits loops inner variables.SecondArgument own.y;
+  lasts = consumer.lasts;
 }
 
-abbrev pub host_view : Stage → SourceBox → HostLoop → SourceBox
-host_view stage own host = host_view_in (extents_of own) stage.splits stage.loops (inner_count host.inside stage.loops) own host
+abbrev pub consumer_view : Stage → SourceBox → ConsumerLoop → SourceBox
+consumer_view stage own consumer = consumer_view_in (extents_of own) stage.splits stage.loops (inner_count consumer.inside stage.loops) own consumer
 
 -- ---- arguments of a Func that is computed at a loop itself: the loops inside take all their values
 
@@ -122,13 +117,13 @@ abbrev pub is_root_at : Option Standing → Bool
 is_root_at None = false
 is_root_at (Some own) = is_root own.place
 
-abbrev pub view_at_root : Option FuncPlan → SourceBox → HostLoop → SourceBox
-view_at_root None own host = own
-view_at_root (Some plan) own host = host_view plan.pure own host
+abbrev pub view_at_root : Option FuncPlan → SourceBox → ConsumerLoop → SourceBox
+view_at_root None own consumer = own
+view_at_root (Some plan) own consumer = consumer_view plan.pure own consumer
 
-abbrev pub view_of : Option FuncPlan → Option Standing → SourceBox → Option HostLoop → SourceBox
+abbrev pub view_of : Option FuncPlan → Option Standing → SourceBox → Option ConsumerLoop → SourceBox
 view_of plan standing own None = own
-view_of plan standing own (Some host) = if is_root_at standing then view_at_root plan own host else settled_box host.inner own
+view_of plan standing own (Some consumer) = if is_root_at standing then view_at_root plan own consumer else settled_box consumer.inner own
 
 -- ---- what stages of a schedule keep: few loops, and few splits by small factors
 

@@ -2,9 +2,9 @@
 
 ghost use Rattle.std.specs.Prelude.{◌≡◌, ◌≤◌, ◌<◌, ◌+◌, ◌^◌, ◌++◌, OnOk, IfOk};
 ghost use Rattle.bounds_ranges.specs.Expressions.{AreFit, AreFitReads};
-ghost use Rattle.bounds_ranges.specs.Ranges as ranges;
+ghost use Rattle.bounds_ranges.specs.Numbers as ranges;
 ghost use Rattle.bounds_ranges.specs.Ranges.{IsFit};
-ghost use Rattle.bounds.specs.Asks as spec;
+ghost use Rattle.bounds.specs.Inference as spec;
 
 use crate::boxes::{NO_LOOPS, SourceBox};
 use bounds_ranges::bases::no_base;
@@ -101,7 +101,7 @@ fn own_calls(place: usize, update: &Update) -> OwnCalls
 }
 
 /// The range of a left index, behind what it reads.
-#[tactic(auto, unfolding(crate::specs::Asks::left))]
+#[tactic(auto, unfolding(crate::specs::Inference::left))]
 fn ask_left(
     reader: &ReadingFunc<'_>,
     update: &Update,
@@ -162,7 +162,7 @@ fn ask_second_left(
 }
 
 /// Appends what the right side of an update reads.
-#[tactic(auto, unfolding(crate::specs::Asks::right))]
+#[tactic(auto, unfolding(crate::specs::Inference::right))]
 fn ask_right(
     reader: &ReadingFunc<'_>,
     update: &Update,
@@ -192,7 +192,7 @@ fn ask_right(
 }
 
 /// Appends what an update of the Func reads, and its left side as a read of the Func.
-#[tactic(auto, unfolding(crate::specs::Asks::update_asked), using(bounds_ranges::proofs::Walking::fit_behind))]
+#[tactic(auto, unfolding(crate::specs::Inference::update_asked), using(bounds_ranges::proofs::Walking::fit_behind))]
 pub fn ask_update(
     reader: &ReadingFunc<'_>,
     update: &Update,
@@ -244,7 +244,7 @@ fn ask_updates(
 }
 
 /// Appends all that the Func reads; `func` has its definitions.
-#[tactic(auto, unfolding(crate::specs::Asks::func_asked))]
+#[tactic(auto, unfolding(crate::specs::Inference::func_asked))]
 pub fn ask_func(
     reader: &ReadingFunc<'_>,
     func: &Func,

@@ -2,7 +2,7 @@
 
 ghost use Rattle.std.specs.Prelude.{◌≡◌, ◌≤◌, ◌+◌, ◌*◌, ◌^◌};
 ghost use Rattle.bounds.specs.Boxes as spec;
-ghost use Rattle.bounds.specs.Views as views;
+ghost use Rattle.bounds.specs.Extents as views;
 ghost use Rattle.bounds_ranges.specs.Expressions.{AreFitReads};
 ghost use Rattle.bounds_ranges.specs.Ranges.{IsFit};
 
@@ -29,7 +29,7 @@ pub struct SourceBox {
 
 /// The loop at which a Func is computed.
 #[derive(Clone, Copy, Debug)]
-pub struct HostLoop {
+pub struct ConsumerLoop {
     pub inside: LoopId,
     /// How many loops of its stage stand inside it.
     pub inner: usize,
@@ -42,7 +42,7 @@ pub struct HostLoop {
 pub struct InferredSource<'a> {
     pub source: Source,
     /// The loop at which it is computed, if it is a Func at one.
-    pub host: &'a Option<HostLoop>,
+    pub consumer: &'a Option<ConsumerLoop>,
 }
 
 /// The ranges so far in which a source is read.
@@ -59,7 +59,7 @@ pub const NO_LOOPS: Lasts = [0; 5];
 fn extent(range: &Range) -> u32
     requires ordered { range.now.low ≤ range.now.high }
     requires short { range.now.high ≤ range.now.low + 2 ^ 25 }
-    ensures is { result ≡ spec.extent range.now }
+    ensures is { result ≡ views.extent range.now }
     ensures few { result ≤ 2 ^ 25 + 1 }
 {
     (range.high - range.low + 1) as u32
@@ -93,7 +93,7 @@ fn product(a: u32, b: u32) -> u64
 #[tactic(auto, using(crate::proofs::Near::short_x, crate::proofs::Near::short_y))]
 pub fn points(own: &SourceBox) -> u64
     requires { spec.IsBox own.now }
-    ensures is { result ≡ spec.points own.now }
+    ensures is { result ≡ views.points own.now }
     ensures few { result ≤ 2 ^ 51 }
 {
     product(extent(&own.x), extent(&own.y))
@@ -115,30 +115,30 @@ pub fn is_near(own: &SourceBox) -> bool
     are_near(widened(&own.lasts, &own.x)) && are_near(widened(&own.lasts, &own.y))
 }
 
-/// The greatest values of the loops of the host.
-pub fn lasts_of(host: &Option<HostLoop>) -> Lasts
-    ensures { result ≡ spec.lasts_of host.now }
+/// The greatest values of the loops of the consumer.
+pub fn lasts_of(consumer: &Option<ConsumerLoop>) -> Lasts
+    ensures { result ≡ spec.lasts_of consumer.now }
 {
-    match host {
+    match consumer {
         None => NO_LOOPS,
-        Some(host) => host.lasts,
+        Some(consumer) => consumer.lasts,
     }
 }
 
-/// A range that is asked by a reader with these loops, as one over the loops of the source's host.
-fn taken(host: &Option<HostLoop>, lasts: &Lasts, range: &Range) -> Range
+/// A range that is asked by a reader with these loops, as one over the loops of the source's consumer.
+fn taken(consumer: &Option<ConsumerLoop>, lasts: &Lasts, range: &Range) -> Range
     requires { IsFit lasts.now range.now }
-    ensures value { result ≡ spec.taken host.now lasts.now range.now }
-    ensures fits { IsFit (spec.lasts_of host.now) result }
+    ensures value { result ≡ spec.taken consumer.now lasts.now range.now }
+    ensures fits { IsFit (spec.lasts_of consumer.now) result }
 {
-    match host {
+    match consumer {
         None => fit(&NO_LOOPS, no_base(), widened(lasts, range)),
-        Some(host) => {
+        Some(consumer) => {
             let ends = Ends {
                 low: range.low,
                 high: range.high,
             };
-            fit(&host.lasts, range.base, ends)
+            fit(&consumer.lasts, range.base, ends)
         }
     }
 }
@@ -161,22 +161,22 @@ fn joined(lasts: &Lasts, counts: bool, own: Option<Range>, range: Range) -> Opti
 
 /// The ranges so far with one read, of whose dimensions these count.
 fn with_read(
-    host: &Option<HostLoop>,
+    consumer: &Option<ConsumerLoop>,
     lasts: &Lasts,
     first: bool,
     second: bool,
     spread: Spread,
     read: &Asked,
 ) -> Spread
-    requires spread { spec.IsSpread (spec.lasts_of host.now) spread }
+    requires spread { spec.IsSpread (spec.lasts_of consumer.now) spread }
     requires first { IsFit lasts.now read.now.x }
     requires second { IsFit lasts.now read.now.y }
-    ensures value { result ≡ spec.with_read host.now lasts.now first second spread read.now }
-    ensures fits { spec.IsSpread (spec.lasts_of host.now) result }
+    ensures value { result ≡ spec.with_read consumer.now lasts.now first second spread read.now }
+    ensures fits { spec.IsSpread (spec.lasts_of consumer.now) result }
 {
-    let own = lasts_of(host);
-    let x = taken(host, lasts, &read.x);
-    let y = taken(host, lasts, &read.y);
+    let own = lasts_of(consumer);
+    let x = taken(consumer, lasts, &read.x);
+    let y = taken(consumer, lasts, &read.y);
     Spread {
         x: joined(&own, first, spread.x, x),
         y: joined(&own, second, spread.y, y),
@@ -193,17 +193,17 @@ pub fn gathered(
     spread: Spread,
     asked: &[Asked],
 ) -> Spread
-    requires spread { spec.IsSpread (spec.lasts_of sought.now.host.now) spread }
+    requires spread { spec.IsSpread (spec.lasts_of sought.now.consumer.now) spread }
     requires asked { AreFitReads lasts.now asked.now }
-    ensures value { result ≡ spec.gathered sought.now.host.now lasts.now sought.now.source first second spread
+    ensures value { result ≡ spec.gathered sought.now.consumer.now lasts.now sought.now.source first second spread
         asked.now }
-    ensures fits { spec.IsSpread (spec.lasts_of sought.now.host.now) result }
+    ensures fits { spec.IsSpread (spec.lasts_of sought.now.consumer.now) result }
 {
     let mut found = spread;
     let mut rest = asked;
     'reads: while let [read, others @ ..] = rest {
         if same_source(read.source, sought.source) {
-            found = with_read(sought.host, lasts, first, second, found, read);
+            found = with_read(sought.consumer, lasts, first, second, found, read);
         }
         rest = others;
     }
@@ -214,16 +214,16 @@ pub fn gathered(
 pub const NO_SPREAD: Spread = Spread { x: None, y: None };
 
 /// The box of what is read, if anything is.
-pub fn spread_box(host: &Option<HostLoop>, spread: Spread) -> Option<SourceBox>
-    requires { spec.IsSpread (spec.lasts_of host.now) spread }
-    ensures value { result ≡ spec.spread_box host.now spread }
+pub fn spread_box(consumer: &Option<ConsumerLoop>, spread: Spread) -> Option<SourceBox>
+    requires { spec.IsSpread (spec.lasts_of consumer.now) spread }
+    ensures value { result ≡ spec.spread_box consumer.now spread }
     ensures fits { spec.IsFitBox result }
 {
     match (spread.x, spread.y) {
         (Some(x), Some(y)) => Some(SourceBox {
             x,
             y,
-            lasts: lasts_of(host),
+            lasts: lasts_of(consumer),
         }),
         _ => None,
     }

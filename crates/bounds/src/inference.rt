@@ -6,10 +6,12 @@ ghost use Rattle.bounds.specs.Inference as spec;
 ghost use Rattle.bounds.specs.Views.{AreSmall};
 ghost use Rattle.bounds_ranges.specs.Ranges.{IsFit};
 
-use crate::boxes::{HostLoop, InferredSource, NO_SPREAD, SourceBox, Spread, lasts_of, spread_box};
+use crate::boxes::{
+    ConsumerLoop, InferredSource, NO_SPREAD, SourceBox, Spread, lasts_of, spread_box,
+};
 use crate::readings::{Scheduled, own_updates, read_from};
 use crate::source_boxes::{SourceBoxes, in_front};
-use crate::views::host_loop;
+use crate::views::consumer_loop;
 use bounds_ranges::bases::no_base;
 use bounds_ranges::ranges::{Ends, Lasts, ORIGIN, Range, fit};
 use halide_pipeline::{Func, Input, Pipeline, Source};
@@ -29,15 +31,15 @@ fn pixels_range(lasts: &Lasts, count: u32) -> Range
 }
 
 /// The output's picture is wanted, of other Funcs nothing yet.
-fn wanted(pipeline: &Pipeline, at: usize, host: &Option<HostLoop>) -> Spread
-    ensures value { result ≡ spec.wanted pipeline.now.output at host.now }
-    ensures fits { IsSpread (lasts_of host.now) result }
+fn wanted(pipeline: &Pipeline, at: usize, consumer: &Option<ConsumerLoop>) -> Spread
+    ensures value { result ≡ spec.wanted pipeline.now.output at consumer.now }
+    ensures fits { IsSpread (lasts_of consumer.now) result }
 {
     let output = pipeline.output();
     if at != output.func {
         return NO_SPREAD;
     }
-    let lasts = lasts_of(host);
+    let lasts = lasts_of(consumer);
     Spread {
         x: Some(pixels_range(&lasts, output.width)),
         y: Some(pixels_range(&lasts, output.height)),
@@ -64,17 +66,17 @@ fn box_at(place: usize, at: usize, boxes: &[Option<SourceBox>]) -> Option<Source
 }
 
 /// The loop at which a Func is computed, of one of the Funcs from a place on.
-fn host_of(
+fn consumer_of(
     alloc: Global,
     schedule: &Schedule,
     at: usize,
     behind: &[Option<SourceBox>],
     place: LoopPlace,
-) -> Result<Option<HostLoop>, AllocError>
+) -> Result<Option<ConsumerLoop>, AllocError>
     requires few { at + length behind.now < 2 ^ 63 }
     requires small { AreSmall schedule.now }
     requires boxes { AreBoxes behind.now }
-    ensures { IfOk result (λ host. host ≡ spec.host_of place (slice_get schedule.now.funcs place.func)
+    ensures { IfOk result (λ consumer. consumer ≡ spec.consumer_of place (slice_get schedule.now.funcs place.func)
         (spec.box_at place.func at behind.now)) }
 {
     let Some(plan) = schedule.funcs.get(place.func) else {
@@ -82,7 +84,7 @@ fn host_of(
     };
     match box_at(place.func, at, behind) {
         None => Ok(None),
-        Some(own) => Ok(Some(host_loop(alloc, plan, &own, place.inside)?)),
+        Some(own) => Ok(Some(consumer_loop(alloc, plan, &own, place.inside)?)),
     }
 }
 
@@ -93,24 +95,24 @@ fn computed_box(
     at: usize,
     func: &Func,
     behind: &[Option<SourceBox>],
-    host: &Option<HostLoop>,
+    consumer: &Option<ConsumerLoop>,
 ) -> Result<Option<SourceBox>, AllocError>
     requires few { at + 1 + length behind.now < 2 ^ 63 }
     requires small { AreSmall scheduled.now.schedule.now }
     requires boxes { AreBoxes behind.now }
     ensures value { IfOk result (λ s. s ≡ spec.computed_box scheduled.now.pipeline.now scheduled.now.schedule.now
-        scheduled.now.flags.now at func.now behind.now host.now) }
+        scheduled.now.flags.now at func.now behind.now consumer.now) }
     ensures fits { IfOk result (λ own. IsFitBox own) }
 {
     let updates = func.updates.as_slice();
-    let spread = wanted(scheduled.pipeline, at, host);
-    let spread = own_updates(alloc, scheduled, at, host, spread, updates)?;
+    let spread = wanted(scheduled.pipeline, at, consumer);
+    let spread = own_updates(alloc, scheduled, at, consumer, spread, updates)?;
     let sought = InferredSource {
         source: Source::Func(at),
-        host,
+        consumer,
     };
     let spread = read_from(alloc, scheduled, at + 1, &sought, behind, spread)?;
-    Ok(spread_box(host, spread))
+    Ok(spread_box(consumer, spread))
 }
 
 /// The box of the Func at a place, if it is computed.
@@ -134,12 +136,12 @@ fn func_box(
     if !own.is_reached {
         return Ok(None);
     }
-    let host = match own.place {
+    let consumer = match own.place {
         Place::Root => None,
-        Place::At(place) => host_of(alloc, scheduled.schedule, at + 1, behind, place)?,
+        Place::At(place) => consumer_of(alloc, scheduled.schedule, at + 1, behind, place)?,
         Place::Inlined | Place::Nowhere => return Ok(None),
     };
-    let own = computed_box(alloc, scheduled, at, func, behind, &host)?;
+    let own = computed_box(alloc, scheduled, at, func, behind, &consumer)?;
     Ok(own)
 }
 
@@ -185,10 +187,10 @@ fn input_box(
 {
     let sought = InferredSource {
         source: Source::Input(place),
-        host: &None,
+        consumer: &None,
     };
     let spread = read_from(alloc, scheduled, 0, &sought, boxes, NO_SPREAD)?;
-    Ok(spread_box(sought.host, spread))
+    Ok(spread_box(sought.consumer, spread))
 }
 
 /// The boxes of the inputs from a place on; None where one leaves -2^24 to 2^24.

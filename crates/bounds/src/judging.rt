@@ -2,11 +2,12 @@
 
 ghost use Rattle.std.specs.Prelude.{◌≡◌, IfOk};
 ghost use Rattle.std.specs.List.{AllByRecursion};
-ghost use Rattle.schedule_loops.specs.Counts.{AreSplits, shifts_fit};
+ghost use Rattle.schedule_loops.specs.Visits.{AreSplits, shifts_fit};
 ghost use Rattle.bounds_ranges.specs.Ranges.{IsFit};
 ghost use Rattle.bounds.specs.Boxes.{AreBoxes, IsBox};
-ghost use Rattle.bounds.specs.Judging as spec;
-ghost use Rattle.bounds.specs.Views.{IsSmallPlan, extents_of};
+ghost use Rattle.bounds.specs.Verdict as spec;
+ghost use Rattle.bounds.specs.Views.{IsSmallPlan};
+ghost use Rattle.bounds.specs.Extents.{extents_of};
 
 use crate::boxes::{SourceBox, points};
 use crate::views::sizes_of;

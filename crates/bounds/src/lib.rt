@@ -5,7 +5,7 @@
 //!   has what is judged of boxes, [`faults`] why there are none.
 //! - [`boxes`]: the box of a source, as the hull of the ranges in which it is read (`specs/Boxes.antt`).
 //! - [`views`]: between which numbers a Func's arguments lie where it reads a source (`specs/Views.antt`).
-//! - `asks`: what a Func reads that is computed (`specs/Asks.antt`).
+//! - `asks`: what a Func reads that is computed (`specs/Inference.antt`).
 //! - `readings`, `inference`, [`source_boxes`]: the boxes of all sources, from the output back
 //!   (`specs/Inference.antt`).
 //! - [`layout`]: where inputs, boxes and frames lie (`specs/Layout.antt`).

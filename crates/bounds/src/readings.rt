@@ -7,7 +7,7 @@ ghost use Rattle.bounds.specs.Inference as spec;
 ghost use Rattle.bounds.specs.Views.{AreSmall};
 
 use crate::asks::{ReadingFunc, ask_func, ask_update, unplaced};
-use crate::boxes::{HostLoop, InferredSource, NO_LOOPS, SourceBox, Spread, gathered};
+use crate::boxes::{ConsumerLoop, InferredSource, NO_LOOPS, SourceBox, Spread, gathered};
 use crate::views::view;
 use halide_pipeline::{Func, Pipeline, Source, Update};
 use schedule::Schedule;
@@ -34,10 +34,10 @@ fn read_in(
     requires few { reader.now.place < 2 ^ 63 }
     requires x { IsFit reader.now.view.now.lasts reader.now.view.now.x }
     requires y { IsFit reader.now.view.now.lasts reader.now.view.now.y }
-    requires spread { IsSpread (lasts_of sought.now.host.now) spread }
+    requires spread { IsSpread (lasts_of sought.now.consumer.now) spread }
     ensures value { IfOk result (λ s. s ≡ spec.read_in reader.now.pipeline.now reader.now.flags.now reader.now.place
-        reader.now.view.now sought.now.host.now sought.now.source spread func.now) }
-    ensures fits { IfOk result (λ s. IsSpread (lasts_of sought.now.host.now) s) }
+        reader.now.view.now sought.now.consumer.now sought.now.source spread func.now) }
+    ensures fits { IfOk result (λ s. IsSpread (lasts_of sought.now.consumer.now) s) }
 {
     let mut asked = Vec::new(alloc);
     ask_func(reader, func, &mut asked)?;
@@ -57,12 +57,12 @@ fn read_by(
     requires few { at < 2 ^ 63 }
     requires small { AreSmall scheduled.now.schedule.now }
     requires near { IsBox own.now }
-    requires spread { IsSpread (lasts_of sought.now.host.now) spread }
+    requires spread { IsSpread (lasts_of sought.now.consumer.now) spread }
     ensures value { IfOk result (λ s. s ≡ spec.read_by scheduled.now.pipeline.now scheduled.now.schedule.now
-        scheduled.now.flags.now at own.now sought.now.host.now sought.now.source spread) }
-    ensures fits { IfOk result (λ s. IsSpread (lasts_of sought.now.host.now) s) }
+        scheduled.now.flags.now at own.now sought.now.consumer.now sought.now.source spread) }
+    ensures fits { IfOk result (λ s. IsSpread (lasts_of sought.now.consumer.now) s) }
 {
-    let view = view(alloc, scheduled.schedule, at, own, sought.host)?;
+    let view = view(alloc, scheduled.schedule, at, own, sought.consumer)?;
     match scheduled.pipeline.func(at) {
         None => Ok(spread),
         Some(func) => {
@@ -90,10 +90,10 @@ pub fn read_from(
     requires few { at + length boxes.now < 2 ^ 63 }
     requires small { AreSmall scheduled.now.schedule.now }
     requires boxes { AreBoxes boxes.now }
-    requires spread { IsSpread (lasts_of sought.now.host.now) spread }
+    requires spread { IsSpread (lasts_of sought.now.consumer.now) spread }
     ensures value { IfOk result (λ s. s ≡ spec.read_from scheduled.now.pipeline.now scheduled.now.schedule.now
-        scheduled.now.flags.now at sought.now.host.now sought.now.source boxes.now spread) }
-    ensures fits { IfOk result (λ s. IsSpread (lasts_of sought.now.host.now) s) }
+        scheduled.now.flags.now at sought.now.consumer.now sought.now.source boxes.now spread) }
+    ensures fits { IfOk result (λ s. IsSpread (lasts_of sought.now.consumer.now) s) }
 {
     match boxes {
         [] => Ok(spread),
@@ -114,15 +114,15 @@ fn own_update(
     alloc: Global,
     scheduled: &Scheduled<'_>,
     at: usize,
-    host: &Option<HostLoop>,
+    consumer: &Option<ConsumerLoop>,
     spread: Spread,
     update: &Update,
 ) -> Result<Spread, AllocError>
     requires few { at < 2 ^ 63 }
-    requires spread { IsSpread (lasts_of host.now) spread }
-    ensures value { IfOk result (λ s. s ≡ spec.own_update scheduled.now.pipeline.now scheduled.now.flags.now at host.now
+    requires spread { IsSpread (lasts_of consumer.now) spread }
+    ensures value { IfOk result (λ s. s ≡ spec.own_update scheduled.now.pipeline.now scheduled.now.flags.now at consumer.now
         spread update.now) }
-    ensures fits { IfOk result (λ s. IsSpread (lasts_of host.now) s) }
+    ensures fits { IfOk result (λ s. IsSpread (lasts_of consumer.now) s) }
 {
     let view = unplaced();
     let reader = ReadingFunc {
@@ -135,7 +135,7 @@ fn own_update(
     ask_update(&reader, update, &mut asked)?;
     let sought = InferredSource {
         source: Source::Func(at),
-        host,
+        consumer,
     };
     let first = !update.is_first_in_place();
     let second = !update.is_second_in_place();
@@ -147,21 +147,21 @@ pub fn own_updates(
     alloc: Global,
     scheduled: &Scheduled<'_>,
     at: usize,
-    host: &Option<HostLoop>,
+    consumer: &Option<ConsumerLoop>,
     spread: Spread,
     updates: &[Update],
 ) -> Result<Spread, AllocError>
     requires few { at < 2 ^ 63 }
-    requires spread { IsSpread (lasts_of host.now) spread }
+    requires spread { IsSpread (lasts_of consumer.now) spread }
     ensures value { IfOk result (λ s. s ≡ spec.own_updates scheduled.now.pipeline.now scheduled.now.flags.now at
-        host.now spread updates.now) }
-    ensures fits { IfOk result (λ s. IsSpread (lasts_of host.now) s) }
+        consumer.now spread updates.now) }
+    ensures fits { IfOk result (λ s. IsSpread (lasts_of consumer.now) s) }
 {
     match updates {
         [] => Ok(spread),
         [update, others @ ..] => {
-            let spread = own_update(alloc, scheduled, at, host, spread, update)?;
-            let spread = own_updates(alloc, scheduled, at, host, spread, others)?;
+            let spread = own_update(alloc, scheduled, at, consumer, spread, update)?;
+            let spread = own_updates(alloc, scheduled, at, consumer, spread, others)?;
             Ok(spread)
         }
     }

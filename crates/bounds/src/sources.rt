@@ -1,7 +1,7 @@
 //! Sources told apart.
 
 ghost use Rattle.std.specs.Prelude.{◌≡◌};
-ghost use Rattle.bounds.specs.Sources as spec;
+ghost use Rattle.bounds.specs.Boxes as spec;
 
 use halide_pipeline::Source;
 

@@ -4,11 +4,12 @@ ghost use Rattle.std.specs.Prelude.{◌≡◌, IfOk, IfSome, Some, slice_get};
 ghost use Rattle.std.specs.Option.{option_copied};
 ghost use Rattle.halide_pipeline.specs.Pixel as meaning;
 ghost use Rattle.schedule.specs.Accepted.{IsAccepted, IsPlan};
-ghost use Rattle.schedule_loops.specs.Counts.{AreSplits};
-ghost use Rattle.schedule_loops.specs.Iterations.{iteration_count};
-ghost use Rattle.bounds.specs.Boxes.{AreBoxes, IsBox, box_in};
+ghost use Rattle.schedule_loops.specs.Visits.{AreSplits};
+ghost use Rattle.schedule_loops.specs.Visits.{iteration_count};
+ghost use Rattle.bounds.specs.Boxes.{AreBoxes, IsBox};
+ghost use Rattle.bounds.specs.Extents.{box_in};
 ghost use Rattle.bounds.specs.Tasks as spec;
-ghost use Rattle.bounds.specs.Views as views;
+ghost use Rattle.bounds.specs.Extents as views;
 
 use crate::boxes::{SourceBox, extents_of};
 use crate::source_boxes::SourceBoxes;
@@ -32,7 +33,7 @@ fn second_extent(second: &Option<Reduction>) -> u32
 /// How many values each variable of an update takes, over a box.
 pub fn update_extents(own: &SourceBox, update: &Update) -> Extents
     requires { IsBox own.now }
-    ensures { result ≡ spec.update_extents own.now update.now }
+    ensures { result ≡ views.update_extents own.now update.now }
 {
     let arguments = extents_of(own);
     Extents {
@@ -62,7 +63,7 @@ fn update_tasks(
 ) -> Result<u32, AllocError>
     requires splits { AreSplits stage.now.splits }
     requires near { IsBox own.now }
-    ensures { IfOk result (λ count. count ≡ iteration_count (spec.update_extents own.now update.now) stage.now) }
+    ensures { IfOk result (λ count. count ≡ iteration_count (views.update_extents own.now update.now) stage.now) }
 {
     let extents = update_extents(own, update);
     let sizes = LoopSizes::new(alloc, extents, stage.splits.as_slice())?;

@@ -1,14 +1,15 @@
 //! Between which numbers the arguments of a Func lie where it reads a source.
 
 ghost use Rattle.std.specs.Prelude.{◌≡◌, ◌≤◌, ◌+◌, ◌*◌, ◌^◌, nat_lt, not, if◌then◌else◌, Some, IfOk, length, slice_get};
-ghost use Rattle.schedule_loops.specs.Counts.{AreSplits};
+ghost use Rattle.schedule_loops.specs.Visits.{AreSplits};
 ghost use Rattle.schedule_loops.specs.Reach as reaching;
-ghost use Rattle.bounds_ranges.specs.Bases.{zero_multiple};
+ghost use Rattle.bounds_ranges.specs.Ranges.{zero_multiple};
 ghost use Rattle.bounds_ranges.specs.Ranges.{IsFit};
 ghost use Rattle.bounds.specs.Boxes.{IsBox};
 ghost use Rattle.bounds.specs.Views as spec;
+ghost use Rattle.bounds.specs.Extents as spec_extents;
 
-use crate::boxes::{HostLoop, SourceBox, extents_of};
+use crate::boxes::{ConsumerLoop, SourceBox, extents_of};
 use bounds_ranges::bases::{Base, Multiple, less_sum, more_sum, no_base};
 use bounds_ranges::ranges::{Ends, Lasts, Range, fit};
 use halide_pipeline::Variable;
@@ -62,18 +63,18 @@ fn lasts_in(sizes: &LoopSizes, loops: &[Loop]) -> Lasts
 pub fn sizes_of(alloc: Global, stage: &Stage, own: &SourceBox) -> Result<LoopSizes, AllocError>
     requires splits { AreSplits stage.now.splits }
     requires near { IsBox own.now }
-    ensures { IfOk result (λ sizes. sizes ≡ record { extents = spec.extents_of own.now; splits = stage.now.splits }) }
+    ensures { IfOk result (λ sizes. sizes ≡ record { extents = spec_extents.extents_of own.now; splits = stage.now.splits }) }
 {
     let sizes = LoopSizes::new(alloc, extents_of(own), stage.splits.as_slice())?;
     Ok(sizes)
 }
 
 /// A loop of a stage.
-#[tactic(auto, unfolding(crate::specs::Views::host_loop_in))]
-fn host_loop_in(sizes: &LoopSizes, loops: &[Loop], id: LoopId) -> HostLoop
-    ensures { result ≡ spec.host_loop_in sizes.now.extents sizes.now.splits loops.now id }
+#[tactic(auto, unfolding(crate::specs::Views::consumer_loop_in))]
+fn consumer_loop_in(sizes: &LoopSizes, loops: &[Loop], id: LoopId) -> ConsumerLoop
+    ensures { result ≡ spec.consumer_loop_in sizes.now.extents sizes.now.splits loops.now id }
 {
-    HostLoop {
+    ConsumerLoop {
         inside: id,
         inner: inner_count(id, loops),
         lasts: lasts_in(sizes, loops),
@@ -81,18 +82,18 @@ fn host_loop_in(sizes: &LoopSizes, loops: &[Loop], id: LoopId) -> HostLoop
 }
 
 /// A loop of the pure definition of a Func with this box.
-pub fn host_loop(
+pub fn consumer_loop(
     alloc: Global,
     plan: &FuncPlan,
     own: &SourceBox,
     id: LoopId,
-) -> Result<HostLoop, AllocError>
+) -> Result<ConsumerLoop, AllocError>
     requires small { spec.IsSmall plan.now.pure }
     requires near { IsBox own.now }
-    ensures { IfOk result (λ host. host ≡ spec.host_loop plan.now own.now id) }
+    ensures { IfOk result (λ consumer. consumer ≡ spec.consumer_loop plan.now own.now id) }
 {
     let sizes = sizes_of(alloc, &plan.pure, own)?;
-    Ok(host_loop_in(&sizes, plan.pure.loops.as_slice(), id))
+    Ok(consumer_loop_in(&sizes, plan.pure.loops.as_slice(), id))
 }
 
 /// How far a turn of a loop takes a variable.
@@ -153,7 +154,7 @@ fn reach(sizes: &LoopSizes, loops: &[Loop], variable: Variable) -> u64
     }
 }
 
-/// The range of an argument of the host, of whose loops the first so many take all their values.
+/// The range of an argument of the consumer, of whose loops the first so many take all their values.
 fn argument(
     lasts: &Lasts,
     sizes: &LoopSizes,
@@ -186,23 +187,23 @@ fn argument(
     }
 }
 
-/// The arguments of the host, of whose loops the first so many take all their values.
-#[tactic(auto, unfolding(crate::specs::Views::host_view_in))]
-fn host_view_in(
+/// The arguments of the consumer, of whose loops the first so many take all their values.
+#[tactic(auto, unfolding(crate::specs::Views::consumer_view_in))]
+fn consumer_view_in(
     sizes: &LoopSizes,
     loops: &[Loop],
     inner: usize,
     own: &SourceBox,
-    host: &HostLoop,
+    consumer: &ConsumerLoop,
 ) -> SourceBox
     requires few { length loops.now ≤ 5 }
     requires inside { inner ≤ length loops.now }
     requires near { IsBox own.now }
-    ensures value { result ≡ spec.host_view_in sizes.now.extents sizes.now.splits loops.now inner own.now host.now }
+    ensures value { result ≡ spec.consumer_view_in sizes.now.extents sizes.now.splits loops.now inner own.now consumer.now }
     ensures x { IsFit result.lasts result.x }
     ensures y { IsFit result.lasts result.y }
 {
-    let lasts = host.lasts;
+    let lasts = consumer.lasts;
     SourceBox {
         x: argument(&lasts, sizes, loops, inner, Variable::FirstArgument, &own.x),
         y: argument(
@@ -217,23 +218,23 @@ fn host_view_in(
     }
 }
 
-/// The arguments of the host.
-fn host_view(
+/// The arguments of the consumer.
+fn consumer_view(
     alloc: Global,
     stage: &Stage,
     own: &SourceBox,
-    host: &HostLoop,
+    consumer: &ConsumerLoop,
 ) -> Result<SourceBox, AllocError>
     requires small { spec.IsSmall stage.now }
     requires near { IsBox own.now }
-    ensures value { IfOk result (λ view. view ≡ spec.host_view stage.now own.now host.now) }
+    ensures value { IfOk result (λ view. view ≡ spec.consumer_view stage.now own.now consumer.now) }
     ensures x { IfOk result (λ view. IsFit view.lasts view.x) }
     ensures y { IfOk result (λ view. IsFit view.lasts view.y) }
 {
     let sizes = sizes_of(alloc, stage, own)?;
     let loops = stage.loops.as_slice();
-    let inner = inner_count(host.inside, loops);
-    Ok(host_view_in(&sizes, loops, inner, own, host))
+    let inner = inner_count(consumer.inside, loops);
+    Ok(consumer_view_in(&sizes, loops, inner, own, consumer))
 }
 
 /// The multiple of a loop that is one of the first so many.
@@ -324,32 +325,32 @@ fn is_root_at(schedule: &Schedule, at: usize) -> bool
     }
 }
 
-/// The arguments of the Func at a place, which has this box, where it reads a source that is computed at the host's
+/// The arguments of the Func at a place, which has this box, where it reads a source that is computed at the consumer's
 /// loop, or elsewhere where there is none.
 pub fn view(
     alloc: Global,
     schedule: &Schedule,
     at: usize,
     own: &SourceBox,
-    host: &Option<HostLoop>,
+    consumer: &Option<ConsumerLoop>,
 ) -> Result<SourceBox, AllocError>
     requires small { spec.AreSmall schedule.now }
     requires near { IsBox own.now }
     ensures value { IfOk result (λ view. view
-        ≡ spec.view_of (slice_get schedule.now.funcs at) (slice_get schedule.now.standings at) own.now host.now) }
+        ≡ spec.view_of (slice_get schedule.now.funcs at) (slice_get schedule.now.standings at) own.now consumer.now) }
     ensures x { IfOk result (λ view. IsFit view.lasts view.x) }
     ensures y { IfOk result (λ view. IsFit view.lasts view.y) }
 {
-    let Some(host) = host else {
+    let Some(consumer) = consumer else {
         return Ok(*own);
     };
     if !is_root_at(schedule, at) {
-        return Ok(settled_box(host.inner, own));
+        return Ok(settled_box(consumer.inner, own));
     }
     match schedule.funcs.get(at) {
         None => Ok(*own),
         Some(plan) => {
-            let view = host_view(alloc, &plan.pure, own, host)?;
+            let view = consumer_view(alloc, &plan.pure, own, consumer)?;
             Ok(view)
         }
     }

@@ -11,8 +11,7 @@ use Rattle.halide_pipeline.specs.declared.expressions.Variable.TheVariants as va
 use Rattle.halide_pipeline.specs.Expressions.{uses}
 use Rattle.bounds_inlining.specs.declared.counts.CountCall.{CountCall}
 use Rattle.bounds_inlining.specs.declared.counts.Sum.{Sum}
-use Rattle.bounds_inlining.specs.Inlining.{arguments, through, inside, inlined, made_in, made_of, func_in, flagged}
-use Rattle.bounds_inlining.specs.Weights.{counting, dropped}
+use Rattle.bounds_inlining.specs.Inlining.{arguments, through, inside, inlined, made_in, made_of, func_in, flagged, counting, dropped}
 use Rattle.bounds_inlining.specs.inner.Summing.{Same, sum_at, count_call, call_of, call_at, counted, SameCall, Counts, made_at}
 use Rattle.bounds_inlining.proofs.Through.{Answers, RelatesAllLevels, arguments_related, through_related}
 use Rattle.bounds_inlining.proofs.Steps.{inside_is, inside_past}

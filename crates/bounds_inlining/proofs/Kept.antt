@@ -11,8 +11,7 @@ use Rattle.halide_pipeline.specs.declared.expressions.Expr.TheOpen as layer
 use Rattle.halide_pipeline.specs.declared.expressions.Source.{Source}
 use Rattle.halide_pipeline.specs.declared.expressions.Source.TheVariants as sources
 use Rattle.halide_pipeline.specs.declared.expressions.Variable.{Variable}
-use Rattle.halide_pipeline.specs.Definitions.{dimensions}
-use Rattle.halide_pipeline.specs.WellFormed.{keeps, is_read, is_func_of, is_argument}
+use Rattle.halide_pipeline.specs.WellFormed.{dimensions, keeps, is_read, is_func_of, is_argument}
 use Rattle.bounds_inlining.specs.Inlining.{Algebra, none, second_of, arguments, answer, answered, through, through_at, inside, made_in, inlined, is_computed}
 use Rattle.bounds_inlining.specs.Laws.{AreFuncs, RelatesLevels, RelatesSeconds, RelatesArguments, RelatesCalls, FoldsAreRelated}
 use Rattle.bounds_inlining.proofs.KeptFolds.{KeptLevels, kept_folds_related}

@@ -7,8 +7,7 @@ use Rattle.halide_pipeline.specs.declared.expressions.Expr.{Expr}
 use Rattle.halide_pipeline.specs.declared.expressions.Expr.TheOpen as layer
 use Rattle.halide_pipeline.specs.declared.expressions.Variable.{Variable}
 use Rattle.bounds_inlining.specs.declared.needs.Need.{Need}
-use Rattle.bounds_inlining.specs.Inlining.{second_of, arguments, through, inside, inlined, made_in, made_of, func_in, flagged}
-use Rattle.bounds_inlining.specs.Weights.{needing}
+use Rattle.bounds_inlining.specs.Inlining.{second_of, arguments, through, inside, inlined, made_in, made_of, func_in, flagged, needing}
 use Rattle.bounds_inlining.specs.inner.Summing.{Same, need_at, need_call, need_of, need_in, needed, SameCall, Needs, need_made}
 use Rattle.bounds_inlining.proofs.Through.{Answers, RelatesAllLevels, arguments_related, seconds_related, through_related}
 use Rattle.bounds_inlining.proofs.Steps.{inside_is, inside_past}

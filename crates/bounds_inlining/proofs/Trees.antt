@@ -9,10 +9,9 @@ use Rattle.halide_pipeline.specs.declared.expressions.Variable.TheVariants as va
 use Rattle.halide_pipeline.specs.Expressions.{nodes, nodes_at, uses}
 use Rattle.halide_pipeline.specs.Pixel.{Reads, value, value_at, variable}
 use Rattle.halide_pipeline.specs.WellFormed.{keeps, keeps_at}
-use Rattle.bounds_inlining.specs.Inlining.{is_computed}
+use Rattle.bounds_inlining.specs.Inlining.{is_computed, counting, dropped, dropped_second, need_at, needing}
 use Rattle.bounds_inlining.specs.Values.{values}
 use Rattle.bounds_inlining.specs.Laws.{RelatesLevels, RelatesSeconds, RelatesArguments, RelatesCalls}
-use Rattle.bounds_inlining.specs.Weights.{counting, dropped, dropped_second, need_at, needing}
 use Rattle.bounds_inlining.specs.Trees.{Tree, all_nodes, need, own_variable, putting, unused, second_unused, CountsAreOfTrees, NeedsAreOfTrees, TreesHaveValues, TreesCallNoInlined}
 use Rattle.bounds_inlining.proofs.Kept.{folds_are_related}
 use Rattle.bounds_inlining.proofs.Through.{RelatesAllLevels, made_related, inlined_related}

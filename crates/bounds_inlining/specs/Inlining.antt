@@ -1,7 +1,7 @@
 -- What is made of an expression through its inlined Funcs: a call of one is answered by what is made of that Func's
 -- pure definition, where its arguments stand for what is made of those of the call.
 -- This project's own.
-use Rattle.std.specs.Prelude.{ℕ, zero, suc, ◌==◌, ◌&&◌, nat_lt, Bool, true, false, not, if◌then◌else◌, List, Option, Some, None, slice_get}
+use Rattle.std.specs.Prelude.{ℕ, zero, suc, ◌==◌, ◌&&◌, nat_lt, Bool, true, false, not, if◌then◌else◌, List, Option, Some, None, slice_get, ◌+◌, max}
 use Rattle.halide_pipeline.specs.declared.definitions.Func.{Func}
 use Rattle.halide_pipeline.specs.declared.expressions.Expr.{Expr, fold-Expr}
 use Rattle.halide_pipeline.specs.declared.expressions.Expr.TheOpen.{Expr-F}
@@ -10,6 +10,7 @@ use Rattle.halide_pipeline.specs.declared.expressions.Source.{Source}
 use Rattle.halide_pipeline.specs.declared.expressions.Source.TheVariants as sources
 use Rattle.halide_pipeline.specs.declared.expressions.Variable.{Variable}
 use Rattle.halide_pipeline.specs.declared.expressions.Variable.TheVariants as variables
+use Rattle.halide_pipeline.specs.Expressions.{nodes_at, uses}
 
 pub record Algebra (A : Type 0) : Type 0 where
   -- what is made of a level from what is made of its parts
@@ -99,3 +100,38 @@ is_computed is_inlined (sources.Func place) = not (is_inlined place)
 -- the Func at a place, if it is one of the first so many and is inlined
 abbrev pub func_in : List Func → (ℕ → Bool) → ℕ → ℕ → Option Func
 func_in funcs is_inlined count place = if nat_lt place count && is_inlined place then slice_get funcs place else None
+
+-- ---- How many nodes an expression has with its inlined Funcs put in place, and how many registers its parts need at once.
+
+-- an argument that isn't used counts once
+abbrev pub dropped : Bool → ℕ → ℕ
+dropped is_used n = if is_used then 0 else n
+
+abbrev pub dropped_second : Bool → Option ℕ → ℕ
+dropped_second is_used None = 0
+dropped_second is_used (Some n) = dropped is_used n
+
+-- A clamp counts as its minimum and maximum, `-a` as `0 - a`, a divisor as a number. Each argument of an inlined Func
+-- counts wherever it is used, and once where it isn't.
+unfoldable pub counting : Algebra ℕ
+counting = record {
+  level = nodes_at;
+  argument = λ x. x;
+  call = λ func n x y. n + dropped (uses variables.FirstArgument func.pure) x + dropped_second (uses variables.SecondArgument func.pure) y;
+}
+
+-- A number or variable needs 1. Of several parts the second waits for the first, and the third for both. A divisor is
+-- a second part that needs 1.
+abbrev pub need_at : Expr-F ℕ → ℕ
+need_at (layer.Number n) = 1
+need_at (layer.Variable v) = 1
+need_at (layer.Binary op a b) = max a (1 + b)
+need_at (layer.Divide a c) = max a 2
+need_at (layer.Remainder a c) = max a 2
+need_at (layer.Select c a b) = max c (max (1 + a) (2 + b))
+need_at (layer.Call1 s a) = a
+need_at (layer.Call2 s a b) = max a (1 + b)
+
+-- an argument that isn't used needs nothing
+unfoldable pub needing : Algebra ℕ
+needing = record { level = need_at; argument = λ x. x; call = λ func n x y. n }

@@ -1,6 +1,5 @@
 pub mod Inlining
 pub mod Values
-pub mod Weights
 pub mod Laws
 pub mod Passing
 pub mod inner

@@ -15,10 +15,9 @@ use Rattle.halide_pipeline.specs.declared.expressions.Variable.TheVariants as va
 use Rattle.halide_pipeline.specs.Expressions.{nodes, uses}
 use Rattle.halide_pipeline.specs.Pixel.{Reads, value, variable}
 use Rattle.halide_pipeline.specs.WellFormed.{keeps, is_read}
-use Rattle.bounds_inlining.specs.Inlining.{Algebra, inlined, is_computed}
+use Rattle.bounds_inlining.specs.Inlining.{Algebra, inlined, is_computed, counting, need_at, needing}
 use Rattle.bounds_inlining.specs.Laws.{AreFuncs}
 use Rattle.bounds_inlining.specs.Values.{values}
-use Rattle.bounds_inlining.specs.Weights.{counting, need_at, needing}
 
 pub record Tree : Type 0 where
   pub expr : Expr

@@ -5,7 +5,7 @@
 
 ghost use Rattle.std.specs.Prelude.{◌≡◌, ℕ, ◌+◌, ◌-◌, ◌*◌, ◌^◌, ◌<◌, Bool, List, length, min, None, Some, IfOk};
 ghost use Rattle.bounds_inlining.specs.Inlining.{answer, answered, arguments, flagged, inlined, through};
-ghost use Rattle.bounds_inlining.specs.Weights.{counting, dropped};
+ghost use Rattle.bounds_inlining.specs.Inlining.{counting, dropped};
 ghost use Rattle.halide_pipeline.specs.declared.definitions.Func.{Func};
 ghost use Rattle.halide_pipeline.specs.Expressions.{uses};
 ghost use Rattle.halide_pipeline.specs.declared.expressions.Variable.TheVariants as variables;
@@ -131,7 +131,7 @@ fn called2(table: &[Option<CountCall>], source: Source, x: Sum, y: Sum) -> Sum
 }
 
 /// The nodes of a definition, with its inlined Funcs put in place.
-#[tactic(auto, unfolding(crate::specs::Inlining::through, crate::specs::Weights::counting))]
+#[tactic(auto, unfolding(crate::specs::Inlining::through, crate::specs::Inlining::counting))]
 fn sum_of(table: &[Option<CountCall>], expr: &Expr) -> Sum
     ensures { (x y : ℕ) → inner.Same (inner.sum_at result x y) (through counting (inner.counted table.now)
         (arguments 1 x y) expr.now) }

@@ -6,7 +6,7 @@
 ghost use Rattle.std.specs.Prelude.{◌≡◌, ℕ, ◌+◌, ◌-◌, ◌^◌, ◌<◌, Bool, List, length, min, max, None, Some, IfOk};
 ghost use Rattle.halide_pipeline.specs.declared.definitions.Func.{Func};
 ghost use Rattle.bounds_inlining.specs.Inlining.{answer, answered, arguments, flagged, inlined, through};
-ghost use Rattle.bounds_inlining.specs.Weights.{needing};
+ghost use Rattle.bounds_inlining.specs.Inlining.{needing};
 ghost use Rattle.bounds_inlining.specs.inner.Summing as inner;
 
 use crate::funcs::inlined_func;
@@ -164,7 +164,7 @@ fn called2(table: &[Option<Need>], source: Source, x: Need, y: Need) -> Need
 }
 
 /// What a definition needs, with its inlined Funcs put in place.
-#[tactic(auto, unfolding(crate::specs::Inlining::through, crate::specs::Weights::needing))]
+#[tactic(auto, unfolding(crate::specs::Inlining::through, crate::specs::Inlining::needing))]
 fn need_of(table: &[Option<Need>], expr: &Expr) -> Need
     ensures { (x y : ℕ) → inner.Same (inner.need_at result x y) (through needing (inner.needed table.now)
         (arguments 1 x y) expr.now) }

@@ -15,7 +15,7 @@ use Rattle.halide_pipeline.specs.declared.expressions.Source.TheVariants as sour
 use Rattle.halide_pipeline.specs.declared.expressions.Variable.{Variable}
 use Rattle.halide_pipeline.specs.Levels.{Both, left_of, right_of}
 use Rattle.halide_pipeline.proofs.Folds.{folds_related}
-use Rattle.schedule.specs.Calls.{is_func, calls, calls_at, second_calls, update_calls, updates_call, func_calls}
+use Rattle.schedule.specs.Standing.{is_func, calls, calls_at, second_calls, update_calls, updates_call, func_calls}
 use Rattle.bounds_inlining.specs.Inlining.{Inside, answer, answered, through, through_at, inside, made_in, func_in, flagged}
 use Rattle.bounds_inlining.proofs.Kept.{inside_computed}
 use Rattle.bounds_inlining.proofs.Steps.{inside_before, inside_is}
@@ -24,8 +24,8 @@ use Rattle.bounds_ranges.specs.declared.expressions.OwnCalls.{OwnCalls}
 use Rattle.bounds_ranges.specs.declared.ranges.Range.{Range}
 use Rattle.bounds_ranges.specs.Expressions.{Ranged, ranging, second_asked, unasked_variable, ranges_where, is_anywhere, chosen, ranged_update, range_of, walked}
 use Rattle.bounds.specs.declared.boxes.SourceBox.{SourceBox}
-use Rattle.bounds.specs.Asks.{pure_variables, update_variables, own_calls, left, second_left, right, update_asked, updates_asked, func_asked}
-use Rattle.bounds.specs.Sources.{same_source}
+use Rattle.bounds.specs.Inference.{pure_variables, update_variables, own_calls, left, second_left, right, update_asked, updates_asked, func_asked}
+use Rattle.bounds.specs.Boxes.{same_source}
 
 module _ (sought : ℕ) where
   -- one of the reads is of the Func

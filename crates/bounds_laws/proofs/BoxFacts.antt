@@ -11,13 +11,14 @@ use Rattle.schedule.specs.declared.schedules.Schedule.{Schedule}
 use Rattle.schedule.specs.declared.standings.Place.{Place}
 use Rattle.schedule.specs.declared.standings.Place.TheVariants as places
 use Rattle.schedule.specs.declared.standings.Standing.{Standing}
-use Rattle.schedule.specs.Accepted.{IsAccepted, IsHosted}
+use Rattle.schedule.specs.Accepted.{IsAccepted, IsProduced}
 use Rattle.schedule.specs.Uses.{IsReached}
 use Rattle.schedule.proofs.Uses.{numbered_at}
-use Rattle.schedule_loops.specs.Counts.{shifts_fit}
+use Rattle.schedule_loops.specs.Visits.{shifts_fit}
 use Rattle.bounds_ranges.specs.declared.ranges.Range.{Range}
 use Rattle.bounds_ranges.specs.Laws.{Below, Lies}
-use Rattle.bounds_ranges.specs.Ranges.{origin, widened}
+use Rattle.bounds_ranges.specs.Ranges.{widened}
+use Rattle.bounds_ranges.specs.Numbers.{origin}
 use Rattle.bounds_ranges.proofs.Lying.{widened_stands}
 use Rattle.bounds_weights.specs.Weight.{flags_of}
 use Rattle.bounds.specs.declared.boxes.SourceBox.{SourceBox}
@@ -26,10 +27,9 @@ use Rattle.bounds.specs.declared.faults.BoundsFault.TheVariants as faults
 use Rattle.bounds.specs.declared.verdict.Boxes.{Boxes}
 use Rattle.bounds.specs.Boxes.{lasts_of, are_near, is_near, stays, box_of}
 use Rattle.bounds.specs.Inference.{read_from, own_updates, wanted, placed_box, func_box, with_func, boxes_from, inputs_from}
-use Rattle.bounds.specs.Judging.{inputs_hold, input_holds, is_within, shifts_hold, have_few_points}
-use Rattle.bounds_laws.specs.Laws.{LiesIn, IsNear, IsComputed, host_in}
-use Rattle.bounds.specs.Verdict.{sized, boxes_of, judged, with_inputs, with_funcs, inferred}
-use Rattle.bounds.specs.Views.{extents_of}
+use Rattle.bounds.specs.Verdict.{inputs_hold, input_holds, is_within, shifts_hold, have_few_points, sized, boxes_of, judged, with_inputs, with_funcs, inferred}
+use Rattle.bounds_laws.specs.Laws.{LiesIn, IsNear, IsComputed, consumer_in}
+use Rattle.bounds.specs.Extents.{extents_of}
 use Rattle.bounds_laws.proofs.Found.{are_found, in_front_is, got}
 use Rattle.bounds_laws.proofs.FoundFuncs.{IsAt, boxes_at, sought_is}
 
@@ -80,21 +80,21 @@ pub record HasBox (pipeline : Pipeline) (schedule : Schedule) (boxes : Boxes) (p
   pub there : IsReached schedule.standings place standing
   pub computed : IsComputed place standing.place
   pub near : is_near own ≡ true
-  pub lasts : own.lasts ≡ lasts_of (host_in schedule boxes.funcs standing.place)
+  pub lasts : own.lasts ≡ lasts_of (consumer_in schedule boxes.funcs standing.place)
 
 module _ (pipeline : Pipeline) (schedule : Schedule) (boxes : Boxes) (accepted : IsAccepted pipeline schedule) (is : inferred pipeline schedule ≡ Ok boxes) where
   flags : List Bool
   flags = flags_of schedule.standings
 
-  hosted : (place : ℕ) (own : Standing) → slice_get schedule.standings place ≡ Some own → IsHosted pipeline schedule.funcs place own
-  hosted place own found =
+  produced : (place : ℕ) (own : Standing) → slice_get schedule.standings place ≡ Some own → IsProduced pipeline schedule.funcs place own
+  produced place own found =
       let here : 0 + place ≡ place = omega arith in
-      subst (λ (n : ℕ). IsHosted pipeline schedule.funcs n own) here (numbered_at (IsHosted pipeline schedule.funcs) 0 schedule.standings accepted.hosts place own found)
+      subst (λ (n : ℕ). IsProduced pipeline schedule.funcs n own) here (numbered_at (IsProduced pipeline schedule.funcs) 0 schedule.standings accepted.consumers place own found)
 
   placed_so : (place : ℕ) (own : Standing) → slice_get schedule.standings place ≡ Some own → (func : Func) (behind : List (Option SourceBox)) (box : SourceBox)
       → (where_ : Place) → own.place ≡ where_ → Some box ≡ placed_box pipeline schedule flags place func behind where_ → IsComputed place where_
   placed_so place own found func behind box places.Root e some = tt
-  placed_so place own found func behind box (places.At host) e some = (hosted place own found host e).later
+  placed_so place own found func behind box (places.At consumer) e some = (produced place own found consumer e).later
   placed_so place own found func behind box places.Inlined e some = absurd cc
   placed_so place own found func behind box places.Nowhere e some = absurd cc
 
@@ -104,8 +104,8 @@ module _ (pipeline : Pipeline) (schedule : Schedule) (boxes : Boxes) (accepted :
     by_reached standing found false r e = absurd cc
     by_reached standing found true r e =
         let computed = placed_so place standing found at.func at.behind own standing.place refl e in
-        let host = host_in schedule boxes.funcs standing.place in
-        let spread = read_from pipeline schedule flags (place + 1) host (sources.Func place) at.behind (own_updates pipeline flags place host (wanted pipeline.output place host) at.func.updates) in
+        let consumer = consumer_in schedule boxes.funcs standing.place in
+        let spread = read_from pipeline schedule flags (place + 1) consumer (sources.Func place) at.behind (own_updates pipeline flags place consumer (wanted pipeline.output place consumer) at.func.updates) in
         record {
           func = at.func;
           func_is = at.func_is;
@@ -113,7 +113,7 @@ module _ (pipeline : Pipeline) (schedule : Schedule) (boxes : Boxes) (accepted :
           there = record { standing = found; reached = r };
           computed = computed;
           near = near;
-          lasts = lasts_by (lasts_of host) spread.x spread.y own
+          lasts = lasts_by (lasts_of consumer) spread.x spread.y own
               (sym (e ∙ sym (ap (λ (s : Option Standing). func_box pipeline schedule flags place at.func at.behind s) found
               ∙ ap (λ (test : Bool). cond test (placed_box pipeline schedule flags place at.func at.behind standing.place) None) r)
               ∙ sought_is pipeline schedule flags boxes.funcs place at.func at.behind at.later standing found r computed));

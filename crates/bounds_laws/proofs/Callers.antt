@@ -13,15 +13,14 @@ use Rattle.halide_pipeline.specs.declared.expressions.Source.{Source}
 use Rattle.halide_pipeline.specs.declared.expressions.Source.TheVariants as sources
 use Rattle.halide_pipeline.specs.declared.expressions.Variable.{Variable}
 use Rattle.halide_pipeline.specs.declared.expressions.Variable.TheVariants as variables
-use Rattle.halide_pipeline.specs.Definitions.{dimensions}
+use Rattle.halide_pipeline.specs.WellFormed.{dimensions, keeps, keeps_index, is_read, is_input_of, is_func_of, is_argument, is_update_variable, IsWellFormed, IsUpdate}
 use Rattle.halide_pipeline.specs.Pipelines.{Pipeline}
-use Rattle.halide_pipeline.specs.WellFormed.{keeps, keeps_index, is_read, is_input_of, is_func_of, is_argument, is_update_variable, IsWellFormed, IsUpdate}
 use Rattle.halide_pipeline.specs.declared.environments.Environment.{Environment}
 use Rattle.halide_pipeline.specs.Pixel.{Reads, at_point, at_reduction}
 use Rattle.halide_pipeline.specs.Points.{Point, Seen}
 use Rattle.halide_pipeline.proofs.Seeing.{all_both}
 use Rattle.schedule.specs.declared.standings.Standing.{Standing}
-use Rattle.schedule.specs.Calls.{is_func, calls, calls_at, second_calls, update_calls, updates_call, func_calls, place_calls, place_calls_of}
+use Rattle.schedule.specs.Standing.{is_func, calls, calls_at, second_calls, update_calls, updates_call, func_calls, place_calls, place_calls_of}
 use Rattle.bounds_inlining.specs.Inlining.{none, second_of, arguments, answer, answered, through, through_at, inside, made_in, inlined, flagged}
 use Rattle.bounds_inlining.specs.Laws.{seen_variable}
 use Rattle.bounds_inlining.specs.Values.{seeing, unread, second_points}

@@ -10,9 +10,8 @@ use Rattle.halide_pipeline.specs.declared.expressions.Expr.{Expr}
 use Rattle.halide_pipeline.specs.declared.expressions.Source.{Source}
 use Rattle.halide_pipeline.specs.declared.expressions.Source.TheVariants as sources
 use Rattle.halide_pipeline.specs.declared.expressions.Variable.{Variable}
-use Rattle.halide_pipeline.specs.Definitions.{dimensions, is_first_in_place, is_second_in_place}
+use Rattle.halide_pipeline.specs.WellFormed.{dimensions, is_first_in_place, is_second_in_place, keeps, keeps_index, is_read, is_func_of, is_argument, is_update_variable, IsWellFormed, IsUpdate}
 use Rattle.halide_pipeline.specs.Pipelines.{Pipeline}
-use Rattle.halide_pipeline.specs.WellFormed.{keeps, keeps_index, is_read, is_func_of, is_argument, is_update_variable, IsWellFormed, IsUpdate}
 use Rattle.halide_pipeline.specs.declared.environments.Environment.{Environment}
 use Rattle.halide_pipeline.specs.Pixel.{Planes, Reads, reads_of, with_plane, pixels, stage, after, at_point, at_reduction, points}
 use Rattle.halide_pipeline.specs.Points.{Point, Hold, points_read, index_points, left_points, direct_trace, ReadsHold, pixel_trace}
@@ -23,11 +22,10 @@ use Rattle.schedule.specs.declared.schedules.Schedule.{Schedule}
 use Rattle.schedule.specs.declared.standings.Place.{Place}
 use Rattle.schedule.specs.declared.standings.Place.TheVariants as places
 use Rattle.schedule.specs.declared.standings.Standing.{Standing}
-use Rattle.schedule.specs.Accepted.{IsAccepted, IsPlan, IsLegal, IsHosted}
-use Rattle.schedule.specs.Calls.{calls, second_calls, update_calls, updates_call, func_calls, place_calls, place_calls_of}
+use Rattle.schedule.specs.Accepted.{IsAccepted, IsPlan, IsLegal, IsProduced}
+use Rattle.schedule.specs.Standing.{calls, second_calls, update_calls, updates_call, func_calls, place_calls, place_calls_of, standings_from}
 use Rattle.schedule.specs.Legal.{is_inlined, is_nowhere}
 use Rattle.schedule.specs.Standing as standing
-use Rattle.schedule.specs.Standing.{standings_from}
 use Rattle.schedule.specs.Uses.{IsReached}
 use Rattle.schedule.proofs.Uses.{IsSome, some_before, output_standing, standing_some, numbered_at}
 use Rattle.schedule_loops.proofs.AcceptedStages.{pair_at}
@@ -39,15 +37,14 @@ use Rattle.bounds_inlining.proofs.Passing.{passes_tested, seen_points_pass, seen
 use Rattle.bounds_ranges.specs.Laws.{Below, AnswerWords}
 use Rattle.bounds_ranges.proofs.PixelWords.{pixels_are_words, stages_are_words, with_words}
 use Rattle.bounds_weights.specs.Weight.{flags_of}
-use Rattle.bounds.specs.declared.boxes.HostLoop.{HostLoop}
+use Rattle.bounds.specs.declared.boxes.ConsumerLoop.{ConsumerLoop}
 use Rattle.bounds.specs.declared.boxes.SourceBox.{SourceBox}
 use Rattle.bounds.specs.declared.verdict.Boxes.{Boxes}
-use Rattle.bounds.specs.Boxes.{no_loops, lasts_of, no_spread, spread_box}
+use Rattle.bounds.specs.Boxes.{no_loops, lasts_of, no_spread, spread_box, same_source}
 use Rattle.bounds_laws.specs.Callers.{ReadsThrough, IsReadThrough, AreReadThrough}
 use Rattle.bounds_laws.specs.Closure.{is_put_in, is_boxed, is_within, held_at, is_held, AllReadsAreHeld, lies_in}
 use Rattle.bounds.specs.Inference.{input_box, with_input, with_func, boxes_from, func_box, inputs_from, read_from}
-use Rattle.bounds_laws.specs.Laws.{LiesIn, LiesPartly, IsBoxed, AreBoxed, IsNear, values_for, host_in, IsComputed, pure_points, update_points, seen_in, second_seen}
-use Rattle.bounds.specs.Sources.{same_source}
+use Rattle.bounds_laws.specs.Laws.{LiesIn, LiesPartly, IsBoxed, AreBoxed, IsNear, values_for, consumer_in, IsComputed, pure_points, update_points, seen_in, second_seen}
 use Rattle.bounds.specs.Verdict.{inferred}
 use Rattle.bounds_laws.proofs.BoxFacts.{HasBox, has_box, near_points, is_judged, input_at, points_within, lasts_by}
 use Rattle.bounds_laws.proofs.Callers.{pure_points_are_read_through, update_points_are_read_through, or_left, or_right, updates_one}
@@ -124,10 +121,10 @@ module _ (pipeline : Pipeline) (schedule : Schedule) (boxes : Boxes) (rules : Is
 
   -- ---- which Funcs are computed
 
-  hosted_later : (place : ℕ) (own : Standing) → slice_get schedule.standings place ≡ Some own → IsHosted pipeline schedule.funcs place own
-  hosted_later place own found =
+  produced_later : (place : ℕ) (own : Standing) → slice_get schedule.standings place ≡ Some own → IsProduced pipeline schedule.funcs place own
+  produced_later place own found =
       let here : 0 + place ≡ place = omega arith in
-      subst (λ (n : ℕ). IsHosted pipeline schedule.funcs n own) here (numbered_at (IsHosted pipeline schedule.funcs) 0 schedule.standings accepted.hosts place own found)
+      subst (λ (n : ℕ). IsProduced pipeline schedule.funcs n own) here (numbered_at (IsProduced pipeline schedule.funcs) 0 schedule.standings accepted.consumers place own found)
 
   computed_so : (place : ℕ) (func : Func) → slice_get pipeline.funcs place ≡ Some func → (own : Standing) → IsReached schedule.standings place own → flags pipeline schedule place ≡ false → IsComputed place own.place
   computed_so place func func_is own there plain = by_place own.place refl
@@ -140,7 +137,7 @@ module _ (pipeline : Pipeline) (schedule : Schedule) (boxes : Boxes) (rules : Is
 
       by_place : (p : Place) → own.place ≡ p → IsComputed place p
       by_place places.Root e = tt
-      by_place (places.At at) e = (hosted_later place own there.standing at e).later
+      by_place (places.At at) e = (produced_later place own there.standing at e).later
       by_place places.Inlined e =
           absurd (true≢false (sym (flag_is schedule.standings place own there.standing ∙ ap is_inlined e) ∙ plain))
       by_place places.Nowhere e = absurd (true≢false (sym (ap is_nowhere e) ∙ somewhere))
@@ -174,7 +171,7 @@ module _ (pipeline : Pipeline) (schedule : Schedule) (boxes : Boxes) (rules : Is
     record AreRead (count : ℕ) (points : List Point) : Type 0 where
       inputs : (place : ℕ) → AreBoxed no_loops (sources.Input place) (slice_get boxes.inputs place) points
       funcs : (place : ℕ) (sought : Standing) → place < reader → slice_get schedule.standings place ≡ Some sought → sought.is_reached ≡ true → IsComputed place sought.place
-          → (s : Seen_so sought.place) → AreBoxed (values_for s.host s.values) (sources.Func place) (slice_get boxes.funcs place) points
+          → (s : Seen_so sought.place) → AreBoxed (values_for s.consumer s.values) (sources.Func place) (slice_get boxes.funcs place) points
       own_points : reader < count → AreBoxed values (sources.Func reader) (Some (Some own)) points
       through : AreReadThrough pipeline schedule.standings reader count points
 
@@ -215,7 +212,7 @@ module _ (pipeline : Pipeline) (schedule : Schedule) (boxes : Boxes) (rules : Is
 
     other_held : (place a b : ℕ) → flags pipeline schedule place ≡ false → ReadsThrough pipeline schedule.standings reader place
         → ((sought : Standing) → place < reader → slice_get schedule.standings place ≡ Some sought → sought.is_reached ≡ true → IsComputed place sought.place
-        → (s : Seen_so sought.place) → IsBoxed (values_for s.host s.values) (slice_get boxes.funcs place) a b)
+        → (s : Seen_so sought.place) → IsBoxed (values_for s.consumer s.values) (slice_get boxes.funcs place) a b)
         → test (point_at (sources.Func place) a b) ≡ true
     other_held place a b plain through boxed_so =
         let w = readers_stand_within pipeline schedule accepted reader box.standing box.there box.computed place through in
@@ -224,13 +221,13 @@ module _ (pipeline : Pipeline) (schedule : Schedule) (boxes : Boxes) (rules : Is
         let computed = computed_so place func.value func.is w.own w.there plain in
         let s = sees pipeline schedule boxes rules accepted is reader own own_is values below x y lies place w computed in
         func_held place a b
-        (boxed_true (values_for s.host s.values) (slice_get boxes.funcs place) a b entry (boxed_so w.own w.before w.there.standing w.there.reached computed s)
+        (boxed_true (values_for s.consumer s.values) (slice_get boxes.funcs place) a b entry (boxed_so w.own w.before w.there.standing w.there.reached computed s)
         (λ other e.
         let theirs = has_box pipeline schedule boxes accepted is place other e in
         let same_standing : theirs.standing ≡ w.own = let p = theirs.there.standing in let q = w.there.standing in cc in
-        let lasts : other.lasts ≡ lasts_of s.host =
-        theirs.lasts ∙ ap (λ (t : Standing). lasts_of (host_in schedule boxes.funcs t.place)) same_standing ∙ ap lasts_of s.host_is in
-        subst (λ (l : List ℕ). Below (values_for s.host s.values) l) (sym lasts) s.below_host))
+        let lasts : other.lasts ≡ lasts_of s.consumer =
+        theirs.lasts ∙ ap (λ (t : Standing). lasts_of (consumer_in schedule boxes.funcs t.place)) same_standing ∙ ap lasts_of s.consumer_is in
+        subst (λ (l : List ℕ). Below (values_for s.consumer s.values) l) (sym lasts) s.below_consumer))
 
     point_held : (count : ℕ) (s : Source) (a b : ℕ) (points : List Point) → AreRead count (point_at s a b ∷ points) → IsReadThrough pipeline schedule.standings reader count s → test (point_at s a b) ≡ true
     point_held count (sources.Input place) a b points r through = input_held place a b through ((r.inputs place).0 (same_self (sources.Input place)))
@@ -256,31 +253,31 @@ module _ (pipeline : Pipeline) (schedule : Schedule) (boxes : Boxes) (rules : Is
         all_held reader (pure_points pipeline schedule reads reader func x y) (record {
           inputs = λ place. pure_reads_of_inputs_lie pipeline schedule boxes rules is reader func own func_is own_is reads words values below x y lies place;
           funcs = λ place sought before found reached_so computed s.
-              pure_reads_of_funcs_lie pipeline schedule boxes rules is reader func own func_is own_is place sought before found reached_so computed s.host s.host_is s.view s.view_is reads words s.values s.below_view s.below_host x y s.lies;
+              pure_reads_of_funcs_lie pipeline schedule boxes rules is reader func own func_is own_is place sought before found reached_so computed s.consumer s.consumer_is s.view s.view_is reads words s.values s.below_view s.below_consumer x y s.lies;
           own_points = λ l. absurd (omega (arith, l));
           through = pure_points_are_read_through pipeline schedule rules reader func func_is reads x y;
         })
 
     -- ---- updates
 
-    values_same : (host : Option HostLoop) → own.lasts ≡ lasts_of host → values_for host values ≡ values
+    values_same : (consumer : Option ConsumerLoop) → own.lasts ≡ lasts_of consumer → values_for consumer values ≡ values
     values_same None e = sym (zero_values values (subst (λ (l : List ℕ). Below values l) e below))
-    values_same (Some host) e = refl
+    values_same (Some consumer) e = refl
 
     pub update_held : (reads : Reads) → AnswerWords pipeline.inputs reads → (func : Func) → slice_get pipeline.funcs reader ≡ Some func → flags pipeline schedule reader ≡ false
         → (at : ℕ) (update : Update) → slice_get func.updates at ≡ Some update → (number : ℕ) → number < points update
         → Hold test (update_points pipeline schedule reads reader update number x y)
     update_held reads words func func_is plain at update update_is number few =
-        let host = host_in schedule boxes.funcs box.standing.place in
-        let same = values_same host box.lasts in
+        let consumer = consumer_in schedule boxes.funcs box.standing.place in
+        let same = values_same consumer box.lasts in
         all_held (suc reader) (update_points pipeline schedule reads reader update number x y) (record {
           inputs = λ place. update_reads_of_inputs_lie pipeline schedule boxes rules is reader func own func_is own_is at update update_is reads words values below x y lies near.0 near.1 number few place;
           funcs = λ place sought before found reached_so computed s.
-              update_reads_of_funcs_lie pipeline schedule boxes rules is reader func own func_is own_is at update update_is place sought before found reached_so computed s.host s.host_is s.view s.view_is reads words s.values s.below_view s.below_host x y s.lies near.0 near.1 number few;
+              update_reads_of_funcs_lie pipeline schedule boxes rules is reader func own func_is own_is at update update_is place sought before found reached_so computed s.consumer s.consumer_is s.view s.view_is reads words s.values s.below_view s.below_consumer x y s.lies near.0 near.1 number few;
           own_points = λ l.
               subst (λ (v : List ℕ). AreBoxed v (sources.Func reader) (Some (Some own)) (update_points pipeline schedule reads reader update number x y)) same
-              (own_points_lie pipeline schedule boxes rules is reader func box.standing func_is box.there.standing box.there.reached box.computed host refl values
-              (subst (λ (v : List ℕ). Below v (lasts_of host)) (sym same) (subst (λ (t : List ℕ). Below values t) box.lasts below))
+              (own_points_lie pipeline schedule boxes rules is reader func box.standing func_is box.there.standing box.there.reached box.computed consumer refl values
+              (subst (λ (v : List ℕ). Below v (lasts_of consumer)) (sym same) (subst (λ (t : List ℕ). Below values t) box.lasts below))
               own own_is at update update_is reads words x y lies.first.word lies.second.word near.0 near.1 number few
               (subst (λ (v : List ℕ). LiesPartly v own (is_first_in_place update) (is_second_in_place update) x y) (sym same) (record { first = λ t. lies.first; second = λ t. lies.second })));
           through = update_points_are_read_through pipeline schedule rules reader func func_is plain at update update_is reads number x y;
@@ -516,7 +513,7 @@ module _ (pipeline : Pipeline) (schedule : Schedule) (boxes : Boxes) (rules : Is
           (λ own f.
           let theirs = has_box pipeline schedule boxes accepted is place own (e ∙ f) in
           let same_standing : theirs.standing ≡ own_standing.value = let p = theirs.there.standing in let q = own_standing.is in cc in
-          let lasts : own.lasts ≡ no_loops = theirs.lasts ∙ ap (λ (t : Standing). lasts_of (host_in schedule boxes.funcs t.place)) same_standing ∙ ap (λ (p : Place). lasts_of (host_in schedule boxes.funcs p)) known.1 in
+          let lasts : own.lasts ≡ no_loops = theirs.lasts ∙ ap (λ (t : Standing). lasts_of (consumer_in schedule boxes.funcs t.place)) same_standing ∙ ap (λ (p : Place). lasts_of (consumer_in schedule boxes.funcs p)) known.1 in
           subst (λ (l : List ℕ). Below no_loops l) (sym lasts) no_below)
 
       output_held : test (point_at (sources.Func place) x y) ≡ true

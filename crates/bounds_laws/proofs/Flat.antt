@@ -13,9 +13,8 @@ use Rattle.halide_pipeline.specs.declared.expressions.Source.{Source}
 use Rattle.halide_pipeline.specs.declared.expressions.Source.TheVariants as sources
 use Rattle.halide_pipeline.specs.declared.expressions.Variable.{Variable}
 use Rattle.halide_pipeline.specs.declared.expressions.Variable.TheVariants as variables
-use Rattle.halide_pipeline.specs.Definitions.{dimensions, is_first_in_place, is_second_in_place}
+use Rattle.halide_pipeline.specs.WellFormed.{dimensions, is_first_in_place, is_second_in_place, keeps, keeps_index, is_read, is_input_of, is_func_of, is_argument, is_update_variable, are_dimensions, IsWellFormed, IsUpdate}
 use Rattle.halide_pipeline.specs.Pipelines.{Pipeline}
-use Rattle.halide_pipeline.specs.WellFormed.{keeps, keeps_index, is_read, is_input_of, is_func_of, is_argument, is_update_variable, are_dimensions, IsWellFormed, IsUpdate}
 use Rattle.halide_pipeline.proofs.Seeing.{all_both}
 use Rattle.schedule.specs.declared.schedules.Schedule.{Schedule}
 use Rattle.bounds_inlining.specs.Inlining.{none, second_of, arguments, answer, answered, through, through_at, inside, made_in, flagged}
@@ -25,22 +24,20 @@ use Rattle.bounds_inlining.proofs.Steps.{inside_before}
 use Rattle.bounds_ranges.specs.declared.expressions.Asked.{Asked}
 use Rattle.bounds_ranges.specs.declared.expressions.OwnCalls.{OwnCalls}
 use Rattle.bounds_ranges.specs.declared.ranges.Range.{Range}
-use Rattle.bounds_ranges.specs.Bases.{no_base, more_sum, less_sum}
+use Rattle.bounds_ranges.specs.Ranges.{no_base, more_sum, less_sum, every, fit, literal, together, hull}
 use Rattle.bounds_ranges.specs.Expressions.{Ranged, ranging, second_asked, unasked, unasked_variable, ranges_where, is_anywhere, chosen, ranged_update, range_of, walked}
-use Rattle.bounds_ranges.specs.Ranges.{origin, least, greatest, every, fit, literal, together, hull}
+use Rattle.bounds_ranges.specs.Numbers.{origin, least, greatest}
 use Rattle.bounds_ranges.proofs.Sums.{no_more, no_less}
 use Rattle.halide_pipeline.specs.Levels.{Both}
 use Rattle.bounds_weights.specs.Weight.{flags_of}
-use Rattle.bounds.specs.declared.boxes.HostLoop.{HostLoop}
+use Rattle.bounds.specs.declared.boxes.ConsumerLoop.{ConsumerLoop}
 use Rattle.bounds.specs.declared.boxes.SourceBox.{SourceBox}
 use Rattle.bounds.specs.declared.boxes.Spread.{Spread}
-use Rattle.bounds.specs.Asks.{pure_variables, update_variables, own_calls, left, second_left, right, left_read, update_asked, updates_asked, func_asked, unplaced}
-use Rattle.bounds.specs.Boxes.{no_loops, lasts_of, taken, with_range, joined, with_read, gathered, box_of}
+use Rattle.bounds.specs.Inference.{pure_variables, update_variables, own_calls, left, second_left, right, left_read, update_asked, updates_asked, func_asked, unplaced, pixels_range, wanted, own_update, own_updates, read_in, read_of, read_by_box, read_from, computed_box}
+use Rattle.bounds.specs.Boxes.{no_loops, lasts_of, taken, with_range, joined, with_read, gathered, box_of, same_source}
 use Rattle.bounds_laws.specs.Closure.{flat, OneRowBoxes}
-use Rattle.bounds.specs.Inference.{pixels_range, wanted, own_update, own_updates, read_in, read_of, read_by_box, read_from, computed_box}
-use Rattle.bounds.specs.Sources.{same_source}
 use Rattle.bounds.specs.Views.{view_of}
-use Rattle.bounds_laws.specs.Laws.{host_in}
+use Rattle.bounds_laws.specs.Laws.{consumer_in}
 use Rattle.bounds_laws.proofs.BoxFacts.{has_box}
 use Rattle.bounds_laws.proofs.Found.{got}
 use Rattle.bounds_laws.proofs.OwnReads.{gathered_at}
@@ -61,12 +58,12 @@ literal_flat lasts = fit_flat lasts
 row_flat : (lasts : List ℕ) → pixels_range lasts 1 ≡ flat
 row_flat lasts = fit_flat lasts
 
-taken_flat : (host : Option HostLoop) (lasts : List ℕ) → taken host lasts flat ≡ flat
+taken_flat : (consumer : Option ConsumerLoop) (lasts : List ℕ) → taken consumer lasts flat ≡ flat
 taken_flat None lasts =
     ap (λ (n : ℕ). fit no_loops no_base (record { low = origin - n; high = origin + more_sum no_base lasts })) (no_less lasts)
     ∙ ap (λ (n : ℕ). fit no_loops no_base (record { low = origin - 0; high = origin + n })) (no_more lasts)
     ∙ fit_flat no_loops
-taken_flat (Some host) lasts = fit_flat host.lasts
+taken_flat (Some consumer) lasts = fit_flat consumer.lasts
 
 together_flat : (lasts : List ℕ) → together lasts hull flat flat ≡ flat
 together_flat lasts = fit_flat lasts
@@ -270,53 +267,53 @@ module _ (pipeline : Pipeline) where
   same_is (sources.Func a) (sources.Input b) e = absurd cc
   same_is (sources.Func a) (sources.Func b) e = ap (λ (n : ℕ). sources.Func n) (eqb-true a b e)
 
-  module _ (host : Option HostLoop) (source : Source) (one : is_one source ≡ true) where
-    with_flat : (own : Option Range) (range : Range) → IsFlatOrNone own → range ≡ flat → with_range (lasts_of host) own range ≡ flat
+  module _ (consumer : Option ConsumerLoop) (source : Source) (one : is_one source ≡ true) where
+    with_flat : (own : Option Range) (range : Range) → IsFlatOrNone own → range ≡ flat → with_range (lasts_of consumer) own range ≡ flat
     with_flat None range flat_own is = is
-    with_flat (Some own) range flat_own is = ap (λ (r : Range). together (lasts_of host) hull own r) is ∙ ap (λ (r : Range). together (lasts_of host) hull r flat) flat_own ∙ together_flat (lasts_of host)
+    with_flat (Some own) range flat_own is = ap (λ (r : Range). together (lasts_of consumer) hull own r) is ∙ ap (λ (r : Range). together (lasts_of consumer) hull r flat) flat_own ∙ together_flat (lasts_of consumer)
 
-    joined_flat : (counts : Bool) (own : Option Range) (range : Range) → IsFlatOrNone own → range ≡ flat → IsFlatOrNone (joined (lasts_of host) counts own range)
+    joined_flat : (counts : Bool) (own : Option Range) (range : Range) → IsFlatOrNone own → range ≡ flat → IsFlatOrNone (joined (lasts_of consumer) counts own range)
     joined_flat true own range flat_own is = with_flat own range flat_own is
     joined_flat false own range flat_own is = flat_own
 
     one_more : (lasts : List ℕ) (first second : Bool) (spread : Spread) (read : Asked) → IsFlat read → IsFlatOrNone spread.y → (test : Bool) → same_source read.source source ≡ test
-        → IsFlatOrNone (cond test (with_read host lasts first second spread read) spread).y
+        → IsFlatOrNone (cond test (with_read consumer lasts first second spread read) spread).y
     one_more lasts first second spread read is begun true e =
         let flat_read = is (ap is_one (same_is read.source source e) ∙ one) in
-        joined_flat second spread.y (taken host lasts read.y) begun (ap (λ (r : Range). taken host lasts r) flat_read ∙ taken_flat host lasts)
+        joined_flat second spread.y (taken consumer lasts read.y) begun (ap (λ (r : Range). taken consumer lasts r) flat_read ∙ taken_flat consumer lasts)
     one_more lasts first second spread read is begun false e = begun
 
-    gathered_flat : (lasts : List ℕ) (first second : Bool) (spread : Spread) (asked : List Asked) → AreFlat asked → IsFlatOrNone spread.y → IsFlatOrNone (gathered host lasts source first second spread asked).y
+    gathered_flat : (lasts : List ℕ) (first second : Bool) (spread : Spread) (asked : List Asked) → AreFlat asked → IsFlatOrNone spread.y → IsFlatOrNone (gathered consumer lasts source first second spread asked).y
     gathered_flat lasts first second spread [] all begun = begun
     gathered_flat lasts first second spread (read ∷ others) all begun =
-        gathered_flat lasts first second (cond (same_source read.source source) (with_read host lasts first second spread read) spread) others all.1
+        gathered_flat lasts first second (cond (same_source read.source source) (with_read consumer lasts first second spread read) spread) others all.1
         (one_more lasts first second spread read all.0 begun (same_source read.source source) refl)
 
     module _ (rules : IsWellFormed pipeline) (schedule : Schedule) (flags : List Bool) where
-      of_flat : (at : ℕ) (view : SourceBox) (spread : Spread) (func : Option Func) → slice_get pipeline.funcs at ≡ func → IsFlatOrNone spread.y → IsFlatOrNone (read_of pipeline flags at view host source spread func).y
+      of_flat : (at : ℕ) (view : SourceBox) (spread : Spread) (func : Option Func) → slice_get pipeline.funcs at ≡ func → IsFlatOrNone spread.y → IsFlatOrNone (read_of pipeline flags at view consumer source spread func).y
       unfolding read_in
       of_flat at view spread None is begun = begun
       of_flat at view spread (Some func) is begun =
           gathered_flat view.lasts true true spread (func_asked pipeline.inputs pipeline.funcs flags at view func) (func_flat rules flags at func is view) begun
 
-      box_flat : (at : ℕ) (own : Option SourceBox) (spread : Spread) → IsFlatOrNone spread.y → IsFlatOrNone (read_by_box pipeline schedule flags at own host source spread).y
+      box_flat : (at : ℕ) (own : Option SourceBox) (spread : Spread) → IsFlatOrNone spread.y → IsFlatOrNone (read_by_box pipeline schedule flags at own consumer source spread).y
       box_flat at None spread begun = begun
-      box_flat at (Some own) spread begun = of_flat at (view_of (slice_get schedule.funcs at) (slice_get schedule.standings at) own host) spread (slice_get pipeline.funcs at) refl begun
+      box_flat at (Some own) spread begun = of_flat at (view_of (slice_get schedule.funcs at) (slice_get schedule.standings at) own consumer) spread (slice_get pipeline.funcs at) refl begun
 
-      pub from_flat : (at : ℕ) (boxes : List (Option SourceBox)) (spread : Spread) → IsFlatOrNone spread.y → IsFlatOrNone (read_from pipeline schedule flags at host source boxes spread).y
+      pub from_flat : (at : ℕ) (boxes : List (Option SourceBox)) (spread : Spread) → IsFlatOrNone spread.y → IsFlatOrNone (read_from pipeline schedule flags at consumer source boxes spread).y
       from_flat at [] spread begun = begun
-      from_flat at (own ∷ boxes) spread begun = from_flat (at + 1) boxes (read_by_box pipeline schedule flags at own host source spread) (box_flat at own spread begun)
+      from_flat at (own ∷ boxes) spread begun = from_flat (at + 1) boxes (read_by_box pipeline schedule flags at own consumer source spread) (box_flat at own spread begun)
 
-  module _ (rules : IsWellFormed pipeline) (flags : List Bool) (host : Option HostLoop) (place : ℕ) (func : Func) (func_is : slice_get pipeline.funcs place ≡ Some func) (one : is_one (sources.Func place) ≡ true) where
+  module _ (rules : IsWellFormed pipeline) (flags : List Bool) (consumer : Option ConsumerLoop) (place : ℕ) (func : Func) (func_is : slice_get pipeline.funcs place ≡ Some func) (one : is_one (sources.Func place) ≡ true) where
     updates_flat : (updates : List Update) (before : ℕ) → ((k : ℕ) → slice_get func.updates (before + k) ≡ slice_get updates k) → (spread : Spread) → IsFlatOrNone spread.y
-        → IsFlatOrNone (own_updates pipeline flags place host spread updates).y
+        → IsFlatOrNone (own_updates pipeline flags place consumer spread updates).y
     unfolding own_update
     updates_flat [] before from spread begun = begun
     updates_flat (update ∷ others) before from spread begun =
         let here : before + 0 ≡ before = omega arith in
         let next : (k : ℕ) → before + 1 + k ≡ before + suc k = λ k. omega arith in
-        updates_flat others (before + 1) (λ k. ap (λ (n : ℕ). slice_get func.updates n) (next k) ∙ from (suc k)) (own_update pipeline flags place host spread update)
-        (gathered_flat host (sources.Func place) one no_loops (not (is_first_in_place update)) (not (is_second_in_place update)) spread (update_asked pipeline.inputs pipeline.funcs flags place unplaced update)
+        updates_flat others (before + 1) (λ k. ap (λ (n : ℕ). slice_get func.updates n) (next k) ∙ from (suc k)) (own_update pipeline flags place consumer spread update)
+        (gathered_flat consumer (sources.Func place) one no_loops (not (is_first_in_place update)) (not (is_second_in_place update)) spread (update_asked pipeline.inputs pipeline.funcs flags place unplaced update)
         (own_flat rules flags place func func_is unplaced before update (ap (λ (n : ℕ). slice_get func.updates n) (sym here) ∙ from 0)) begun)
 
     one_row : (count height : ℕ) → count ≡ 1 → are_dimensions count height ≡ true → height ≡ 1
@@ -325,7 +322,7 @@ module _ (pipeline : Pipeline) where
       | inr two ↦ let t = eqb-true count 2 two in absurd (omega (arith, e, t))
     ]
 
-    wanted_by : (test : Bool) → (place == pipeline.output.func) ≡ test → IsFlatOrNone (wanted pipeline.output place host).y
+    wanted_by : (test : Bool) → (place == pipeline.output.func) ≡ test → IsFlatOrNone (wanted pipeline.output place consumer).y
     wanted_by false e = rw e tt
     wanted_by true e =
         let same = eqb-true place pipeline.output.func e in
@@ -333,16 +330,16 @@ module _ (pipeline : Pipeline) where
         let dims = eqb-true (dimensions func) pipeline.output.dimensions drawn in
         let own = eqb-true (dimensions func) 1 (sym (ap (λ (f : Option Func). is_func_of f 1) func_is) ∙ one) in
         let height = one_row pipeline.output.dimensions pipeline.output.height (sym dims ∙ own) rules.dimensions in
-        rw e (ap (λ (n : ℕ). pixels_range (lasts_of host) n) height ∙ row_flat (lasts_of host))
+        rw e (ap (λ (n : ℕ). pixels_range (lasts_of consumer) n) height ∙ row_flat (lasts_of consumer))
 
-    pub computed_flat : (schedule : Schedule) (behind : List (Option SourceBox)) (own : SourceBox) → Some own ≡ computed_box pipeline schedule flags place func behind host → own.y ≡ flat
+    pub computed_flat : (schedule : Schedule) (behind : List (Option SourceBox)) (own : SourceBox) → Some own ≡ computed_box pipeline schedule flags place func behind consumer → own.y ≡ flat
     computed_flat schedule behind own e =
         let here : (k : ℕ) → 0 + k ≡ k = λ k. omega arith in
-        let begun = wanted pipeline.output place host in
-        let owns = own_updates pipeline flags place host begun func.updates in
-        let spread = read_from pipeline schedule flags (place + 1) host (sources.Func place) behind owns in
-        by_parts (lasts_of host) spread.x spread.y own (sym e)
-        (from_flat host (sources.Func place) one rules schedule flags (place + 1) behind owns
+        let begun = wanted pipeline.output place consumer in
+        let owns = own_updates pipeline flags place consumer begun func.updates in
+        let spread = read_from pipeline schedule flags (place + 1) consumer (sources.Func place) behind owns in
+        by_parts (lasts_of consumer) spread.x spread.y own (sym e)
+        (from_flat consumer (sources.Func place) one rules schedule flags (place + 1) behind owns
         (updates_flat func.updates 0 (λ k. ap (λ (n : ℕ). slice_get func.updates n) (here k)) begun (wanted_by (place == pipeline.output.func) refl)))
       where
         by_parts : (lasts : List ℕ) (x y : Option Range) (box : SourceBox) → box_of lasts x y ≡ Some box → IsFlatOrNone y → box.y ≡ flat
@@ -353,7 +350,7 @@ module _ (pipeline : Pipeline) where
 pub one_row_boxes : OneRowBoxes
 one_row_boxes pipeline schedule boxes rules accepted is place func own func_is dims there =
     let box = has_box pipeline schedule boxes accepted is place own there in
-    let host = host_in schedule boxes.funcs box.standing.place in
-    let g = gathered_at pipeline schedule boxes is place box.standing box.there.standing box.there.reached box.computed host refl (Some own) there in
+    let consumer = consumer_in schedule boxes.funcs box.standing.place in
+    let g = gathered_at pipeline schedule boxes is place box.standing box.there.standing box.there.reached box.computed consumer refl (Some own) there in
     let one : is_one pipeline (sources.Func place) ≡ true = ap (λ (f : Option Func). is_func_of f 1) g.func_is ∙ ap (λ (f : Func). dimensions f == 1) (got g.func func (sym g.func_is ∙ func_is)) ∙ ap (λ (n : ℕ). n == 1) dims in
-    computed_flat pipeline rules (flags_of schedule.standings) host place g.func g.func_is one schedule g.behind own g.box_is
+    computed_flat pipeline rules (flags_of schedule.standings) consumer place g.func g.func_is one schedule g.behind own g.box_is

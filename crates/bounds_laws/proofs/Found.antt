@@ -18,10 +18,9 @@ use Rattle.bounds.specs.declared.faults.BoundsFault.TheVariants as faults
 use Rattle.bounds.specs.declared.verdict.Boxes.{Boxes}
 use Rattle.bounds.specs.Boxes.{no_loops, no_spread, box_of, spread_box, stays, in_front, IsSpread}
 use Rattle.bounds.specs.Inference.{read_in, read_from, boxes_from, input_box, with_input, inputs_from}
-use Rattle.bounds.specs.Judging.{inputs_hold, shifts_hold, have_few_points}
+use Rattle.bounds.specs.Verdict.{inputs_hold, shifts_hold, have_few_points, most_data, sized, boxes_of, judged, with_inputs, with_funcs, inferred}
 use Rattle.bounds.specs.Layout.{laid_out}
 use Rattle.bounds_laws.specs.Laws.{IsBoxed, AreBoxed, PureReadsOfInputsLie}
-use Rattle.bounds.specs.Verdict.{most_data, sized, boxes_of, judged, with_inputs, with_funcs, inferred}
 use Rattle.bounds_laws.proofs.Covering.{IsIn, HoldsAll}
 use Rattle.bounds_laws.proofs.Readers.{points_of, in_takes, from_takes}
 

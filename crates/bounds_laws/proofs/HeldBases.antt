@@ -16,9 +16,8 @@ use Rattle.halide_pipeline.specs.declared.expressions.Source.{Source}
 use Rattle.halide_pipeline.specs.declared.expressions.Source.TheVariants as sources
 use Rattle.halide_pipeline.specs.declared.expressions.Variable.{Variable}
 use Rattle.halide_pipeline.specs.declared.expressions.Variable.TheVariants as variables
-use Rattle.halide_pipeline.specs.Definitions.{dimensions}
+use Rattle.halide_pipeline.specs.WellFormed.{dimensions, IsWellFormed, IsUpdate, is_argument, is_update_variable, keeps, keeps_index, is_read}
 use Rattle.halide_pipeline.specs.Pipelines.{Pipeline}
-use Rattle.halide_pipeline.specs.WellFormed.{IsWellFormed, IsUpdate, is_argument, is_update_variable, keeps, keeps_index, is_read}
 use Rattle.halide_pipeline.proofs.Seeing.{all_both}
 use Rattle.halide_pipeline.specs.Levels.{Both}
 use Rattle.bounds_inlining.specs.Inlining.{Algebra, Inside, inside, through_at, flagged}
@@ -31,12 +30,11 @@ use Rattle.bounds_ranges.specs.declared.expressions.OwnCalls.{OwnCalls}
 use Rattle.bounds_ranges.specs.declared.ranges.CommonBase.{CommonBase}
 use Rattle.bounds_ranges.specs.declared.ranges.Ends.{Ends}
 use Rattle.bounds_ranges.specs.declared.ranges.Range.{Range}
-use Rattle.bounds_ranges.specs.Bases.{no_base, add_base, negated, times_base, same_base, more_sum, less_sum}
-use Rattle.bounds_ranges.specs.Ranges.{origin, spot, least, greatest, between, every, ends_of, fit, widened, added, subtracted, aligned, together, lesser, greater, hull, operated}
-use Rattle.bounds_ranges.specs.Ranges.{crossed, times_end, ordered, scaled_base, scaled, is_number, multiplied, divided_ends, divided, remainders, literal}
+use Rattle.bounds_ranges.specs.Ranges.{no_base, add_base, negated, times_base, same_base, more_sum, less_sum, between, every, ends_of, fit, widened, added, subtracted, aligned, together, lesser, greater, hull, operated, crossed, times_end, ordered, scaled_base, scaled, is_number, multiplied, divided_ends, divided, remainders, literal}
+use Rattle.bounds_ranges.specs.Numbers.{origin, spot, least, greatest}
 use Rattle.bounds_ranges.specs.Expressions.{Ranged, ranging, second_asked, unasked_variable, pixels_of, called, ranges_where, is_anywhere, chosen, ranged, ranged_update, range_of, walked}
 use Rattle.bounds.specs.declared.boxes.SourceBox.{SourceBox}
-use Rattle.bounds.specs.Asks.{second_range, pure_variables, update_variables, own_calls, left, second_left, right, update_asked, updates_asked, func_asked, unplaced}
+use Rattle.bounds.specs.Inference.{second_range, pure_variables, update_variables, own_calls, left, second_left, right, update_asked, updates_asked, func_asked, unplaced}
 use Rattle.bounds.specs.Boxes.{no_loops}
 
 pub record IsClosed (Holds : List Multiple → Type 0) : Type 0 where

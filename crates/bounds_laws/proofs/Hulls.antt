@@ -6,9 +6,9 @@ use Rattle.bounds_ranges.specs.declared.bases.Multiple.{Multiple}
 use Rattle.bounds_ranges.specs.declared.ranges.CommonBase.{CommonBase}
 use Rattle.bounds_ranges.specs.declared.ranges.Ends.{Ends}
 use Rattle.bounds_ranges.specs.declared.ranges.Range.{Range}
-use Rattle.bounds_ranges.specs.Bases.{no_base, same_base, more_sum, less_sum}
+use Rattle.bounds_ranges.specs.Ranges.{no_base, same_base, more_sum, less_sum, every, ends_of, fit, IsFit, widened, aligned, together, hull}
 use Rattle.bounds_ranges.specs.Laws.{Below, Lies}
-use Rattle.bounds_ranges.specs.Ranges.{least, greatest, every, ends_of, fit, IsFit, widened, aligned, together, hull}
+use Rattle.bounds_ranges.specs.Numbers.{least, greatest}
 use Rattle.bounds_ranges.proofs.Lying.{small_of, widened_stands, fit_lies, plain_lies}
 use Rattle.bounds_ranges.proofs.Sums.{Small, no_more, no_less, same_sums}
 

@@ -8,30 +8,32 @@ use Rattle.halide_pipeline.specs.declared.definitions.Func.{Func}
 use Rattle.halide_pipeline.specs.Pipelines.{Pipeline}
 use Rattle.schedule_lines.specs.declared.stages.Loop.{Loop}
 use Rattle.schedule_lines.specs.declared.stages.LoopId.{LoopId}
-use Rattle.schedule_lines.specs.Loops.{same_id}
+use Rattle.schedule_lines.specs.Directives.{same_id}
 use Rattle.schedule.specs.declared.plans.FuncPlan.{FuncPlan}
 use Rattle.schedule.specs.declared.schedules.Schedule.{Schedule}
 use Rattle.schedule.specs.declared.standings.LoopPlace.{LoopPlace}
 use Rattle.schedule.specs.declared.standings.Place.{Place}
 use Rattle.schedule.specs.declared.standings.Place.TheVariants as places
 use Rattle.schedule.specs.declared.standings.Standing.{Standing}
-use Rattle.schedule.specs.Accepted.{Pairwise, IsPlan, IsHosted as HasHost}
+use Rattle.schedule.specs.Accepted.{Pairwise, IsPlan, IsProduced as HasConsumer}
 use Rattle.schedule.specs.Legal.{is_root}
 use Rattle.schedule.specs.Standing.{comes_first, is_within, pure_loops_of}
-use Rattle.schedule.specs.Uses.{StandsWithin, Host, Computed, Inlined, IsRootReached, HasHostAtRoot}
+use Rattle.schedule.specs.Uses.{StandsWithin, Consumer, Computed, Inlined, IsRootReached, HasConsumerAtRoot}
 use Rattle.schedule.proofs.Uses.{numbered_at}
-use Rattle.schedule_loops.specs.Counts.{Values, counts}
-use Rattle.schedule_loops.specs.Reach.{AreTurns, wholes}
+use Rattle.schedule_loops.specs.Visits.{Values, counts}
+use Rattle.schedule_loops.specs.Reach.{wholes}
+use Rattle.schedule_loops.specs.Runs.{AreTurns}
 use Rattle.bounds_ranges.specs.Laws.{Below}
-use Rattle.bounds.specs.declared.boxes.HostLoop.{HostLoop}
+use Rattle.bounds.specs.declared.boxes.ConsumerLoop.{ConsumerLoop}
 use Rattle.bounds.specs.declared.boxes.SourceBox.{SourceBox}
-use Rattle.bounds.specs.Boxes.{box_in, lasts_of}
-use Rattle.bounds_laws.specs.HostLaws.{turn_of, turn_at, turns_from, IsTakenTo, AgreeFrom, IsHosted, AreTurnsFrom, values_in, IsReachedIn, MayBeArguments, IsSeenIn, ArgumentsLieInViews}
-use Rattle.bounds.specs.Inference.{host_of}
-use Rattle.bounds_laws.specs.Laws.{LiesIn, host_in, IsComputed}
-use Rattle.bounds.specs.Views.{extents_of, inner_count, lasts_in, host_loop, host_loop_in, host_view, host_view_in, settled_box, view_of}
-use Rattle.bounds_laws.proofs.BoxesHosted.{boxes_are_hosted}
-use Rattle.bounds_laws.proofs.HostArguments.{turns_below, host_arguments_lie}
+use Rattle.bounds.specs.Boxes.{lasts_of}
+use Rattle.bounds.specs.Extents.{box_in, extents_of}
+use Rattle.bounds_laws.specs.ConsumerLaws.{turn_of, turn_at, turns_from, IsTakenTo, AgreeFrom, IsProduced, AreTurnsFrom, values_in, IsReachedIn, MayBeArguments, IsSeenIn, ArgumentsLieInViews}
+use Rattle.bounds.specs.Inference.{consumer_of}
+use Rattle.bounds_laws.specs.Laws.{LiesIn, consumer_in, IsComputed}
+use Rattle.bounds.specs.Views.{inner_count, lasts_in, consumer_loop, consumer_loop_in, consumer_view, consumer_view_in, settled_box, view_of}
+use Rattle.bounds_laws.proofs.BoxesProduced.{boxes_are_produced}
+use Rattle.bounds_laws.proofs.ConsumerArguments.{turns_below, consumer_arguments_lie}
 use Rattle.bounds_laws.proofs.Settled.{settled_boxes_hold}
 
 -- ---- lists
@@ -105,101 +107,101 @@ module _ (turns : Values) (loops : List Loop) (n m : ℕ) (few : n ≤ m) where
 
 -- ---- where the reads stand
 
-data Stands (plans : List FuncPlan) (host : LoopPlace) (reader : ℕ) (place : Place) : Type 0 where
-  IsTheHost : reader ≡ host.func → Stands plans host reader place
-  IsInside : (at : LoopPlace) → place ≡ places.At at → is_within plans host at ≡ true → Stands plans host reader place
-  IsInlined : place ≡ places.Inlined → Stands plans host reader place
+data Stands (plans : List FuncPlan) (consumer : LoopPlace) (reader : ℕ) (place : Place) : Type 0 where
+  IsTheConsumer : reader ≡ consumer.func → Stands plans consumer reader place
+  IsInside : (at : LoopPlace) → place ≡ places.At at → is_within plans consumer at ≡ true → Stands plans consumer reader place
+  IsInlined : place ≡ places.Inlined → Stands plans consumer reader place
 
-stands : (pipeline : Pipeline) (plans : List FuncPlan) (standings : List Standing) (host : LoopPlace) (reader : ℕ) → StandsWithin pipeline plans standings host reader
-    → (its : Standing) → slice_get standings reader ≡ Some its → Stands plans host reader its.place
-stands pipeline plans standings host _ Host its there = IsTheHost refl
-stands pipeline plans standings host _ (Computed reader own at reached placed within) its there =
+stands : (pipeline : Pipeline) (plans : List FuncPlan) (standings : List Standing) (consumer : LoopPlace) (reader : ℕ) → StandsWithin pipeline plans standings consumer reader
+    → (its : Standing) → slice_get standings reader ≡ Some its → Stands plans consumer reader its.place
+stands pipeline plans standings consumer _ Consumer its there = IsTheConsumer refl
+stands pipeline plans standings consumer _ (Computed reader own at reached placed within) its there =
     IsInside at (ap (λ (s : Standing). s.place) (same its own (sym there ∙ reached.standing)) ∙ placed) within
-stands pipeline plans standings host _ (Inlined reader own reached placed calls) its there =
+stands pipeline plans standings consumer _ (Inlined reader own reached placed calls) its there =
     IsInlined (ap (λ (s : Standing). s.place) (same its own (sym there ∙ reached.standing)) ∙ placed)
 
 -- ---- views
 
-pub host_is : (schedule : Schedule) (boxes : List (Option SourceBox)) (place : Place) (at : LoopPlace) (func : ℕ) (plan : FuncPlan) (hosting : SourceBox) → place ≡ places.At at → at.func ≡ func
-    → slice_get schedule.funcs func ≡ Some plan → slice_get boxes func ≡ Some (Some hosting) → host_in schedule boxes place ≡ Some (host_loop plan hosting at.inside)
-host_is schedule boxes place at func plan hosting is same_func plan_is box_is =
-    ap (λ (p : Place). host_in schedule boxes p) is
-    ∙ ap (λ (n : ℕ). host_of at (slice_get schedule.funcs n) (box_in (slice_get boxes n))) same_func
-    ∙ ap (λ (p : Option FuncPlan). host_of at p (box_in (slice_get boxes func))) plan_is
-    ∙ ap (λ (b : Option (Option SourceBox)). host_of at (Some plan) (box_in b)) box_is
+pub consumer_is : (schedule : Schedule) (boxes : List (Option SourceBox)) (place : Place) (at : LoopPlace) (func : ℕ) (plan : FuncPlan) (consuming : SourceBox) → place ≡ places.At at → at.func ≡ func
+    → slice_get schedule.funcs func ≡ Some plan → slice_get boxes func ≡ Some (Some consuming) → consumer_in schedule boxes place ≡ Some (consumer_loop plan consuming at.inside)
+consumer_is schedule boxes place at func plan consuming is same_func plan_is box_is =
+    ap (λ (p : Place). consumer_in schedule boxes p) is
+    ∙ ap (λ (n : ℕ). consumer_of at (slice_get schedule.funcs n) (box_in (slice_get boxes n))) same_func
+    ∙ ap (λ (p : Option FuncPlan). consumer_of at p (box_in (slice_get boxes func))) plan_is
+    ∙ ap (λ (b : Option (Option SourceBox)). consumer_of at (Some plan) (box_in b)) box_is
 
-root_view : (plan : FuncPlan) (its : Standing) (own : SourceBox) (host : HostLoop) → its.place ≡ places.Root → view_of (Some plan) (Some its) own (Some host) ≡ host_view plan.pure own host
-root_view plan its own host root = ap (λ (p : Place). cond (is_root p) (host_view plan.pure own host) (settled_box host.inner own)) root
+root_view : (plan : FuncPlan) (its : Standing) (own : SourceBox) (consumer : ConsumerLoop) → its.place ≡ places.Root → view_of (Some plan) (Some its) own (Some consumer) ≡ consumer_view plan.pure own consumer
+root_view plan its own consumer root = ap (λ (p : Place). cond (is_root p) (consumer_view plan.pure own consumer) (settled_box consumer.inner own)) root
 
-loop_view : (plan : Option FuncPlan) (its : Standing) (at : LoopPlace) (own : SourceBox) (host : HostLoop) → its.place ≡ places.At at → view_of plan (Some its) own (Some host) ≡ settled_box host.inner own
-loop_view None its at own host is = ap (λ (p : Place). cond (is_root p) own (settled_box host.inner own)) is
-loop_view (Some plan) its at own host is = ap (λ (p : Place). cond (is_root p) (host_view plan.pure own host) (settled_box host.inner own)) is
+loop_view : (plan : Option FuncPlan) (its : Standing) (at : LoopPlace) (own : SourceBox) (consumer : ConsumerLoop) → its.place ≡ places.At at → view_of plan (Some its) own (Some consumer) ≡ settled_box consumer.inner own
+loop_view None its at own consumer is = ap (λ (p : Place). cond (is_root p) own (settled_box consumer.inner own)) is
+loop_view (Some plan) its at own consumer is = ap (λ (p : Place). cond (is_root p) (consumer_view plan.pure own consumer) (settled_box consumer.inner own)) is
 
-lasts_are : (plan : FuncPlan) (own : SourceBox) (id : LoopId) → (host_loop plan own id).lasts ≡ lasts_in (extents_of own) plan.pure.splits plan.pure.loops
-unfolding host_loop_in
+lasts_are : (plan : FuncPlan) (own : SourceBox) (id : LoopId) → (consumer_loop plan own id).lasts ≡ lasts_in (extents_of own) plan.pure.splits plan.pure.loops
+unfolding consumer_loop_in
 lasts_are plan own id = refl
 
-inner_is : (plan : FuncPlan) (own : SourceBox) (id : LoopId) → (host_loop plan own id).inner ≡ inner_count id plan.pure.loops
-unfolding host_loop_in
+inner_is : (plan : FuncPlan) (own : SourceBox) (id : LoopId) → (consumer_loop plan own id).inner ≡ inner_count id plan.pure.loops
+unfolding consumer_loop_in
 inner_is plan own id = refl
 
-view_lasts : (plan : FuncPlan) (own : SourceBox) (host : HostLoop) → (host_view plan.pure own host).lasts ≡ host.lasts
-unfolding host_view_in
-view_lasts plan own host = refl
+view_lasts : (plan : FuncPlan) (own : SourceBox) (consumer : ConsumerLoop) → (consumer_view plan.pure own consumer).lasts ≡ consumer.lasts
+unfolding consumer_view_in
+view_lasts plan own consumer = refl
 
--- ---- the host's own arguments
+-- ---- the consumer's own arguments
 
-module _ (func : Func) (plan : FuncPlan) (hosting : SourceBox) (planned : IsPlan func plan) (id : LoopId) (turns : Values) where
+module _ (func : Func) (plan : FuncPlan) (consuming : SourceBox) (planned : IsPlan func plan) (id : LoopId) (turns : Values) where
   abbrev Inner : ℕ
   Inner = inner_count id plan.pure.loops
 
   abbrev Bases : List ℕ
   Bases = values_in plan id turns
 
-  seen_by : (n : ℕ) → n ≡ Inner → (Below (turns_from n turns plan.pure.loops) (host_loop plan hosting id).lasts)
+  seen_by : (n : ℕ) → n ≡ Inner → (Below (turns_from n turns plan.pure.loops) (consumer_loop plan consuming id).lasts)
       × AllByRecursion
-      (λ whole. (x y : ℕ) → IsTakenTo func hosting whole x y → LiesIn (turns_from n turns plan.pure.loops) (host_view plan.pure hosting (host_loop plan hosting id)) x y)
-      (wholes (extents_of hosting) plan.pure.splits (take Inner plan.pure.loops) turns)
-      → (x y : ℕ) → IsReachedIn func plan hosting id turns x y → IsSeenIn Bases (Some (host_loop plan hosting id)) (host_view plan.pure hosting (host_loop plan hosting id)) x y
+      (λ whole. (x y : ℕ) → IsTakenTo func consuming whole x y → LiesIn (turns_from n turns plan.pure.loops) (consumer_view plan.pure consuming (consumer_loop plan consuming id)) x y)
+      (wholes (extents_of consuming) plan.pure.splits (take Inner plan.pure.loops) turns)
+      → (x y : ℕ) → IsReachedIn func plan consuming id turns x y → IsSeenIn Bases (Some (consumer_loop plan consuming id)) (consumer_view plan.pure consuming (consumer_loop plan consuming id)) x y
   seen_by n e all x y at =
       let values_are : turns_from n turns plan.pure.loops ≡ Bases = ap (λ (k : ℕ). turns_from k turns plan.pure.loops) e in
-      let below : Below Bases (host_loop plan hosting id).lasts = subst (λ (v : List ℕ). Below v (host_loop plan hosting id).lasts) values_are all.0 in
+      let below : Below Bases (consumer_loop plan consuming id).lasts = subst (λ (v : List ℕ). Below v (consumer_loop plan consuming id).lasts) values_are all.0 in
       record {
-        hosted = below;
-        below = subst (λ (l : List ℕ). Below Bases l) (sym (view_lasts plan hosting (host_loop plan hosting id))) below;
-        lies = subst (λ (v : List ℕ). LiesIn v (host_view plan.pure hosting (host_loop plan hosting id)) x y) values_are
-            (all_contain (λ whole. (x y : ℕ) → IsTakenTo func hosting whole x y → LiesIn (turns_from n turns plan.pure.loops) (host_view plan.pure hosting (host_loop plan hosting id)) x y)
-            (wholes (extents_of hosting) plan.pure.splits (take Inner plan.pure.loops) turns) all.1 at.whole at.visited.0 at.visited.1 at.visited.2 x y at.taken);
+        produced = below;
+        below = subst (λ (l : List ℕ). Below Bases l) (sym (view_lasts plan consuming (consumer_loop plan consuming id))) below;
+        lies = subst (λ (v : List ℕ). LiesIn v (consumer_view plan.pure consuming (consumer_loop plan consuming id)) x y) values_are
+            (all_contain (λ whole. (x y : ℕ) → IsTakenTo func consuming whole x y → LiesIn (turns_from n turns plan.pure.loops) (consumer_view plan.pure consuming (consumer_loop plan consuming id)) x y)
+            (wholes (extents_of consuming) plan.pure.splits (take Inner plan.pure.loops) turns) all.1 at.whole at.visited.0 at.visited.1 at.visited.2 x y at.taken);
       }
 
-  root_seen : (x y : ℕ) → IsReachedIn func plan hosting id turns x y → IsSeenIn Bases (Some (host_loop plan hosting id)) (host_view plan.pure hosting (host_loop plan hosting id)) x y
+  root_seen : (x y : ℕ) → IsReachedIn func plan consuming id turns x y → IsSeenIn Bases (Some (consumer_loop plan consuming id)) (consumer_view plan.pure consuming (consumer_loop plan consuming id)) x y
   root_seen x y at =
       let count : length (take Inner plan.pure.loops) ≡ Inner = length-take-le Inner plan.pure.loops (count_few id plan.pure.loops) in
       seen_by (length (take Inner plan.pure.loops)) count
-      (host_arguments_lie func plan hosting id (take Inner plan.pure.loops) (drop Inner plan.pure.loops) turns planned.pure (sym (take-append-drop Inner plan.pure.loops)) count at.turns_are) x y at
+      (consumer_arguments_lie func plan consuming id (take Inner plan.pure.loops) (drop Inner plan.pure.loops) turns planned.pure (sym (take-append-drop Inner plan.pure.loops)) count at.turns_are) x y at
 
 -- ---- those of a Func at a loop
 
-module _ (plan : FuncPlan) (hosting own : SourceBox) (id inside : LoopId) (turns : Values) (first : comes_first inside id plan.pure.loops ≡ true)
-    (lasts : own.lasts ≡ lasts_in (extents_of hosting) plan.pure.splits plan.pure.loops) where
-  below_from : (from : LoopId) → AreTurnsFrom plan hosting from turns → Below (values_in plan from turns) (lasts_in (extents_of hosting) plan.pure.splits plan.pure.loops)
+module _ (plan : FuncPlan) (consuming own : SourceBox) (id inside : LoopId) (turns : Values) (first : comes_first inside id plan.pure.loops ≡ true)
+    (lasts : own.lasts ≡ lasts_in (extents_of consuming) plan.pure.splits plan.pure.loops) where
+  below_from : (from : LoopId) → AreTurnsFrom plan consuming from turns → Below (values_in plan from turns) (lasts_in (extents_of consuming) plan.pure.splits plan.pure.loops)
   below_from from are =
       let n = inner_count from plan.pure.loops in
       let count : length (take n plan.pure.loops) ≡ n = length-take-le n plan.pure.loops (count_few from plan.pure.loops) in
-      subst (λ (k : ℕ). Below (turns_from k turns plan.pure.loops) (lasts_in (extents_of hosting) plan.pure.splits plan.pure.loops)) count
-      (turns_below (extents_of hosting) plan.pure.splits turns (take n plan.pure.loops) (drop n plan.pure.loops) plan.pure.loops (sym (take-append-drop n plan.pure.loops)) are)
+      subst (λ (k : ℕ). Below (turns_from k turns plan.pure.loops) (lasts_in (extents_of consuming) plan.pure.splits plan.pure.loops)) count
+      (turns_below (extents_of consuming) plan.pure.splits turns (take n plan.pure.loops) (drop n plan.pure.loops) plan.pure.loops (sym (take-append-drop n plan.pure.loops)) are)
 
-  loop_seen : (x y : ℕ) → AreTurnsFrom plan hosting inside turns → LiesIn (values_in plan inside turns) own x y
-      → IsSeenIn (values_in plan id turns) (Some (host_loop plan hosting id)) (settled_box (host_loop plan hosting id).inner own) x y
+  loop_seen : (x y : ℕ) → AreTurnsFrom plan consuming inside turns → LiesIn (values_in plan inside turns) own x y
+      → IsSeenIn (values_in plan id turns) (Some (consumer_loop plan consuming id)) (settled_box (consumer_loop plan consuming id).inner own) x y
   loop_seen x y are lies =
       let few : inner_count inside plan.pure.loops ≤ inner_count id plan.pure.loops = count_first inside id plan.pure.loops first in
-      let further : AreTurnsFrom plan hosting id turns =
-      turns_further (counts (extents_of hosting) plan.pure.splits) (inner_count inside plan.pure.loops) (inner_count id plan.pure.loops) plan.pure.loops turns few are in
+      let further : AreTurnsFrom plan consuming id turns =
+      turns_further (counts (extents_of consuming) plan.pure.splits) (inner_count inside plan.pure.loops) (inner_count id plan.pure.loops) plan.pure.loops turns few are in
       let below = below_from id further in
       record {
-        hosted = subst (λ (l : List ℕ). Below (values_in plan id turns) l) (sym (lasts_are plan hosting id)) below;
+        produced = subst (λ (l : List ℕ). Below (values_in plan id turns) l) (sym (lasts_are plan consuming id)) below;
         below = subst (λ (l : List ℕ). Below (values_in plan id turns) l) (sym lasts) below;
-        lies = subst (λ (n : ℕ). LiesIn (values_in plan id turns) (settled_box n own) x y) (sym (inner_is plan hosting id))
+        lies = subst (λ (n : ℕ). LiesIn (values_in plan id turns) (settled_box n own) x y) (sym (inner_is plan consuming id))
             (settled_boxes_hold (inner_count id plan.pure.loops) own (values_in plan inside turns) (values_in plan id turns)
             (subst (λ (l : List ℕ). Below (values_in plan inside turns) l) (sym lasts) (below_from inside are))
             (agree turns plan.pure.loops (inner_count inside plan.pure.loops) (inner_count id plan.pure.loops) few) x y lies);
@@ -208,50 +210,50 @@ module _ (plan : FuncPlan) (hosting own : SourceBox) (id inside : LoopId) (turns
 -- ---- all of them
 
 pub arguments_lie_in_views : ArgumentsLieInViews
-arguments_lie_in_views pipeline schedule boxes accepted is place sought at there reached placed func plan hosting func_is plan_is hosting_is reader its own its_there its_reached own_is within turns x y may_be =
-    subst (λ (h : Option HostLoop). IsSeenIn (values_in plan at.inside turns) h (view_of (slice_get schedule.funcs reader) (slice_get schedule.standings reader) own h) x y) (sym hosted)
+arguments_lie_in_views pipeline schedule boxes accepted is place sought at there reached placed func plan consuming func_is plan_is consuming_is reader its own its_there its_reached own_is within turns x y may_be =
+    subst (λ (h : Option ConsumerLoop). IsSeenIn (values_in plan at.inside turns) h (view_of (slice_get schedule.funcs reader) (slice_get schedule.standings reader) own h) x y) (sym produced)
     (by_case (stands pipeline schedule.funcs schedule.standings at reader within its its_there))
   where
-    hosted : host_in schedule boxes.funcs sought.place ≡ Some (host_loop plan hosting at.inside)
-    hosted = host_is schedule boxes.funcs sought.place at at.func plan hosting placed refl plan_is hosting_is
+    produced : consumer_in schedule boxes.funcs sought.place ≡ Some (consumer_loop plan consuming at.inside)
+    produced = consumer_is schedule boxes.funcs sought.place at at.func plan consuming placed refl plan_is consuming_is
 
     planned : IsPlan func plan
     planned = pair_at pipeline.funcs schedule.funcs accepted.plans at.func func plan func_is plan_is
 
-    host_there : IsRootReached schedule.standings at.func
-    host_there = numbered_at (HasHostAtRoot schedule.standings) 0 schedule.standings accepted.hosts_at_root place sought there reached at placed
+    consumer_there : IsRootReached schedule.standings at.func
+    consumer_there = numbered_at (HasConsumerAtRoot schedule.standings) 0 schedule.standings accepted.consumers_at_root place sought there reached at placed
 
     by_case : Stands schedule.funcs at reader its.place
-        → IsSeenIn (values_in plan at.inside turns) (Some (host_loop plan hosting at.inside)) (view_of (slice_get schedule.funcs reader) (slice_get schedule.standings reader) own (Some (host_loop plan hosting at.inside))) x y
-    by_case (IsTheHost e) =
+        → IsSeenIn (values_in plan at.inside turns) (Some (consumer_loop plan consuming at.inside)) (view_of (slice_get schedule.funcs reader) (slice_get schedule.standings reader) own (Some (consumer_loop plan consuming at.inside))) x y
+    by_case (IsTheConsumer e) =
         let root : its.place ≡ places.Root =
-        ap (λ (s : Standing). s.place) (same its host_there.own (sym its_there ∙ ap (λ (n : ℕ). slice_get schedule.standings n) e ∙ host_there.there.standing)) ∙ host_there.root in
-        let own_same : own ≡ hosting = got_box (sym own_is ∙ ap (λ (n : ℕ). slice_get boxes.funcs n) e ∙ hosting_is) in
-        let view_is : view_of (slice_get schedule.funcs reader) (slice_get schedule.standings reader) own (Some (host_loop plan hosting at.inside)) ≡ host_view plan.pure hosting (host_loop plan hosting at.inside) =
-        ap (λ (p : Option FuncPlan). view_of p (slice_get schedule.standings reader) own (Some (host_loop plan hosting at.inside))) (ap (λ (n : ℕ). slice_get schedule.funcs n) e ∙ plan_is)
-        ∙ ap (λ (s : Option Standing). view_of (Some plan) s own (Some (host_loop plan hosting at.inside))) its_there
-        ∙ ap (λ (o : SourceBox). view_of (Some plan) (Some its) o (Some (host_loop plan hosting at.inside))) own_same
-        ∙ root_view plan its hosting (host_loop plan hosting at.inside) root in
-        subst (λ (v : SourceBox). IsSeenIn (values_in plan at.inside turns) (Some (host_loop plan hosting at.inside)) v x y) (sym view_is)
-        (root_seen func plan hosting planned at.inside turns x y (subst (λ (p : Place). MayBeArguments func plan hosting at.inside turns p own x y) root may_be))
+        ap (λ (s : Standing). s.place) (same its consumer_there.own (sym its_there ∙ ap (λ (n : ℕ). slice_get schedule.standings n) e ∙ consumer_there.there.standing)) ∙ consumer_there.root in
+        let own_same : own ≡ consuming = got_box (sym own_is ∙ ap (λ (n : ℕ). slice_get boxes.funcs n) e ∙ consuming_is) in
+        let view_is : view_of (slice_get schedule.funcs reader) (slice_get schedule.standings reader) own (Some (consumer_loop plan consuming at.inside)) ≡ consumer_view plan.pure consuming (consumer_loop plan consuming at.inside) =
+        ap (λ (p : Option FuncPlan). view_of p (slice_get schedule.standings reader) own (Some (consumer_loop plan consuming at.inside))) (ap (λ (n : ℕ). slice_get schedule.funcs n) e ∙ plan_is)
+        ∙ ap (λ (s : Option Standing). view_of (Some plan) s own (Some (consumer_loop plan consuming at.inside))) its_there
+        ∙ ap (λ (o : SourceBox). view_of (Some plan) (Some its) o (Some (consumer_loop plan consuming at.inside))) own_same
+        ∙ root_view plan its consuming (consumer_loop plan consuming at.inside) root in
+        subst (λ (v : SourceBox). IsSeenIn (values_in plan at.inside turns) (Some (consumer_loop plan consuming at.inside)) v x y) (sym view_is)
+        (root_seen func plan consuming planned at.inside turns x y (subst (λ (p : Place). MayBeArguments func plan consuming at.inside turns p own x y) root may_be))
       where
-        got_box : Some (Some own) ≡ Some (Some hosting) → own ≡ hosting
+        got_box : Some (Some own) ≡ Some (Some consuming) → own ≡ consuming
         got_box e = cc
     by_case (IsInside inner inner_is its_within) =
         let parts = and_parts (inner.func == at.func) (comes_first inner.inside at.inside (pure_loops_of (slice_get schedule.funcs inner.func))) its_within in
         let same_func : inner.func ≡ at.func = eqb-true inner.func at.func parts.0 in
         let first : comes_first inner.inside at.inside plan.pure.loops ≡ true =
         ap (λ (p : Option FuncPlan). comes_first inner.inside at.inside (pure_loops_of p)) (sym (ap (λ (n : ℕ). slice_get schedule.funcs n) same_func ∙ plan_is)) ∙ parts.1 in
-        let later : reader < inner.func = omega (arith, (numbered_at (HasHost pipeline schedule.funcs) 0 schedule.standings accepted.hosts reader its its_there inner inner_is).later) in
+        let later : reader < inner.func = omega (arith, (numbered_at (HasConsumer pipeline schedule.funcs) 0 schedule.standings accepted.consumers reader its its_there inner inner_is).later) in
         let computed : IsComputed reader its.place = subst (λ (p : Place). IsComputed reader p) (sym inner_is) later in
-        let boxed : IsHosted (host_in schedule boxes.funcs its.place) own = boxes_are_hosted pipeline schedule boxes is reader its its_there its_reached computed own own_is in
-        let lasts : own.lasts ≡ lasts_in (extents_of hosting) plan.pure.splits plan.pure.loops =
-        boxed.lasts ∙ ap lasts_of (host_is schedule boxes.funcs its.place inner at.func plan hosting inner_is same_func plan_is hosting_is) ∙ lasts_are plan hosting inner.inside in
-        let found : AreTurnsFrom plan hosting inner.inside turns × LiesIn (values_in plan inner.inside turns) own x y =
-        subst (λ (p : Place). MayBeArguments func plan hosting at.inside turns p own x y) inner_is may_be in
-        let view_is : view_of (slice_get schedule.funcs reader) (slice_get schedule.standings reader) own (Some (host_loop plan hosting at.inside)) ≡ settled_box (host_loop plan hosting at.inside).inner own =
-        ap (λ (s : Option Standing). view_of (slice_get schedule.funcs reader) s own (Some (host_loop plan hosting at.inside))) its_there
-        ∙ loop_view (slice_get schedule.funcs reader) its inner own (host_loop plan hosting at.inside) inner_is in
-        subst (λ (v : SourceBox). IsSeenIn (values_in plan at.inside turns) (Some (host_loop plan hosting at.inside)) v x y) (sym view_is)
-        (loop_seen plan hosting own at.inside inner.inside turns first lasts x y found.0 found.1)
-    by_case (IsInlined inlined) = absurd (subst (λ (p : Place). MayBeArguments func plan hosting at.inside turns p own x y) inlined may_be)
+        let boxed : IsProduced (consumer_in schedule boxes.funcs its.place) own = boxes_are_produced pipeline schedule boxes is reader its its_there its_reached computed own own_is in
+        let lasts : own.lasts ≡ lasts_in (extents_of consuming) plan.pure.splits plan.pure.loops =
+        boxed.lasts ∙ ap lasts_of (consumer_is schedule boxes.funcs its.place inner at.func plan consuming inner_is same_func plan_is consuming_is) ∙ lasts_are plan consuming inner.inside in
+        let found : AreTurnsFrom plan consuming inner.inside turns × LiesIn (values_in plan inner.inside turns) own x y =
+        subst (λ (p : Place). MayBeArguments func plan consuming at.inside turns p own x y) inner_is may_be in
+        let view_is : view_of (slice_get schedule.funcs reader) (slice_get schedule.standings reader) own (Some (consumer_loop plan consuming at.inside)) ≡ settled_box (consumer_loop plan consuming at.inside).inner own =
+        ap (λ (s : Option Standing). view_of (slice_get schedule.funcs reader) s own (Some (consumer_loop plan consuming at.inside))) its_there
+        ∙ loop_view (slice_get schedule.funcs reader) its inner own (consumer_loop plan consuming at.inside) inner_is in
+        subst (λ (v : SourceBox). IsSeenIn (values_in plan at.inside turns) (Some (consumer_loop plan consuming at.inside)) v x y) (sym view_is)
+        (loop_seen plan consuming own at.inside inner.inside turns first lasts x y found.0 found.1)
+    by_case (IsInlined inlined) = absurd (subst (λ (p : Place). MayBeArguments func plan consuming at.inside turns p own x y) inlined may_be)

@@ -15,20 +15,18 @@ use Rattle.schedule.specs.declared.standings.Place.TheVariants as places
 use Rattle.schedule.specs.declared.standings.Standing.{Standing}
 use Rattle.bounds_ranges.specs.declared.expressions.Asked.{Asked}
 use Rattle.bounds_ranges.specs.declared.ranges.Range.{Range}
-use Rattle.bounds_ranges.specs.Bases.{no_base}
-use Rattle.bounds_ranges.specs.Ranges.{origin, every, ends_of, widened}
+use Rattle.bounds_ranges.specs.Ranges.{no_base, every, ends_of, widened}
+use Rattle.bounds_ranges.specs.Numbers.{origin}
 use Rattle.bounds_weights.specs.Weight.{flags_of}
-use Rattle.bounds.specs.declared.boxes.HostLoop.{HostLoop}
+use Rattle.bounds.specs.declared.boxes.ConsumerLoop.{ConsumerLoop}
 use Rattle.bounds.specs.declared.boxes.SourceBox.{SourceBox}
 use Rattle.bounds.specs.declared.boxes.Spread.{Spread}
 use Rattle.bounds.specs.declared.verdict.Boxes.{Boxes}
-use Rattle.bounds.specs.Asks.{update_asked, func_asked, unplaced}
-use Rattle.bounds.specs.Boxes.{no_loops, lasts_of, taken_over, taken, no_spread, box_of}
-use Rattle.bounds.specs.Inference.{pixels_range, wanted, own_updates, read_from, computed_box, placed_box, func_box, host_of, box_at, with_func, boxes_from, input_box}
-use Rattle.bounds.specs.Sources.{same_source}
+use Rattle.bounds.specs.Inference.{update_asked, func_asked, unplaced, pixels_range, wanted, own_updates, read_from, computed_box, placed_box, func_box, consumer_of, box_at, with_func, boxes_from, input_box}
+use Rattle.bounds.specs.Boxes.{no_loops, lasts_of, taken_over, taken, no_spread, box_of, same_source}
 use Rattle.bounds.specs.Verdict.{inferred}
 use Rattle.bounds.specs.Views.{view_of}
-use Rattle.bounds_laws.specs.Laws.{host_in, IsComputed}
+use Rattle.bounds_laws.specs.Laws.{consumer_in, IsComputed}
 use Rattle.bounds_laws.specs.Least.{IsLeast, asked_of, asked_by_updates, asked_by_func, asked_by, asked_from, wanted_of, columns_asked, rows_asked, FuncBoxesAreLeast, InputBoxesAreLeast, InputsWithoutBoxes}
 use Rattle.bounds_laws.proofs.BoxFacts.{has_box}
 use Rattle.bounds_laws.proofs.Covering.{taken_fits}
@@ -45,25 +43,25 @@ AreNormal boxes = AllByRecursion IsNormalBox boxes
 
 -- ---- what is asked is kept
 
-over_normal : (host : Option HostLoop) (lasts : List ℕ) (range : Range) → IsNormal range.base → IsNormal (taken_over host lasts range).base
+over_normal : (consumer : Option ConsumerLoop) (lasts : List ℕ) (range : Range) → IsNormal range.base → IsNormal (taken_over consumer lasts range).base
 over_normal None lasts range normal = fit_held IsNormal normal_closed no_loops no_base (widened lasts range) none_normal
-over_normal (Some host) lasts range normal = fit_held IsNormal normal_closed host.lasts range.base (ends_of range) normal
+over_normal (Some consumer) lasts range normal = fit_held IsNormal normal_closed consumer.lasts range.base (ends_of range) normal
 
-taken_by : (host : Option HostLoop) (lasts : List ℕ) (range : Range) → IsNormal range.base → (test : Bool) → IsNormal (cond test (taken_over host lasts range) every).base
-taken_by host lasts range normal true = over_normal host lasts range normal
-taken_by host lasts range normal false = none_normal
+taken_by : (consumer : Option ConsumerLoop) (lasts : List ℕ) (range : Range) → IsNormal range.base → (test : Bool) → IsNormal (cond test (taken_over consumer lasts range) every).base
+taken_by consumer lasts range normal true = over_normal consumer lasts range normal
+taken_by consumer lasts range normal false = none_normal
 
-module _ (side : Side) (host : Option HostLoop) where
-  one_kept : (lasts : List ℕ) (one : Asked) (rest : List Range) → IsNormal one.x.base × IsNormal one.y.base → AreKept (lasts_of host) rest → (test : Bool)
-      → AreKept (lasts_of host) (cond test (taken host lasts (side.of one) ∷ rest) rest)
+module _ (side : Side) (consumer : Option ConsumerLoop) where
+  one_kept : (lasts : List ℕ) (one : Asked) (rest : List Range) → IsNormal one.x.base × IsNormal one.y.base → AreKept (lasts_of consumer) rest → (test : Bool)
+      → AreKept (lasts_of consumer) (cond test (taken consumer lasts (side.of one) ∷ rest) rest)
   one_kept lasts one rest normal kept true =
-      (record { fits = taken_fits host lasts (side.of one); normal = taken_by host lasts (side.of one) (side.normal one normal) (nat_le (side.of one).low (side.of one).high) }, kept)
+      (record { fits = taken_fits consumer lasts (side.of one); normal = taken_by consumer lasts (side.of one) (side.normal one normal) (nat_le (side.of one).low (side.of one).high) }, kept)
   one_kept lasts one rest normal kept false = kept
 
-  of_kept : (lasts : List ℕ) (source : Source) (asked : List Asked) → AreHeld IsNormal asked → AreKept (lasts_of host) (asked_of side.of host lasts source asked)
+  of_kept : (lasts : List ℕ) (source : Source) (asked : List Asked) → AreHeld IsNormal asked → AreKept (lasts_of consumer) (asked_of side.of consumer lasts source asked)
   of_kept lasts source [] normal = tt
   of_kept lasts source (one ∷ others) normal =
-      one_kept lasts one (asked_of side.of host lasts source others) normal.0 (of_kept lasts source others normal.1) (same_source one.source source)
+      one_kept lasts one (asked_of side.of consumer lasts source others) normal.0 (of_kept lasts source others normal.1) (same_source one.source source)
 
   module _ (pipeline : Pipeline) (schedule : Schedule) (rules : IsWellFormed pipeline) where
     abbrev flags : List Bool
@@ -71,57 +69,57 @@ module _ (side : Side) (host : Option HostLoop) where
 
     -- by Funcs
     func_kept : (reader : ℕ) (source : Source) (view : SourceBox) → IsNormalBox (Some view) → (func : Option Func) → slice_get pipeline.funcs reader ≡ func
-        → AreKept (lasts_of host) (asked_by_func side.of pipeline schedule reader view host source func)
+        → AreKept (lasts_of consumer) (asked_by_func side.of pipeline schedule reader view consumer source func)
     func_kept reader source view normal None is = tt
     func_kept reader source view normal (Some func) is =
         of_kept view.lasts source (func_asked pipeline.inputs pipeline.funcs flags reader view func) (func_held IsNormal normal_closed pipeline flags rules reader func is view normal.0 normal.1)
 
-    by_kept : (reader : ℕ) (source : Source) (own : Option SourceBox) → IsNormalBox own → AreKept (lasts_of host) (asked_by side.of pipeline schedule reader host source own)
+    by_kept : (reader : ℕ) (source : Source) (own : Option SourceBox) → IsNormalBox own → AreKept (lasts_of consumer) (asked_by side.of pipeline schedule reader consumer source own)
     by_kept reader source None normal = tt
     by_kept reader source (Some own) normal =
-        func_kept reader source (view_of (slice_get schedule.funcs reader) (slice_get schedule.standings reader) own host)
-        (view_normal (slice_get schedule.funcs reader) (slice_get schedule.standings reader) own host normal) (slice_get pipeline.funcs reader) refl
+        func_kept reader source (view_of (slice_get schedule.funcs reader) (slice_get schedule.standings reader) own consumer)
+        (view_normal (slice_get schedule.funcs reader) (slice_get schedule.standings reader) own consumer normal) (slice_get pipeline.funcs reader) refl
 
-    from_kept : (reader : ℕ) (source : Source) (boxes : List (Option SourceBox)) → AreNormal boxes → AreKept (lasts_of host) (asked_from side.of pipeline schedule reader host source boxes)
+    from_kept : (reader : ℕ) (source : Source) (boxes : List (Option SourceBox)) → AreNormal boxes → AreKept (lasts_of consumer) (asked_from side.of pipeline schedule reader consumer source boxes)
     from_kept reader source [] normal = tt
     from_kept reader source (own ∷ boxes) normal =
-        all_both (IsKept (lasts_of host)) (asked_by side.of pipeline schedule reader host source own) (asked_from side.of pipeline schedule (reader + 1) host source boxes)
+        all_both (IsKept (lasts_of consumer)) (asked_by side.of pipeline schedule reader consumer source own) (asked_from side.of pipeline schedule (reader + 1) consumer source boxes)
         (by_kept reader source own normal.0) (from_kept (reader + 1) source boxes normal.1)
 
     -- as picture
-    picture_kept : (count : ℕ) (test : Bool) → AreKept (lasts_of host) (cond test (pixels_range (lasts_of host) count ∷ []) [])
+    picture_kept : (count : ℕ) (test : Bool) → AreKept (lasts_of consumer) (cond test (pixels_range (lasts_of consumer) count ∷ []) [])
     picture_kept count true =
-        let normal = fit_held IsNormal normal_closed (lasts_of host) no_base (record { low = origin; high = origin + (count - 1) }) none_normal in
-        (record { fits = pixels_fit (lasts_of host) count; normal = normal }, tt)
+        let normal = fit_held IsNormal normal_closed (lasts_of consumer) no_base (record { low = origin; high = origin + (count - 1) }) none_normal in
+        (record { fits = pixels_fit (lasts_of consumer) count; normal = normal }, tt)
     picture_kept count false = tt
 
     -- by its own updates
     module _ (place : ℕ) (func : Func) (func_is : slice_get pipeline.funcs place ≡ Some func) where
       update_kept : (at : ℕ) (update : Update) → slice_get func.updates at ≡ Some update → (test : Bool)
-          → AreKept (lasts_of host) (cond test [] (asked_of side.of host no_loops (sources.Func place) (update_asked pipeline.inputs pipeline.funcs flags place unplaced update)))
+          → AreKept (lasts_of consumer) (cond test [] (asked_of side.of consumer no_loops (sources.Func place) (update_asked pipeline.inputs pipeline.funcs flags place unplaced update)))
       update_kept at update update_is true = tt
       update_kept at update update_is false =
           of_kept no_loops (sources.Func place) (update_asked pipeline.inputs pipeline.funcs flags place unplaced update)
           (unplaced_held IsNormal normal_closed pipeline flags rules place func func_is at update update_is)
 
       updates_kept : (updates : List Update) (before : ℕ) → ((k : ℕ) → slice_get func.updates (before + k) ≡ slice_get updates k)
-          → AreKept (lasts_of host) (asked_by_updates side.of pipeline schedule side.is_in_place place host updates)
+          → AreKept (lasts_of consumer) (asked_by_updates side.of pipeline schedule side.is_in_place place consumer updates)
       updates_kept [] before from = tt
       updates_kept (update ∷ others) before from =
           let here : before + 0 ≡ before = omega arith in
           let next : (k : ℕ) → before + 1 + k ≡ before + suc k = λ k. omega arith in
-          all_both (IsKept (lasts_of host)) _ (asked_by_updates side.of pipeline schedule side.is_in_place place host others)
+          all_both (IsKept (lasts_of consumer)) _ (asked_by_updates side.of pipeline schedule side.is_in_place place consumer others)
           (update_kept before update (ap (λ (n : ℕ). slice_get func.updates n) (sym here) ∙ from 0) (side.is_in_place update))
           (updates_kept others (before + 1) (λ k. ap (λ (n : ℕ). slice_get func.updates n) (next k) ∙ from (suc k)))
 
-      all_kept : (boxes : List (Option SourceBox)) → AreNormal boxes → AreKept (lasts_of host) (all_asked side host pipeline schedule place func boxes)
+      all_kept : (boxes : List (Option SourceBox)) → AreNormal boxes → AreKept (lasts_of consumer) (all_asked side consumer pipeline schedule place func boxes)
       all_kept boxes normal =
           let here : (k : ℕ) → 0 + k ≡ k = λ k. omega arith in
-          let updates = asked_by_updates side.of pipeline schedule side.is_in_place place host func.updates in
-          let later = asked_from side.of pipeline schedule (place + 1) host (sources.Func place) boxes in
-          all_both (IsKept (lasts_of host)) (wanted_of pipeline.output place host (side.count pipeline.output)) (updates ++ later)
+          let updates = asked_by_updates side.of pipeline schedule side.is_in_place place consumer func.updates in
+          let later = asked_from side.of pipeline schedule (place + 1) consumer (sources.Func place) boxes in
+          all_both (IsKept (lasts_of consumer)) (wanted_of pipeline.output place consumer (side.count pipeline.output)) (updates ++ later)
           (picture_kept (side.count pipeline.output) (place == pipeline.output.func))
-          (all_both (IsKept (lasts_of host)) updates later
+          (all_both (IsKept (lasts_of consumer)) updates later
           (updates_kept func.updates 0 (λ k. ap (λ (n : ℕ). slice_get func.updates n) (here k))) (from_kept (place + 1) (sources.Func place) boxes normal))
 
 -- ---- boxes
@@ -155,26 +153,26 @@ module _ (pipeline : Pipeline) (schedule : Schedule) (rules : IsWellFormed pipel
   abbrev flags_here : List Bool
   flags_here = flags_of schedule.standings
 
-  func_least : (place : ℕ) (func : Func) → slice_get pipeline.funcs place ≡ Some func → (behind : List (Option SourceBox)) → AreNormal behind → (host : Option HostLoop)
-      → (own : SourceBox) → Some own ≡ computed_box pipeline schedule flags_here place func behind host
-      → AreLeast (lasts_of host)
-      (all_asked first_side host pipeline schedule place func behind) (all_asked second_side host pipeline schedule place func behind) own
-  func_least place func func_is behind normal host own e =
-      least_by (lasts_of host)
-      (read_from pipeline schedule flags_here (place + 1) host (sources.Func place) behind (own_updates pipeline flags_here place host (wanted pipeline.output place host) func.updates)) _ _
-      (all_kept first_side host pipeline schedule rules place func func_is behind normal) (all_kept second_side host pipeline schedule rules place func func_is behind normal)
-      (all_is first_side host pipeline schedule place func behind) (all_is second_side host pipeline schedule place func behind) own e
+  func_least : (place : ℕ) (func : Func) → slice_get pipeline.funcs place ≡ Some func → (behind : List (Option SourceBox)) → AreNormal behind → (consumer : Option ConsumerLoop)
+      → (own : SourceBox) → Some own ≡ computed_box pipeline schedule flags_here place func behind consumer
+      → AreLeast (lasts_of consumer)
+      (all_asked first_side consumer pipeline schedule place func behind) (all_asked second_side consumer pipeline schedule place func behind) own
+  func_least place func func_is behind normal consumer own e =
+      least_by (lasts_of consumer)
+      (read_from pipeline schedule flags_here (place + 1) consumer (sources.Func place) behind (own_updates pipeline flags_here place consumer (wanted pipeline.output place consumer) func.updates)) _ _
+      (all_kept first_side consumer pipeline schedule rules place func func_is behind normal) (all_kept second_side consumer pipeline schedule rules place func func_is behind normal)
+      (all_is first_side consumer pipeline schedule place func behind) (all_is second_side consumer pipeline schedule place func behind) own e
 
   -- ---- all boxes are normal
 
   module _ (place : ℕ) (func : Func) (func_is : slice_get pipeline.funcs place ≡ Some func) (behind : List (Option SourceBox)) (normal : AreNormal behind) where
-    computed_normal : (host : Option HostLoop) (own : Option SourceBox) → own ≡ computed_box pipeline schedule flags_here place func behind host → IsNormalBox own
-    computed_normal host None e = tt
-    computed_normal host (Some own) e = (func_least place func func_is behind normal host own e).normal
+    computed_normal : (consumer : Option ConsumerLoop) (own : Option SourceBox) → own ≡ computed_box pipeline schedule flags_here place func behind consumer → IsNormalBox own
+    computed_normal consumer None e = tt
+    computed_normal consumer (Some own) e = (func_least place func func_is behind normal consumer own e).normal
 
     placed_normal : (where_ : Place) → IsNormalBox (placed_box pipeline schedule flags_here place func behind where_)
     placed_normal places.Root = computed_normal None _ refl
-    placed_normal (places.At at) = computed_normal (host_of at (slice_get schedule.funcs at.func) (box_at at.func (place + 1) behind)) _ refl
+    placed_normal (places.At at) = computed_normal (consumer_of at (slice_get schedule.funcs at.func) (box_at at.func (place + 1) behind)) _ refl
     placed_normal places.Inlined = tt
     placed_normal places.Nowhere = tt
 
@@ -230,27 +228,27 @@ dropped_normal zero boxes normal = normal
 dropped_normal (suc k) [] normal = tt
 dropped_normal (suc k) (own ∷ boxes) normal = dropped_normal k boxes normal.1
 
-same_computed : (pipeline : Pipeline) (schedule : Schedule) (flags : List Bool) (place : ℕ) (host : Option HostLoop) (func other : Func) (some more : List (Option SourceBox))
-    → func ≡ other → some ≡ more → computed_box pipeline schedule flags place func some host ≡ computed_box pipeline schedule flags place other more host
-same_computed pipeline schedule flags place host func other some more same_func same_boxes =
-    ap (λ (f : Func). computed_box pipeline schedule flags place f some host) same_func ∙ ap (λ (l : List (Option SourceBox)). computed_box pipeline schedule flags place other l host) same_boxes
+same_computed : (pipeline : Pipeline) (schedule : Schedule) (flags : List Bool) (place : ℕ) (consumer : Option ConsumerLoop) (func other : Func) (some more : List (Option SourceBox))
+    → func ≡ other → some ≡ more → computed_box pipeline schedule flags place func some consumer ≡ computed_box pipeline schedule flags place other more consumer
+same_computed pipeline schedule flags place consumer func other some more same_func same_boxes =
+    ap (λ (f : Func). computed_box pipeline schedule flags place f some consumer) same_func ∙ ap (λ (l : List (Option SourceBox)). computed_box pipeline schedule flags place other l consumer) same_boxes
 
 -- ---- the laws
 
 pub func_boxes_are_least : FuncBoxesAreLeast
 func_boxes_are_least pipeline schedule boxes rules accepted is place func standing own func_is standing_is own_is =
     let flags = flags_of schedule.standings in
-    let host = host_in schedule boxes.funcs standing.place in
+    let consumer = consumer_in schedule boxes.funcs standing.place in
     let behind = drop (place + 1) boxes.funcs in
     let box = has_box pipeline schedule boxes accepted is place own own_is in
     let same = got box.standing standing (sym box.there.standing ∙ standing_is) in
     let found = gathered_at pipeline schedule boxes is place standing standing_is (ap (λ (s : Standing). s.is_reached) (sym same) ∙ box.there.reached)
-    (subst (λ (s : Standing). IsComputed place s.place) same box.computed) host refl (Some own) own_is in
-    let computed : Some own ≡ computed_box pipeline schedule flags place func behind host =
-    ◌∙◌ {b = computed_box pipeline schedule flags place found.func found.behind host} found.box_is
-    (same_computed pipeline schedule flags place host found.func func found.behind behind (got found.func func (sym found.func_is ∙ func_is))
+    (subst (λ (s : Standing). IsComputed place s.place) same box.computed) consumer refl (Some own) own_is in
+    let computed : Some own ≡ computed_box pipeline schedule flags place func behind consumer =
+    ◌∙◌ {b = computed_box pipeline schedule flags place found.func found.behind consumer} found.box_is
+    (same_computed pipeline schedule flags place consumer found.func func found.behind behind (got found.func func (sym found.func_is ∙ func_is))
     (same_lists found.behind behind (λ n. found.later n ∙ sym (dropped_at (place + 1) boxes.funcs n)))) in
-    let least = func_least pipeline schedule rules place func func_is behind (dropped_normal (place + 1) boxes.funcs (boxes_normal pipeline schedule rules boxes is)) host own computed in
+    let least = func_least pipeline schedule rules place func func_is behind (dropped_normal (place + 1) boxes.funcs (boxes_normal pipeline schedule rules boxes is)) consumer own computed in
     record { lasts_are = least.lasts_are; columns_are = least.least.0; rows_are = least.least.1 }
 
 pub input_boxes_are_least : InputBoxesAreLeast
@@ -275,33 +273,33 @@ none_of lasts (column ∷ columns) (row ∷ rows) many e =
     rw (folded_is lasts column columns, folded_is lasts row rows) refl in
     absurd cc
 
-module _ (pipeline : Pipeline) (schedule : Schedule) (host : Option HostLoop) (source : Source) where
-  as_many_of : (lasts : List ℕ) (asked : List Asked) → length (asked_of (λ read. read.x) host lasts source asked) ≡ length (asked_of (λ read. read.y) host lasts source asked)
+module _ (pipeline : Pipeline) (schedule : Schedule) (consumer : Option ConsumerLoop) (source : Source) where
+  as_many_of : (lasts : List ℕ) (asked : List Asked) → length (asked_of (λ read. read.x) consumer lasts source asked) ≡ length (asked_of (λ read. read.y) consumer lasts source asked)
   as_many_of lasts [] = refl
   as_many_of lasts (read ∷ others) = by_test (same_source read.source source) (as_many_of lasts others)
     where
-      by_test : (test : Bool) → length (asked_of (λ read. read.x) host lasts source others) ≡ length (asked_of (λ read. read.y) host lasts source others)
-          → length (cond test (taken host lasts read.x ∷ asked_of (λ read. read.x) host lasts source others) (asked_of (λ read. read.x) host lasts source others))
-          ≡ length (cond test (taken host lasts read.y ∷ asked_of (λ read. read.y) host lasts source others) (asked_of (λ read. read.y) host lasts source others))
+      by_test : (test : Bool) → length (asked_of (λ read. read.x) consumer lasts source others) ≡ length (asked_of (λ read. read.y) consumer lasts source others)
+          → length (cond test (taken consumer lasts read.x ∷ asked_of (λ read. read.x) consumer lasts source others) (asked_of (λ read. read.x) consumer lasts source others))
+          ≡ length (cond test (taken consumer lasts read.y ∷ asked_of (λ read. read.y) consumer lasts source others) (asked_of (λ read. read.y) consumer lasts source others))
       by_test true same = ap suc same
       by_test false same = same
 
   as_many_func : (reader : ℕ) (view : SourceBox) (func : Option Func)
-      → length (asked_by_func (λ read. read.x) pipeline schedule reader view host source func) ≡ length (asked_by_func (λ read. read.y) pipeline schedule reader view host source func)
+      → length (asked_by_func (λ read. read.x) pipeline schedule reader view consumer source func) ≡ length (asked_by_func (λ read. read.y) pipeline schedule reader view consumer source func)
   as_many_func reader view None = refl
   as_many_func reader view (Some func) = as_many_of view.lasts (func_asked pipeline.inputs pipeline.funcs (flags_of schedule.standings) reader view func)
 
-  as_many_by : (reader : ℕ) (own : Option SourceBox) → length (asked_by (λ read. read.x) pipeline schedule reader host source own) ≡ length (asked_by (λ read. read.y) pipeline schedule reader host source own)
+  as_many_by : (reader : ℕ) (own : Option SourceBox) → length (asked_by (λ read. read.x) pipeline schedule reader consumer source own) ≡ length (asked_by (λ read. read.y) pipeline schedule reader consumer source own)
   as_many_by reader None = refl
-  as_many_by reader (Some own) = as_many_func reader (view_of (slice_get schedule.funcs reader) (slice_get schedule.standings reader) own host) (slice_get pipeline.funcs reader)
+  as_many_by reader (Some own) = as_many_func reader (view_of (slice_get schedule.funcs reader) (slice_get schedule.standings reader) own consumer) (slice_get pipeline.funcs reader)
 
-  as_many : (reader : ℕ) (boxes : List (Option SourceBox)) → length (asked_from (λ read. read.x) pipeline schedule reader host source boxes) ≡ length (asked_from (λ read. read.y) pipeline schedule reader host source boxes)
+  as_many : (reader : ℕ) (boxes : List (Option SourceBox)) → length (asked_from (λ read. read.x) pipeline schedule reader consumer source boxes) ≡ length (asked_from (λ read. read.y) pipeline schedule reader consumer source boxes)
   as_many reader [] = refl
   as_many reader (own ∷ boxes) =
-      length-append (asked_by (λ read. read.x) pipeline schedule reader host source own) (asked_from (λ read. read.x) pipeline schedule (reader + 1) host source boxes)
-      ∙ ap (λ (n : ℕ). n + length (asked_from (λ read. read.x) pipeline schedule (reader + 1) host source boxes)) (as_many_by reader own)
-      ∙ ap (λ (n : ℕ). length (asked_by (λ read. read.y) pipeline schedule reader host source own) + n) (as_many (reader + 1) boxes)
-      ∙ sym (length-append (asked_by (λ read. read.y) pipeline schedule reader host source own) (asked_from (λ read. read.y) pipeline schedule (reader + 1) host source boxes))
+      length-append (asked_by (λ read. read.x) pipeline schedule reader consumer source own) (asked_from (λ read. read.x) pipeline schedule (reader + 1) consumer source boxes)
+      ∙ ap (λ (n : ℕ). n + length (asked_from (λ read. read.x) pipeline schedule (reader + 1) consumer source boxes)) (as_many_by reader own)
+      ∙ ap (λ (n : ℕ). length (asked_by (λ read. read.y) pipeline schedule reader consumer source own) + n) (as_many (reader + 1) boxes)
+      ∙ sym (length-append (asked_by (λ read. read.y) pipeline schedule reader consumer source own) (asked_from (λ read. read.y) pipeline schedule (reader + 1) consumer source boxes))
 
 pub inputs_without_boxes : InputsWithoutBoxes
 inputs_without_boxes pipeline schedule boxes is place none =

@@ -9,10 +9,10 @@ pub mod Parts
 pub mod OwnReads
 pub mod Callers
 pub mod StandingWithin
-pub mod HostArguments
+pub mod ConsumerArguments
 pub mod Settled
 pub mod PlainRanges
-pub mod HostedOwnReads
+pub mod ProducedOwnReads
 pub mod StayingReads
 pub mod OwnPoints
 pub mod SomeValues
@@ -21,7 +21,7 @@ pub mod Flat
 pub mod Sees
 pub mod PutIn
 pub mod Closure
-pub mod BoxesHosted
+pub mod BoxesProduced
 pub mod InViews
 pub mod LoopReads
 pub mod StandingWhere

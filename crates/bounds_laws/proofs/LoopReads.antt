@@ -15,23 +15,22 @@ use Rattle.schedule.specs.declared.standings.LoopPlace.{LoopPlace}
 use Rattle.schedule.specs.declared.standings.Place.{Place}
 use Rattle.schedule.specs.declared.standings.Place.TheVariants as places
 use Rattle.schedule.specs.declared.standings.Standing.{Standing}
-use Rattle.schedule.specs.Accepted.{IsHosted as HasHost, IsAccepted}
+use Rattle.schedule.specs.Accepted.{IsProduced as HasConsumer, IsAccepted}
 use Rattle.schedule.specs.Legal.{is_inlined}
-use Rattle.schedule.specs.Uses.{IsReached, StandsWithin, Host, Computed}
+use Rattle.schedule.specs.Uses.{IsReached, StandsWithin, Consumer, Computed}
 use Rattle.schedule.proofs.Uses.{numbered_at}
-use Rattle.schedule_loops.specs.Counts.{Values}
+use Rattle.schedule_loops.specs.Visits.{Values}
 use Rattle.bounds_ranges.specs.Laws.{Below}
-use Rattle.bounds.specs.declared.boxes.HostLoop.{HostLoop}
+use Rattle.bounds.specs.declared.boxes.ConsumerLoop.{ConsumerLoop}
 use Rattle.bounds.specs.declared.boxes.SourceBox.{SourceBox}
-use Rattle.bounds.specs.Boxes.{lasts_of}
+use Rattle.bounds.specs.Boxes.{lasts_of, same_source}
 use Rattle.bounds_laws.specs.Callers.{ReadsThrough, IsReadThrough, AreReadThrough, StandsAt, HasLoop, IsWithin}
-use Rattle.bounds_laws.specs.HostLaws.{values_in, MayBeArguments, IsSeenIn, PureReadsInLoopsLie, UpdateReadsInLoopsLie}
-use Rattle.bounds_laws.specs.Laws.{AreBoxed, values_for, host_in, IsComputed, pure_points, update_points}
-use Rattle.bounds.specs.Sources.{same_source}
-use Rattle.bounds.specs.Views.{host_loop, view_of}
+use Rattle.bounds_laws.specs.ConsumerLaws.{values_in, MayBeArguments, IsSeenIn, PureReadsInLoopsLie, UpdateReadsInLoopsLie}
+use Rattle.bounds_laws.specs.Laws.{AreBoxed, values_for, consumer_in, IsComputed, pure_points, update_points}
+use Rattle.bounds.specs.Views.{consumer_loop, view_of}
 use Rattle.bounds_laws.proofs.Callers.{pure_points_are_read_through, update_points_are_read_through}
 use Rattle.bounds_laws.proofs.FoundFuncs.{pure_reads_of_funcs_lie}
-use Rattle.bounds_laws.proofs.InViews.{host_is, same, arguments_lie_in_views}
+use Rattle.bounds_laws.proofs.InViews.{consumer_is, same, arguments_lie_in_views}
 use Rattle.bounds_laws.proofs.StandingWithin.{flag_is, readers_stand_within}
 use Rattle.bounds_laws.proofs.Updates.{update_reads_of_funcs_lie}
 
@@ -43,13 +42,13 @@ given values source own Within (point ∷ points) within boxed = (λ e. (boxed (
 
 -- a reader at root, or at a loop of a later Func
 computed_place : (pipeline : Pipeline) (schedule : Schedule) → IsAccepted pipeline schedule → (reader : ℕ) (its : Standing) → slice_get schedule.standings reader ≡ Some its
-    → (func : Func) (plan : FuncPlan) (hosting : SourceBox) (id : LoopId) (turns : Values) (place : Place) (own : SourceBox) (x y : ℕ) → its.place ≡ place
-    → MayBeArguments func plan hosting id turns place own x y → IsComputed reader place × (is_inlined place ≡ false)
-computed_place pipeline schedule accepted reader its there func plan hosting id turns places.Root own x y placed may_be = (tt, refl)
-computed_place pipeline schedule accepted reader its there func plan hosting id turns (places.At at) own x y placed may_be =
-    (omega (arith, (numbered_at (HasHost pipeline schedule.funcs) 0 schedule.standings accepted.hosts reader its there at placed).later), refl)
-computed_place pipeline schedule accepted reader its there func plan hosting id turns places.Inlined own x y placed may_be = absurd may_be
-computed_place pipeline schedule accepted reader its there func plan hosting id turns places.Nowhere own x y placed may_be = absurd may_be
+    → (func : Func) (plan : FuncPlan) (consuming : SourceBox) (id : LoopId) (turns : Values) (place : Place) (own : SourceBox) (x y : ℕ) → its.place ≡ place
+    → MayBeArguments func plan consuming id turns place own x y → IsComputed reader place × (is_inlined place ≡ false)
+computed_place pipeline schedule accepted reader its there func plan consuming id turns places.Root own x y placed may_be = (tt, refl)
+computed_place pipeline schedule accepted reader its there func plan consuming id turns (places.At at) own x y placed may_be =
+    (omega (arith, (numbered_at (HasConsumer pipeline schedule.funcs) 0 schedule.standings accepted.consumers reader its there at placed).later), refl)
+computed_place pipeline schedule accepted reader its there func plan consuming id turns places.Inlined own x y placed may_be = absurd may_be
+computed_place pipeline schedule accepted reader its there func plan consuming id turns places.Nowhere own x y placed may_be = absurd may_be
 
 -- ---- each point of the Func at a loop is read within that loop
 
@@ -59,7 +58,7 @@ module _ (pipeline : Pipeline) (schedule : Schedule) (accepted : IsAccepted pipe
   Within = StandsWithin pipeline schedule.funcs schedule.standings at reader
 
   stands_so : StandsAt schedule at reader → Within
-  stands_so (HasLoop e) = subst (λ (n : ℕ). StandsWithin pipeline schedule.funcs schedule.standings at n) (sym e) Host
+  stands_so (HasLoop e) = subst (λ (n : ℕ). StandsWithin pipeline schedule.funcs schedule.standings at n) (sym e) Consumer
   stands_so (IsWithin own inner reached inner_is within) = Computed reader own inner reached inner_is within
 
   by_read : (func : ℕ) → func ≡ place → ReadsThrough pipeline schedule.standings reader func → Within
@@ -82,45 +81,45 @@ module _ (pipeline : Pipeline) (schedule : Schedule) (accepted : IsAccepted pipe
   all_within count (point ∷ points) all = (one_within count point.source all.0, all_within count points all.1)
 
 pub pure_reads_in_loops_lie : PureReadsInLoopsLie
-pure_reads_in_loops_lie pipeline schedule boxes rules accepted is place sought at there reached placed func plan hosting func_is plan_is hosting_is reader reading its own before reading_is its_there its_reached own_is reads words turns x y may_be =
+pure_reads_in_loops_lie pipeline schedule boxes rules accepted is place sought at there reached placed func plan consuming func_is plan_is consuming_is reader reading its own before reading_is its_there its_reached own_is reads words turns x y may_be =
     given (values_in plan at.inside turns) (sources.Func place) (slice_get boxes.funcs place) (StandsWithin pipeline schedule.funcs schedule.standings at reader) (pure_points pipeline schedule reads reader reading x y)
     (all_within pipeline schedule accepted place sought there at placed reader its (record { standing = its_there; reached = its_reached })
-    (computed_place pipeline schedule accepted reader its its_there func plan hosting at.inside turns its.place own x y refl may_be).0 before reader (pure_points pipeline schedule reads reader reading x y)
+    (computed_place pipeline schedule accepted reader its its_there func plan consuming at.inside turns its.place own x y refl may_be).0 before reader (pure_points pipeline schedule reads reader reading x y)
     (pure_points_are_read_through pipeline schedule rules reader reading reading_is reads x y))
     (λ within.
-    let seen = arguments_lie_in_views pipeline schedule boxes accepted is place sought at there reached placed func plan hosting func_is plan_is hosting_is reader its own its_there its_reached own_is within turns x y may_be in
-    let hosted : host_in schedule boxes.funcs sought.place ≡ Some (host_loop plan hosting at.inside) = host_is schedule boxes.funcs sought.place at at.func plan hosting placed refl plan_is hosting_is in
-    let later : place < at.func = omega (arith, (numbered_at (HasHost pipeline schedule.funcs) 0 schedule.standings accepted.hosts place sought there at placed).later) in
-    let by_host : (host : Option HostLoop) → host_in schedule boxes.funcs sought.place ≡ host → values_for host (values_in plan at.inside turns) ≡ values_in plan at.inside turns
-    → IsSeenIn (values_in plan at.inside turns) host (view_of (slice_get schedule.funcs reader) (slice_get schedule.standings reader) own host) x y
+    let seen = arguments_lie_in_views pipeline schedule boxes accepted is place sought at there reached placed func plan consuming func_is plan_is consuming_is reader its own its_there its_reached own_is within turns x y may_be in
+    let produced : consumer_in schedule boxes.funcs sought.place ≡ Some (consumer_loop plan consuming at.inside) = consumer_is schedule boxes.funcs sought.place at at.func plan consuming placed refl plan_is consuming_is in
+    let later : place < at.func = omega (arith, (numbered_at (HasConsumer pipeline schedule.funcs) 0 schedule.standings accepted.consumers place sought there at placed).later) in
+    let by_consumer : (consumer : Option ConsumerLoop) → consumer_in schedule boxes.funcs sought.place ≡ consumer → values_for consumer (values_in plan at.inside turns) ≡ values_in plan at.inside turns
+    → IsSeenIn (values_in plan at.inside turns) consumer (view_of (slice_get schedule.funcs reader) (slice_get schedule.standings reader) own consumer) x y
     → AreBoxed (values_in plan at.inside turns) (sources.Func place) (slice_get boxes.funcs place) (pure_points pipeline schedule reads reader reading x y) =
-    λ host h v s.
+    λ consumer h v s.
     subst (λ (l : List ℕ). AreBoxed l (sources.Func place) (slice_get boxes.funcs place) (pure_points pipeline schedule reads reader reading x y)) v
-    (pure_reads_of_funcs_lie pipeline schedule boxes rules is reader reading own reading_is own_is place sought before there reached (subst (λ (p : Place). IsComputed place p) (sym placed) later) host h
-    (view_of (slice_get schedule.funcs reader) (slice_get schedule.standings reader) own host) refl reads words (values_in plan at.inside turns) s.below
-    (subst (λ (l : List ℕ). Below l (lasts_of host)) (sym v) s.hosted) x y s.lies) in
-    by_host (Some (host_loop plan hosting at.inside)) hosted refl
-    (subst (λ (h : Option HostLoop). IsSeenIn (values_in plan at.inside turns) h (view_of (slice_get schedule.funcs reader) (slice_get schedule.standings reader) own h) x y) hosted seen))
+    (pure_reads_of_funcs_lie pipeline schedule boxes rules is reader reading own reading_is own_is place sought before there reached (subst (λ (p : Place). IsComputed place p) (sym placed) later) consumer h
+    (view_of (slice_get schedule.funcs reader) (slice_get schedule.standings reader) own consumer) refl reads words (values_in plan at.inside turns) s.below
+    (subst (λ (l : List ℕ). Below l (lasts_of consumer)) (sym v) s.produced) x y s.lies) in
+    by_consumer (Some (consumer_loop plan consuming at.inside)) produced refl
+    (subst (λ (h : Option ConsumerLoop). IsSeenIn (values_in plan at.inside turns) h (view_of (slice_get schedule.funcs reader) (slice_get schedule.standings reader) own h) x y) produced seen))
 
 pub update_reads_in_loops_lie : UpdateReadsInLoopsLie
-update_reads_in_loops_lie pipeline schedule boxes rules accepted is place sought at there reached placed func plan hosting func_is plan_is hosting_is reader reading its own before reading_is its_there its_reached own_is number_at update update_is reads words turns x y may_be near_x near_y number few =
+update_reads_in_loops_lie pipeline schedule boxes rules accepted is place sought at there reached placed func plan consuming func_is plan_is consuming_is reader reading its own before reading_is its_there its_reached own_is number_at update update_is reads words turns x y may_be near_x near_y number few =
     given (values_in plan at.inside turns) (sources.Func place) (slice_get boxes.funcs place) (StandsWithin pipeline schedule.funcs schedule.standings at reader) (update_points pipeline schedule reads reader update number x y)
     (all_within pipeline schedule accepted place sought there at placed reader its (record { standing = its_there; reached = its_reached })
-    (computed_place pipeline schedule accepted reader its its_there func plan hosting at.inside turns its.place own x y refl may_be).0 before (suc reader) (update_points pipeline schedule reads reader update number x y)
+    (computed_place pipeline schedule accepted reader its its_there func plan consuming at.inside turns its.place own x y refl may_be).0 before (suc reader) (update_points pipeline schedule reads reader update number x y)
     (update_points_are_read_through pipeline schedule rules reader reading reading_is
-    (flag_is schedule.standings reader its its_there ∙ (computed_place pipeline schedule accepted reader its its_there func plan hosting at.inside turns its.place own x y refl may_be).1)
+    (flag_is schedule.standings reader its its_there ∙ (computed_place pipeline schedule accepted reader its its_there func plan consuming at.inside turns its.place own x y refl may_be).1)
     number_at update update_is reads number x y))
     (λ within.
-    let seen = arguments_lie_in_views pipeline schedule boxes accepted is place sought at there reached placed func plan hosting func_is plan_is hosting_is reader its own its_there its_reached own_is within turns x y may_be in
-    let hosted : host_in schedule boxes.funcs sought.place ≡ Some (host_loop plan hosting at.inside) = host_is schedule boxes.funcs sought.place at at.func plan hosting placed refl plan_is hosting_is in
-    let later : place < at.func = omega (arith, (numbered_at (HasHost pipeline schedule.funcs) 0 schedule.standings accepted.hosts place sought there at placed).later) in
-    let by_host : (host : Option HostLoop) → host_in schedule boxes.funcs sought.place ≡ host → values_for host (values_in plan at.inside turns) ≡ values_in plan at.inside turns
-    → IsSeenIn (values_in plan at.inside turns) host (view_of (slice_get schedule.funcs reader) (slice_get schedule.standings reader) own host) x y
+    let seen = arguments_lie_in_views pipeline schedule boxes accepted is place sought at there reached placed func plan consuming func_is plan_is consuming_is reader its own its_there its_reached own_is within turns x y may_be in
+    let produced : consumer_in schedule boxes.funcs sought.place ≡ Some (consumer_loop plan consuming at.inside) = consumer_is schedule boxes.funcs sought.place at at.func plan consuming placed refl plan_is consuming_is in
+    let later : place < at.func = omega (arith, (numbered_at (HasConsumer pipeline schedule.funcs) 0 schedule.standings accepted.consumers place sought there at placed).later) in
+    let by_consumer : (consumer : Option ConsumerLoop) → consumer_in schedule boxes.funcs sought.place ≡ consumer → values_for consumer (values_in plan at.inside turns) ≡ values_in plan at.inside turns
+    → IsSeenIn (values_in plan at.inside turns) consumer (view_of (slice_get schedule.funcs reader) (slice_get schedule.standings reader) own consumer) x y
     → AreBoxed (values_in plan at.inside turns) (sources.Func place) (slice_get boxes.funcs place) (update_points pipeline schedule reads reader update number x y) =
-    λ host h v s.
+    λ consumer h v s.
     subst (λ (l : List ℕ). AreBoxed l (sources.Func place) (slice_get boxes.funcs place) (update_points pipeline schedule reads reader update number x y)) v
-    (update_reads_of_funcs_lie pipeline schedule boxes rules is reader reading own reading_is own_is number_at update update_is place sought before there reached (subst (λ (p : Place). IsComputed place p) (sym placed) later) host h
-    (view_of (slice_get schedule.funcs reader) (slice_get schedule.standings reader) own host) refl reads words (values_in plan at.inside turns) s.below
-    (subst (λ (l : List ℕ). Below l (lasts_of host)) (sym v) s.hosted) x y s.lies near_x near_y number few) in
-    by_host (Some (host_loop plan hosting at.inside)) hosted refl
-    (subst (λ (h : Option HostLoop). IsSeenIn (values_in plan at.inside turns) h (view_of (slice_get schedule.funcs reader) (slice_get schedule.standings reader) own h) x y) hosted seen))
+    (update_reads_of_funcs_lie pipeline schedule boxes rules is reader reading own reading_is own_is number_at update update_is place sought before there reached (subst (λ (p : Place). IsComputed place p) (sym placed) later) consumer h
+    (view_of (slice_get schedule.funcs reader) (slice_get schedule.standings reader) own consumer) refl reads words (values_in plan at.inside turns) s.below
+    (subst (λ (l : List ℕ). Below l (lasts_of consumer)) (sym v) s.produced) x y s.lies near_x near_y number few) in
+    by_consumer (Some (consumer_loop plan consuming at.inside)) produced refl
+    (subst (λ (h : Option ConsumerLoop). IsSeenIn (values_in plan at.inside turns) h (view_of (slice_get schedule.funcs reader) (slice_get schedule.standings reader) own h) x y) produced seen))

@@ -8,17 +8,17 @@ use Rattle.halide_pipeline.specs.Expressions.{same_variable}
 use Rattle.schedule_lines.specs.declared.stages.Loop.{Loop}
 use Rattle.schedule_lines.specs.declared.stages.Split.{Split}
 use Rattle.schedule_loops.specs.declared.extents.Extents.{Extents}
-use Rattle.schedule_loops.specs.Counts.{strides}
+use Rattle.schedule_loops.specs.Visits.{strides}
 use Rattle.schedule_loops.specs.Reach.{reach, has_uneven}
 use Rattle.schedule.specs.declared.plans.FuncPlan.{FuncPlan}
 use Rattle.schedule.specs.declared.standings.Standing.{Standing}
 use Rattle.bounds_ranges.specs.declared.bases.Multiple.{Multiple}
 use Rattle.bounds_ranges.specs.declared.ranges.Range.{Range}
-use Rattle.bounds_ranges.specs.Bases.{cut, zero_multiple, no_base, add_base, negated, times_base}
-use Rattle.bounds_ranges.specs.Ranges.{ends_of, fit}
-use Rattle.bounds.specs.declared.boxes.HostLoop.{HostLoop}
+use Rattle.bounds_ranges.specs.Ranges.{cut, zero_multiple, no_base, add_base, negated, times_base, ends_of, fit}
+use Rattle.bounds.specs.declared.boxes.ConsumerLoop.{ConsumerLoop}
 use Rattle.bounds.specs.declared.boxes.SourceBox.{SourceBox}
-use Rattle.bounds.specs.Views.{multiple_of, multiple_at, base_in, argument, extents_of, inner_count, host_view_in, chosen, settled_box, is_root_at, view_at_root, view_of}
+use Rattle.bounds.specs.Views.{multiple_of, multiple_at, base_in, argument, inner_count, consumer_view_in, chosen, settled_box, is_root_at, view_at_root, view_of}
+use Rattle.bounds.specs.Extents.{extents_of}
 use Rattle.bounds_laws.proofs.HeldBases.{IsClosed, fit_held}
 use Rattle.bounds_laws.proofs.Spans.{IsNormalMultiple, IsNormal, none_normal}
 
@@ -85,22 +85,22 @@ chosen_normal : (test : ℕ → Bool) (at : ℕ) (base : List Multiple) → IsNo
 chosen_normal test at [] normal = tt
 chosen_normal test at (own ∷ others) normal = (one_normal (test at) own zero_multiple normal.0 (omega arith), chosen_normal test (at + 1) others normal.1)
 
-root_normal : (plan : Option FuncPlan) (own : SourceBox) (host : HostLoop) → IsNormalBox (Some own) → IsNormalBox (Some (view_at_root plan own host))
-unfolding host_view_in
-root_normal None own host normal = normal
-root_normal (Some plan) own host normal =
-    let inner = inner_count host.inside plan.pure.loops in (
-      argument_normal (extents_of own) plan.pure.splits plan.pure.loops inner host.lasts variables.FirstArgument own.x,
-      argument_normal (extents_of own) plan.pure.splits plan.pure.loops inner host.lasts variables.SecondArgument own.y,
+root_normal : (plan : Option FuncPlan) (own : SourceBox) (consumer : ConsumerLoop) → IsNormalBox (Some own) → IsNormalBox (Some (view_at_root plan own consumer))
+unfolding consumer_view_in
+root_normal None own consumer normal = normal
+root_normal (Some plan) own consumer normal =
+    let inner = inner_count consumer.inside plan.pure.loops in (
+      argument_normal (extents_of own) plan.pure.splits plan.pure.loops inner consumer.lasts variables.FirstArgument own.x,
+      argument_normal (extents_of own) plan.pure.splits plan.pure.loops inner consumer.lasts variables.SecondArgument own.y,
     )
 
-view_by : (plan : Option FuncPlan) (own : SourceBox) (host : HostLoop) → IsNormalBox (Some own) → (test : Bool)
-    → IsNormalBox (Some (cond test (view_at_root plan own host) (settled_box host.inner own)))
-view_by plan own host normal true = root_normal plan own host normal
-view_by plan own host normal false =
-    (chosen_normal (λ at. not (nat_lt at host.inner)) 0 own.x.base normal.0, chosen_normal (λ at. not (nat_lt at host.inner)) 0 own.y.base normal.1)
+view_by : (plan : Option FuncPlan) (own : SourceBox) (consumer : ConsumerLoop) → IsNormalBox (Some own) → (test : Bool)
+    → IsNormalBox (Some (cond test (view_at_root plan own consumer) (settled_box consumer.inner own)))
+view_by plan own consumer normal true = root_normal plan own consumer normal
+view_by plan own consumer normal false =
+    (chosen_normal (λ at. not (nat_lt at consumer.inner)) 0 own.x.base normal.0, chosen_normal (λ at. not (nat_lt at consumer.inner)) 0 own.y.base normal.1)
 
-pub view_normal : (plan : Option FuncPlan) (standing : Option Standing) (own : SourceBox) (host : Option HostLoop) → IsNormalBox (Some own)
-    → IsNormalBox (Some (view_of plan standing own host))
+pub view_normal : (plan : Option FuncPlan) (standing : Option Standing) (own : SourceBox) (consumer : Option ConsumerLoop) → IsNormalBox (Some own)
+    → IsNormalBox (Some (view_of plan standing own consumer))
 view_normal plan standing own None normal = normal
-view_normal plan standing own (Some host) normal = view_by plan own host normal (is_root_at standing)
+view_normal plan standing own (Some consumer) normal = view_by plan own consumer normal (is_root_at standing)

@@ -3,15 +3,15 @@ use Rattle.std.proofs.Common.{◌≡◌, ℕ, Bool, true, false, not, List, [], 
 use Rattle.std.specs.List.{AllByRecursion}
 use Rattle.halide_pipeline.specs.declared.definitions.Update.{Update}
 use Rattle.halide_pipeline.specs.declared.expressions.Source.TheVariants as sources
-use Rattle.halide_pipeline.specs.Definitions.{is_first_in_place, is_second_in_place}
+use Rattle.halide_pipeline.specs.WellFormed.{is_first_in_place, is_second_in_place}
 use Rattle.halide_pipeline.specs.Points.{Point}
 use Rattle.bounds_ranges.specs.declared.ranges.Range.{Range}
 use Rattle.bounds_ranges.specs.Laws.{Lies}
 use Rattle.bounds.specs.declared.boxes.SourceBox.{SourceBox}
-use Rattle.bounds_laws.specs.HostLaws.{IsInPlace, OwnPointsLie}
+use Rattle.bounds_laws.specs.ConsumerLaws.{IsInPlace, OwnPointsLie}
 use Rattle.bounds_laws.specs.Laws.{values_for, update_points, LiesPartly, IsPartlyBoxed, AreBoxed}
-use Rattle.bounds.specs.Sources.{same_source}
-use Rattle.bounds_laws.proofs.HostedOwnReads.{hosted_own_reads_lie}
+use Rattle.bounds.specs.Boxes.{same_source}
+use Rattle.bounds_laws.proofs.ProducedOwnReads.{produced_own_reads_lie}
 use Rattle.bounds_laws.proofs.StayingReads.{own_reads_stay}
 
 -- one dimension, in place or not
@@ -36,12 +36,12 @@ module _ (reader : ℕ) (update : Update) (values : List ℕ) (own : SourceBox) 
   )
 
 pub own_points_lie : OwnPointsLie
-own_points_lie pipeline schedule boxes rules is reader func sought func_is there reached computed host host_is values below own own_is at update update_is reads words x y word_x word_y near_x near_y number few lies =
-    joined reader update (values_for host values) own x y lies (update_points pipeline schedule reads reader update number x y)
+own_points_lie pipeline schedule boxes rules is reader func sought func_is there reached computed consumer consumer_is values below own own_is at update update_is reads words x y word_x word_y near_x near_y number few lies =
+    joined reader update (values_for consumer values) own x y lies (update_points pipeline schedule reads reader update number x y)
     (subst
     (λ (answer : Option (Option SourceBox)). AllByRecursion
-    (λ point. same_source point.source (sources.Func reader) ≡ true → IsPartlyBoxed (values_for host values) answer (not (is_first_in_place update)) (not (is_second_in_place update)) point.x point.y)
+    (λ point. same_source point.source (sources.Func reader) ≡ true → IsPartlyBoxed (values_for consumer values) answer (not (is_first_in_place update)) (not (is_second_in_place update)) point.x point.y)
     (update_points pipeline schedule reads reader update number x y))
     own_is
-    (hosted_own_reads_lie pipeline schedule boxes rules is reader func sought func_is there reached computed host host_is values below at update update_is reads words x y word_x word_y near_x near_y number few))
+    (produced_own_reads_lie pipeline schedule boxes rules is reader func sought func_is there reached computed consumer consumer_is values below at update update_is reads words x y word_x word_y near_x near_y number few))
     (own_reads_stay pipeline schedule rules reader func func_is at update update_is reads number x y)

@@ -8,27 +8,24 @@ use Rattle.halide_pipeline.specs.declared.definitions.Output.{Output}
 use Rattle.halide_pipeline.specs.declared.definitions.Update.{Update}
 use Rattle.halide_pipeline.specs.declared.expressions.Source.{Source}
 use Rattle.halide_pipeline.specs.declared.expressions.Source.TheVariants as sources
-use Rattle.halide_pipeline.specs.Definitions.{is_first_in_place, is_second_in_place}
+use Rattle.halide_pipeline.specs.WellFormed.{is_first_in_place, is_second_in_place, is_width, is_height, most_extent, most_points}
 use Rattle.halide_pipeline.specs.Pipelines.{Pipeline}
-use Rattle.halide_pipeline.specs.WellFormed.{is_width, is_height, most_extent, most_points}
 use Rattle.halide_pipeline.specs.Points.{Point}
 use Rattle.schedule.specs.declared.schedules.Schedule.{Schedule}
 use Rattle.schedule.specs.declared.standings.Place.{Place}
 use Rattle.schedule.specs.declared.standings.Standing.{Standing}
 use Rattle.bounds_ranges.specs.declared.ranges.Range.{Range}
 use Rattle.bounds_ranges.specs.Laws.{Below, Lies, AllLie}
-use Rattle.bounds_ranges.specs.Ranges.{origin}
+use Rattle.bounds_ranges.specs.Numbers.{origin}
 use Rattle.bounds_ranges.proofs.Lying.{plain_lies}
 use Rattle.bounds_weights.specs.Weight.{flags_of}
-use Rattle.bounds.specs.declared.boxes.HostLoop.{HostLoop}
+use Rattle.bounds.specs.declared.boxes.ConsumerLoop.{ConsumerLoop}
 use Rattle.bounds.specs.declared.boxes.SourceBox.{SourceBox}
 use Rattle.bounds.specs.declared.boxes.Spread.{Spread}
 use Rattle.bounds.specs.declared.verdict.Boxes.{Boxes}
-use Rattle.bounds.specs.Asks.{update_asked, unplaced}
-use Rattle.bounds.specs.Boxes.{no_loops, lasts_of, no_spread, box_of, spread_box, IsSpread}
-use Rattle.bounds.specs.Inference.{pixels_range, wanted, own_update, own_updates, read_from, computed_box, func_box}
-use Rattle.bounds_laws.specs.Laws.{IsBoxed, IsNear, values_for, host_in, IsComputed, update_points, IsPartlyBoxed, OutputLies, OwnReadsLie}
-use Rattle.bounds.specs.Sources.{same_source}
+use Rattle.bounds.specs.Inference.{update_asked, unplaced, pixels_range, wanted, own_update, own_updates, read_from, computed_box, func_box}
+use Rattle.bounds.specs.Boxes.{no_loops, lasts_of, no_spread, box_of, spread_box, IsSpread, same_source}
+use Rattle.bounds_laws.specs.Laws.{IsBoxed, IsNear, values_for, consumer_in, IsComputed, update_points, IsPartlyBoxed, OutputLies, OwnReadsLie}
 use Rattle.bounds.specs.Verdict.{inferred}
 use Rattle.bounds_laws.proofs.Covering.{IsIn, gathered_fits}
 use Rattle.bounds_laws.proofs.Found.{are_found, boxed_by, no_below}
@@ -39,7 +36,7 @@ use Rattle.bounds_laws.proofs.UpdateReads.{update_lies}
 -- ---- the box of the Func at a place is what is gathered for it
 
 module _ (pipeline : Pipeline) (schedule : Schedule) (boxes : Boxes) (is : inferred pipeline schedule ≡ Ok boxes) (place : ℕ) (sought : Standing) (there : slice_get schedule.standings place ≡ Some sought)
-    (reached : sought.is_reached ≡ true) (computed : IsComputed place sought.place) (host : Option HostLoop) (host_is : host_in schedule boxes.funcs sought.place ≡ host) where
+    (reached : sought.is_reached ≡ true) (computed : IsComputed place sought.place) (consumer : Option ConsumerLoop) (consumer_is : consumer_in schedule boxes.funcs sought.place ≡ consumer) where
   flags : List Bool
   flags = flags_of schedule.standings
 
@@ -48,7 +45,7 @@ module _ (pipeline : Pipeline) (schedule : Schedule) (boxes : Boxes) (is : infer
     pub func_is : slice_get pipeline.funcs place ≡ Some func
     pub behind : List (Option SourceBox)
     pub later : (n : ℕ) → slice_get behind n ≡ slice_get boxes.funcs (place + 1 + n)
-    pub box_is : other ≡ spread_box host (read_from pipeline schedule (flags_of schedule.standings) (place + 1) host (sources.Func place) behind (own_updates pipeline (flags_of schedule.standings) place host (wanted pipeline.output place host) func.updates))
+    pub box_is : other ≡ spread_box consumer (read_from pipeline schedule (flags_of schedule.standings) (place + 1) consumer (sources.Func place) behind (own_updates pipeline (flags_of schedule.standings) place consumer (wanted pipeline.output place consumer) func.updates))
 
   pub gathered_at : (other : Option SourceBox) → slice_get boxes.funcs place ≡ Some other → IsGathered other
   unfolding flags
@@ -62,7 +59,7 @@ module _ (pipeline : Pipeline) (schedule : Schedule) (boxes : Boxes) (is : infer
         box_is = at.own_is
             ∙ ap (λ (n : ℕ). func_box pipeline schedule flags n at.func at.behind (slice_get schedule.standings n)) (omega arith)
             ∙ sought_is pipeline schedule flags boxes.funcs place at.func at.behind at.later sought there reached computed
-            ∙ ap (λ (h : Option HostLoop). computed_box pipeline schedule flags place at.func at.behind h) host_is;
+            ∙ ap (λ (h : Option ConsumerLoop). computed_box pipeline schedule flags place at.func at.behind h) consumer_is;
       }
 
 -- ---- the output's picture
@@ -88,8 +85,8 @@ output_lies pipeline schedule boxes rules is sought there reached root x y insid
     computed : IsComputed place sought.place
     computed = subst (λ (p : Place). IsComputed place p) (sym root) tt
 
-    host_is : host_in schedule boxes.funcs sought.place ≡ None
-    host_is = ap (λ (p : Place). host_in schedule boxes.funcs p) root
+    consumer_is : consumer_in schedule boxes.funcs sought.place ≡ None
+    consumer_is = ap (λ (p : Place). consumer_in schedule boxes.funcs p) root
 
     extents : (is_width pipeline.output.width ≡ true) × (is_height pipeline.output.width pipeline.output.height ≡ true)
     extents = and_parts (is_width pipeline.output.width) (is_height pipeline.output.width pipeline.output.height) rules.output
@@ -108,7 +105,7 @@ output_lies pipeline schedule boxes rules is sought there reached root x y insid
     by_found : (answer : Option (Option SourceBox)) → slice_get boxes.funcs place ≡ answer → IsBoxed no_loops answer x y
     by_found None e = tt
     by_found (Some other) e =
-        let found = gathered_at pipeline schedule boxes is place sought there reached computed None host_is other e in
+        let found = gathered_at pipeline schedule boxes is place sought there reached computed None consumer_is other e in
         let own = own_updates pipeline flags_here place None (wanted pipeline.output place None) found.func.updates in
         let all = read_from pipeline schedule flags_here (place + 1) None (sources.Func place) found.behind own in
         let lies = all_keep None no_loops no_below true true pipeline schedule flags_here (sources.Func place) (place + 1) found.behind own x y
@@ -117,26 +114,26 @@ output_lies pipeline schedule boxes rules is sought there reached root x y insid
 
 -- ---- what updates read of their own Func
 
-module _ (pipeline : Pipeline) (flags : List Bool) (place : ℕ) (host : Option HostLoop) (values : List ℕ) (below : Below (values_for host values) (lasts_of host)) (points : List Point) where
+module _ (pipeline : Pipeline) (flags : List Bool) (place : ℕ) (consumer : Option ConsumerLoop) (values : List ℕ) (below : Below (values_for consumer values) (lasts_of consumer)) (points : List Point) where
   pub own_takes : (first second : Bool) (updates : List Update) (at : ℕ) (update : Update) → slice_get updates at ≡ Some update
       → first ≡ not (is_first_in_place update) → second ≡ not (is_second_in_place update)
-      → ((spread : Spread) → IsSpread (lasts_of host) spread → HoldsPart (lasts_of host) (values_for host values) first second (sources.Func place) (own_update pipeline flags place host spread update) points)
-      → (spread : Spread) → IsSpread (lasts_of host) spread
-      → HoldsPart (lasts_of host) (values_for host values) first second (sources.Func place) (own_updates pipeline flags place host spread updates) points
+      → ((spread : Spread) → IsSpread (lasts_of consumer) spread → HoldsPart (lasts_of consumer) (values_for consumer values) first second (sources.Func place) (own_update pipeline flags place consumer spread update) points)
+      → (spread : Spread) → IsSpread (lasts_of consumer) spread
+      → HoldsPart (lasts_of consumer) (values_for consumer values) first second (sources.Func place) (own_updates pipeline flags place consumer spread updates) points
   unfolding own_update
   own_takes first second [] zero update is f s takes spread fits = absurd cc
   own_takes first second [] (suc at) update is f s takes spread fits = absurd cc
   own_takes first second (own ∷ others) zero update is f s takes spread fits =
-      part_more (lasts_of host) (values_for host values) first second (sources.Func place) (own_update pipeline flags place host spread own) (own_updates pipeline flags place host (own_update pipeline flags place host spread own) others)
-      (λ u v. updates_keep host values below first second pipeline flags place (own_update pipeline flags place host spread own) others u v)
+      part_more (lasts_of consumer) (values_for consumer values) first second (sources.Func place) (own_update pipeline flags place consumer spread own) (own_updates pipeline flags place consumer (own_update pipeline flags place consumer spread own) others)
+      (λ u v. updates_keep consumer values below first second pipeline flags place (own_update pipeline flags place consumer spread own) others u v)
       points
-      (subst (λ (w : Update). HoldsPart (lasts_of host) (values_for host values) first second (sources.Func place) (own_update pipeline flags place host spread w) points) (sym (it own update is)) (takes spread fits))
+      (subst (λ (w : Update). HoldsPart (lasts_of consumer) (values_for consumer values) first second (sources.Func place) (own_update pipeline flags place consumer spread w) points) (sym (it own update is)) (takes spread fits))
     where
       it : (a b : Update) → Some a ≡ Some b → a ≡ b
       it a b e = cc
   own_takes first second (own ∷ others) (suc at) update is f s takes spread fits =
-      own_takes first second others at update is f s takes (own_update pipeline flags place host spread own)
-      (gathered_fits host no_loops (sources.Func place) (not (is_first_in_place own)) (not (is_second_in_place own)) spread (update_asked pipeline.inputs pipeline.funcs flags place unplaced own) fits)
+      own_takes first second others at update is f s takes (own_update pipeline flags place consumer spread own)
+      (gathered_fits consumer no_loops (sources.Func place) (not (is_first_in_place own)) (not (is_second_in_place own)) spread (update_asked pipeline.inputs pipeline.funcs flags place unplaced own) fits)
 
 partly_by : (lasts values : List ℕ) (first second : Bool) (a b : Option Range) (x y : ℕ) → (first ≡ true → IsIn lasts values a x) → (second ≡ true → IsIn lasts values b y)
     → IsPartlyBoxed values (Some (box_of lasts a b)) first second x y
@@ -144,15 +141,15 @@ partly_by lasts values first second None b x y f s = tt
 partly_by lasts values first second (Some a) None x y f s = tt
 partly_by lasts values first second (Some a) (Some b) x y f s = record { first = f; second = s }
 
-pub partly_boxed : (host : Option HostLoop) (values : List ℕ) (first second : Bool) (source : Source) (spread : Spread) (other : Option SourceBox) → other ≡ spread_box host spread
-    → (points : List Point) → HoldsPart (lasts_of host) values first second source spread points
+pub partly_boxed : (consumer : Option ConsumerLoop) (values : List ℕ) (first second : Bool) (source : Source) (spread : Spread) (other : Option SourceBox) → other ≡ spread_box consumer spread
+    → (points : List Point) → HoldsPart (lasts_of consumer) values first second source spread points
     → AllByRecursion (λ point. same_source point.source source ≡ true → IsPartlyBoxed values (Some other) first second point.x point.y) points
-partly_boxed host values first second source spread other is [] all = tt
-partly_boxed host values first second source spread other is (point ∷ points) all = (
+partly_boxed consumer values first second source spread other is [] all = tt
+partly_boxed consumer values first second source spread other is (point ∷ points) all = (
   λ e.
       subst (λ (o : Option SourceBox). IsPartlyBoxed values (Some o) first second point.x point.y) (sym is)
-      (partly_by (lasts_of host) values first second spread.x spread.y point.x point.y (all.0 e).first (all.0 e).second),
-  partly_boxed host values first second source spread other is points all.1,
+      (partly_by (lasts_of consumer) values first second spread.x spread.y point.x point.y (all.0 e).first (all.0 e).second),
+  partly_boxed consumer values first second source spread other is points all.1,
 )
 
 pub same_func : (a b : Func) → Some a ≡ Some b → a ≡ b
@@ -185,8 +182,8 @@ own_reads_lie pipeline schedule boxes rules is reader func sought func_is there 
     computed : IsComputed reader sought.place
     computed = subst (λ (p : Place). IsComputed reader p) (sym root) tt
 
-    host_is : host_in schedule boxes.funcs sought.place ≡ None
-    host_is = ap (λ (p : Place). host_in schedule boxes.funcs p) root
+    consumer_is : consumer_in schedule boxes.funcs sought.place ≡ None
+    consumer_is = ap (λ (p : Place). consumer_in schedule boxes.funcs p) root
 
     anywhere_lies : (z : ℕ) → z < 2 ^ 32 → IsNear z → Lies no_loops no_loops unplaced.x z
     anywhere_lies z word near = plain_lies no_loops no_loops no_below (record { low = origin - 2 ^ 24; high = origin + 2 ^ 24 }) z word (λ l h. (near.low, near.high))
@@ -203,7 +200,7 @@ own_reads_lie pipeline schedule boxes rules is reader func sought func_is there 
         → AllByRecursion (λ point. same_source point.source (sources.Func reader) ≡ true → IsPartlyBoxed no_loops answer first second point.x point.y) points
     by_found None e = none_partly points
     by_found (Some other) e =
-        let found = gathered_at pipeline schedule boxes is reader sought there reached computed None host_is other e in
+        let found = gathered_at pipeline schedule boxes is reader sought there reached computed None consumer_is other e in
         let begun = wanted pipeline.output reader None in
         let own = own_updates pipeline flags_here reader None begun found.func.updates in
         let all = read_from pipeline schedule flags_here (reader + 1) None (sources.Func reader) found.behind own in

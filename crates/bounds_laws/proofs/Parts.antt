@@ -6,21 +6,19 @@ use Rattle.halide_pipeline.specs.declared.definitions.Func.{Func}
 use Rattle.halide_pipeline.specs.declared.definitions.Update.{Update}
 use Rattle.halide_pipeline.specs.declared.expressions.Source.{Source}
 use Rattle.halide_pipeline.specs.declared.expressions.Source.TheVariants as sources
-use Rattle.halide_pipeline.specs.Definitions.{is_first_in_place, is_second_in_place}
+use Rattle.halide_pipeline.specs.WellFormed.{is_first_in_place, is_second_in_place}
 use Rattle.halide_pipeline.specs.Pipelines.{Pipeline}
 use Rattle.halide_pipeline.specs.Points.{Point}
 use Rattle.schedule.specs.declared.schedules.Schedule.{Schedule}
 use Rattle.bounds_ranges.specs.declared.expressions.Asked.{Asked}
 use Rattle.bounds_ranges.specs.declared.ranges.Range.{Range}
 use Rattle.bounds_ranges.specs.Laws.{Below, Lies, LiesAt, AllLie}
-use Rattle.bounds.specs.declared.boxes.HostLoop.{HostLoop}
+use Rattle.bounds.specs.declared.boxes.ConsumerLoop.{ConsumerLoop}
 use Rattle.bounds.specs.declared.boxes.SourceBox.{SourceBox}
 use Rattle.bounds.specs.declared.boxes.Spread.{Spread}
-use Rattle.bounds.specs.Asks.{func_asked, update_asked, unplaced}
-use Rattle.bounds.specs.Boxes.{no_loops, lasts_of, taken, joined, with_read, gathered, IsFitOrNone, IsSpread}
-use Rattle.bounds.specs.Inference.{own_update, own_updates, read_in, read_of, read_by_box, read_from}
+use Rattle.bounds.specs.Inference.{func_asked, update_asked, unplaced, own_update, own_updates, read_in, read_of, read_by_box, read_from}
+use Rattle.bounds.specs.Boxes.{no_loops, lasts_of, taken, joined, with_read, gathered, IsFitOrNone, IsSpread, same_source}
 use Rattle.bounds_laws.specs.Laws.{values_for}
-use Rattle.bounds.specs.Sources.{same_source}
 use Rattle.bounds.specs.Views.{view_of}
 use Rattle.bounds_laws.proofs.Covering.{IsIn, joined_keeps, joined_takes, taken_lies, next_fits}
 
@@ -44,70 +42,70 @@ joined_part : (lasts values : List ℕ) → Below values lasts → (counts : Boo
 joined_part lasts values below true own range x e fits lies = joined_takes lasts values below own range x fits lies
 joined_part lasts values below false own range x e fits lies = absurd cc
 
-module _ (host : Option HostLoop) (values : List ℕ) (below : Below (values_for host values) (lasts_of host)) (counts_first counts_second : Bool) where
+module _ (consumer : Option ConsumerLoop) (values : List ℕ) (below : Below (values_for consumer values) (lasts_of consumer)) (counts_first counts_second : Bool) where
   abbrev Part : Spread → ℕ → ℕ → Type 0
-  Part spread x y = InPart (lasts_of host) (values_for host values) counts_first counts_second spread x y
+  Part spread x y = InPart (lasts_of consumer) (values_for consumer values) counts_first counts_second spread x y
 
   next_keeps : (lasts : List ℕ) (first second test : Bool) (spread : Spread) (read : Asked) (x y : ℕ) → Part spread x y
-      → Part (if test then with_read host lasts first second spread read else spread) x y
+      → Part (if test then with_read consumer lasts first second spread read else spread) x y
   next_keeps lasts first second true spread read x y lies = record {
-    first = λ e. joined_keeps (lasts_of host) (values_for host values) below first spread.x (taken host lasts read.x) x (lies.first e);
-    second = λ e. joined_keeps (lasts_of host) (values_for host values) below second spread.y (taken host lasts read.y) y (lies.second e);
+    first = λ e. joined_keeps (lasts_of consumer) (values_for consumer values) below first spread.x (taken consumer lasts read.x) x (lies.first e);
+    second = λ e. joined_keeps (lasts_of consumer) (values_for consumer values) below second spread.y (taken consumer lasts read.y) y (lies.second e);
   }
   next_keeps lasts first second false spread read x y lies = lies
 
   gathered_keep : (lasts : List ℕ) (source : Source) (first second : Bool) (spread : Spread) (asked : List Asked) (x y : ℕ) → Part spread x y
-      → Part (gathered host lasts source first second spread asked) x y
+      → Part (gathered consumer lasts source first second spread asked) x y
   gathered_keep lasts source first second spread [] x y lies = lies
   gathered_keep lasts source first second spread (read ∷ others) x y lies =
-      gathered_keep lasts source first second (if same_source read.source source then with_read host lasts first second spread read else spread) others x y
+      gathered_keep lasts source first second (if same_source read.source source then with_read consumer lasts first second spread read else spread) others x y
       (next_keeps lasts first second (same_source read.source source) spread read x y lies)
 
-  pub updates_keep : (pipeline : Pipeline) (flags : List Bool) (at : ℕ) (spread : Spread) (updates : List Update) (x y : ℕ) → Part spread x y → Part (own_updates pipeline flags at host spread updates) x y
+  pub updates_keep : (pipeline : Pipeline) (flags : List Bool) (at : ℕ) (spread : Spread) (updates : List Update) (x y : ℕ) → Part spread x y → Part (own_updates pipeline flags at consumer spread updates) x y
   unfolding own_update
   updates_keep pipeline flags at spread [] x y lies = lies
   updates_keep pipeline flags at spread (update ∷ others) x y lies =
-      updates_keep pipeline flags at (own_update pipeline flags at host spread update) others x y
+      updates_keep pipeline flags at (own_update pipeline flags at consumer spread update) others x y
       (gathered_keep no_loops (sources.Func at) (not (is_first_in_place update)) (not (is_second_in_place update)) spread (update_asked pipeline.inputs pipeline.funcs flags at unplaced update) x y lies)
 
   of_keep : (pipeline : Pipeline) (flags : List Bool) (source : Source) (at : ℕ) (view : SourceBox) (spread : Spread) (func : Option Func) (x y : ℕ) → Part spread x y
-      → Part (read_of pipeline flags at view host source spread func) x y
+      → Part (read_of pipeline flags at view consumer source spread func) x y
   unfolding read_in
   of_keep pipeline flags source at view spread None x y lies = lies
   of_keep pipeline flags source at view spread (Some func) x y lies = gathered_keep view.lasts source true true spread (func_asked pipeline.inputs pipeline.funcs flags at view func) x y lies
 
   box_keep : (pipeline : Pipeline) (schedule : Schedule) (flags : List Bool) (source : Source) (at : ℕ) (own : Option SourceBox) (spread : Spread) (x y : ℕ) → Part spread x y
-      → Part (read_by_box pipeline schedule flags at own host source spread) x y
+      → Part (read_by_box pipeline schedule flags at own consumer source spread) x y
   box_keep pipeline schedule flags source at None spread x y lies = lies
   box_keep pipeline schedule flags source at (Some own) spread x y lies =
-      of_keep pipeline flags source at (view_of (slice_get schedule.funcs at) (slice_get schedule.standings at) own host) spread (slice_get pipeline.funcs at) x y lies
+      of_keep pipeline flags source at (view_of (slice_get schedule.funcs at) (slice_get schedule.standings at) own consumer) spread (slice_get pipeline.funcs at) x y lies
 
   pub all_keep : (pipeline : Pipeline) (schedule : Schedule) (flags : List Bool) (source : Source) (at : ℕ) (boxes : List (Option SourceBox)) (spread : Spread) (x y : ℕ) → Part spread x y
-      → Part (read_from pipeline schedule flags at host source boxes spread) x y
+      → Part (read_from pipeline schedule flags at consumer source boxes spread) x y
   all_keep pipeline schedule flags source at [] spread x y lies = lies
   all_keep pipeline schedule flags source at (own ∷ boxes) spread x y lies =
-      all_keep pipeline schedule flags source (at + 1) boxes (read_by_box pipeline schedule flags at own host source spread) x y (box_keep pipeline schedule flags source at own spread x y lies)
+      all_keep pipeline schedule flags source (at + 1) boxes (read_by_box pipeline schedule flags at own consumer source spread) x y (box_keep pipeline schedule flags source at own spread x y lies)
 
   -- ---- what is asked, in the dimensions that are gathered
 
-  part_takes : (lasts : List ℕ) → Below values lasts → (spread : Spread) (read : Asked) (point : Point) → IsSpread (lasts_of host) spread
-      → LiesAt lasts values read point → Part (with_read host lasts counts_first counts_second spread read) point.x point.y
+  part_takes : (lasts : List ℕ) → Below values lasts → (spread : Spread) (read : Asked) (point : Point) → IsSpread (lasts_of consumer) spread
+      → LiesAt lasts values read point → Part (with_read consumer lasts counts_first counts_second spread read) point.x point.y
   part_takes lasts own spread read point fits lies = record {
-    first = λ e. joined_part (lasts_of host) (values_for host values) below counts_first spread.x (taken host lasts read.x) point.x e fits.x (taken_lies host lasts values own below read.x point.x lies.x);
-    second = λ e. joined_part (lasts_of host) (values_for host values) below counts_second spread.y (taken host lasts read.y) point.y e fits.y (taken_lies host lasts values own below read.y point.y lies.y);
+    first = λ e. joined_part (lasts_of consumer) (values_for consumer values) below counts_first spread.x (taken consumer lasts read.x) point.x e fits.x (taken_lies consumer lasts values own below read.x point.x lies.x);
+    second = λ e. joined_part (lasts_of consumer) (values_for consumer values) below counts_second spread.y (taken consumer lasts read.y) point.y e fits.y (taken_lies consumer lasts values own below read.y point.y lies.y);
   }
 
-  pub gathered_part : (lasts : List ℕ) → Below values lasts → (source : Source) (spread : Spread) (asked : List Asked) (points : List Point) → IsSpread (lasts_of host) spread → AllLie lasts values asked points
-      → HoldsPart (lasts_of host) (values_for host values) counts_first counts_second source (gathered host lasts source counts_first counts_second spread asked) points
+  pub gathered_part : (lasts : List ℕ) → Below values lasts → (source : Source) (spread : Spread) (asked : List Asked) (points : List Point) → IsSpread (lasts_of consumer) spread → AllLie lasts values asked points
+      → HoldsPart (lasts_of consumer) (values_for consumer values) counts_first counts_second source (gathered consumer lasts source counts_first counts_second spread asked) points
   gathered_part lasts own source spread [] [] fits all = tt
   gathered_part lasts own source spread [] (point ∷ points) fits all = absurd all
   gathered_part lasts own source spread (read ∷ others) [] fits all = absurd all
   gathered_part lasts own source spread (read ∷ others) (point ∷ points) fits all = (
     λ e.
-        gathered_keep lasts source counts_first counts_second (if same_source read.source source then with_read host lasts counts_first counts_second spread read else spread) others point.x point.y
-        (subst (λ (test : Bool). Part (if test then with_read host lasts counts_first counts_second spread read else spread) point.x point.y)
+        gathered_keep lasts source counts_first counts_second (if same_source read.source source then with_read consumer lasts counts_first counts_second spread read else spread) others point.x point.y
+        (subst (λ (test : Bool). Part (if test then with_read consumer lasts counts_first counts_second spread read else spread) point.x point.y)
         (sym e ∙ ap (λ (s : Source). same_source s source) all.0.source)
         (part_takes lasts own spread read point fits all.0)),
-    gathered_part lasts own source (if same_source read.source source then with_read host lasts counts_first counts_second spread read else spread) others points
-        (next_fits host lasts counts_first counts_second (same_source read.source source) spread read fits) all.1,
+    gathered_part lasts own source (if same_source read.source source then with_read consumer lasts counts_first counts_second spread read else spread) others points
+        (next_fits consumer lasts counts_first counts_second (same_source read.source source) spread read fits) all.1,
   )

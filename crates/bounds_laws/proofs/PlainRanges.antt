@@ -4,7 +4,7 @@ use Rattle.halide_pipeline.specs.Points.{Point}
 use Rattle.bounds_ranges.specs.declared.bases.Multiple.{Multiple}
 use Rattle.bounds_ranges.specs.declared.expressions.Asked.{Asked}
 use Rattle.bounds_ranges.specs.declared.ranges.Range.{Range}
-use Rattle.bounds_ranges.specs.Bases.{cut, zero_multiple, times_multiple, no_base, add_base, negated, times_base, more_sum, less_sum}
+use Rattle.bounds_ranges.specs.Ranges.{cut, zero_multiple, times_multiple, no_base, add_base, negated, times_base, more_sum, less_sum}
 use Rattle.bounds_ranges.specs.Laws.{Lies, AllLie}
 use Rattle.bounds_ranges.proofs.Sums.{no_more, no_less}
 use Rattle.bounds.specs.Boxes.{no_loops}

@@ -9,16 +9,15 @@ use Rattle.halide_pipeline.specs.declared.expressions.Expr.TheOpen as layer
 use Rattle.halide_pipeline.specs.declared.expressions.Source.{Source}
 use Rattle.halide_pipeline.specs.declared.expressions.Source.TheVariants as sources
 use Rattle.halide_pipeline.specs.declared.expressions.Variable.{Variable}
-use Rattle.halide_pipeline.specs.Definitions.{dimensions}
+use Rattle.halide_pipeline.specs.WellFormed.{dimensions, keeps, keeps_at, is_read, is_func_of, is_argument, is_divisor, IsWellFormed}
 use Rattle.halide_pipeline.specs.Pipelines.{Pipeline}
-use Rattle.halide_pipeline.specs.WellFormed.{keeps, keeps_at, is_read, is_func_of, is_argument, is_divisor, IsWellFormed}
 use Rattle.halide_pipeline.specs.declared.environments.Environment.{Environment}
 use Rattle.halide_pipeline.specs.Pixel.{Reads}
 use Rattle.halide_pipeline.specs.Points.{Seen}
 use Rattle.schedule.specs.declared.schedules.Schedule.{Schedule}
 use Rattle.schedule.specs.declared.standings.Standing.{Standing}
 use Rattle.schedule.specs.Accepted.{IsAccepted, Pairwise, IsPlan, IsLegal}
-use Rattle.schedule.specs.Calls.{is_func, calls, updates_call, func_calls, place_calls, place_calls_of}
+use Rattle.schedule.specs.Standing.{is_func, calls, updates_call, func_calls, place_calls, place_calls_of}
 use Rattle.schedule.specs.Legal.{is_inlined}
 use Rattle.schedule.specs.Uses.{IsReached}
 use Rattle.schedule.proofs.Uses.{IsSome}

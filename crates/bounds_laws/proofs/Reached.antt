@@ -12,26 +12,25 @@ use Rattle.schedule.specs.declared.schedules.Schedule.{Schedule}
 use Rattle.schedule.specs.declared.standings.Place.{Place}
 use Rattle.schedule.specs.declared.standings.Place.TheVariants as places
 use Rattle.schedule.specs.declared.standings.Standing.{Standing}
-use Rattle.schedule.specs.Accepted.{IsAccepted, IsHosted, IsLegal, IsPlan, IsComputed as Legal}
-use Rattle.schedule.specs.Calls.{calls, updates_call, func_calls, place_calls, place_calls_of}
+use Rattle.schedule.specs.Accepted.{IsAccepted, IsProduced, IsLegal, IsPlan, IsComputed as Legal}
+use Rattle.schedule.specs.Standing.{calls, updates_call, func_calls, place_calls, place_calls_of, is_read, standings_from}
 use Rattle.schedule.specs.Legal.{is_root, is_inlined, is_nowhere}
-use Rattle.schedule.specs.Standing.{is_read, standings_from}
 use Rattle.schedule.specs.Standing as standing
 use Rattle.schedule.specs.Uses.{IsReached}
 use Rattle.schedule.proofs.Uses.{IsSome, numbered_at, output_standing}
 use Rattle.schedule_loops.proofs.AcceptedStages.{pair_at}
 use Rattle.bounds_weights.specs.Weight.{flags_of}
-use Rattle.bounds.specs.declared.boxes.HostLoop.{HostLoop}
+use Rattle.bounds.specs.declared.boxes.ConsumerLoop.{ConsumerLoop}
 use Rattle.bounds.specs.declared.boxes.SourceBox.{SourceBox}
 use Rattle.bounds.specs.declared.boxes.Spread.{Spread}
 use Rattle.bounds.specs.declared.layout.Layout.{Layout}
 use Rattle.bounds.specs.declared.verdict.Boxes.{Boxes}
-use Rattle.bounds.specs.Asks.{func_asked}
-use Rattle.bounds.specs.Boxes.{box_in, lasts_of}
-use Rattle.bounds.specs.Inference.{wanted, own_updates, read_from, func_box, with_func, boxes_from}
+use Rattle.bounds.specs.Inference.{func_asked, wanted, own_updates, read_from, func_box, with_func, boxes_from}
+use Rattle.bounds.specs.Boxes.{lasts_of}
+use Rattle.bounds.specs.Extents.{box_in}
 use Rattle.bounds.specs.Layout.{laid_in, phases, phases_of}
 use Rattle.bounds.specs.Verdict.{inferred}
-use Rattle.bounds_laws.specs.Laws.{IsComputed, host_in}
+use Rattle.bounds_laws.specs.Laws.{IsComputed, consumer_in}
 use Rattle.bounds_laws.specs.Reached.{is_computed_there, reached_stages, BoxesAreOfReachedFuncs, PhasesAreReachedStages}
 use Rattle.bounds_laws.proofs.Asking.{asks, Leads, IsPutIn, expression_asks, func_asks}
 use Rattle.bounds_laws.proofs.BoxFacts.{has_box}
@@ -129,12 +128,12 @@ module _ (pipeline : Pipeline) (schedule : Schedule) (boxes : Boxes) (accepted :
       legal : Legal plan.value own
       legal = pair_at IsLegal schedule.funcs schedule.standings place plan.value own accepted.legal plan.is there.standing there.reached
 
-      hosted : IsHosted pipeline schedule.funcs place own
-      hosted = subst (λ (n : ℕ). IsHosted pipeline schedule.funcs n own) (omega arith) (numbered_at (IsHosted pipeline schedule.funcs) 0 schedule.standings accepted.hosts place own there.standing)
+      produced : IsProduced pipeline schedule.funcs place own
+      produced = subst (λ (n : ℕ). IsProduced pipeline schedule.funcs n own) (omega arith) (numbered_at (IsProduced pipeline schedule.funcs) 0 schedule.standings accepted.consumers place own there.standing)
 
       by_place : (p : Place) → own.place ≡ p → is_inlined p ≡ false → is_nowhere p ≡ false → IsComputed place p
       by_place places.Root e not_inlined somewhere = tt
-      by_place (places.At host) e not_inlined somewhere = (hosted host e).later
+      by_place (places.At consumer) e not_inlined somewhere = (produced consumer e).later
       by_place places.Inlined e not_inlined somewhere = absurd cc
       by_place places.Nowhere e not_inlined somewhere = absurd cc
 
@@ -234,38 +233,38 @@ module _ (pipeline : Pipeline) (schedule : Schedule) (boxes : Boxes) (accepted :
 
   module _ (place : ℕ) (own : Standing) (there : IsReached schedule.standings place own) (plain : is_inlined own.place ≡ false)
       (behind : (reader : ℕ) (its : Standing) → place < reader → IsReached schedule.standings reader its → is_inlined its.place ≡ false → IsBoxed reader) where
-    host : Option HostLoop
-    host = host_in schedule boxes.funcs own.place
+    consumer : Option ConsumerLoop
+    consumer = consumer_in schedule boxes.funcs own.place
 
     full : (func : Func) (others : List (Option SourceBox)) → ((n : ℕ) → slice_get others n ≡ slice_get boxes.funcs (place + 1 + n))
-        → IsFull (read_from pipeline schedule flags (place + 1) host (sources.Func place) others (own_updates pipeline flags place host (wanted pipeline.output place host) func.updates))
+        → IsFull (read_from pipeline schedule flags (place + 1) consumer (sources.Func place) others (own_updates pipeline flags place consumer (wanted pipeline.output place consumer) func.updates))
     full func others later = elim (cases_eq place pipeline.output.func) [
       | inl e ↦
-          from_full host pipeline flags schedule (place + 1) (sources.Func place) others start
-          (updates_full host pipeline flags place (wanted pipeline.output place host) func.updates
-          (wanted_full pipeline.output host (place == pipeline.output.func) (eq-eqb place pipeline.output.func e)))
+          from_full consumer pipeline flags schedule (place + 1) (sources.Func place) others start
+          (updates_full consumer pipeline flags place (wanted pipeline.output place consumer) func.updates
+          (wanted_full pipeline.output consumer (place == pipeline.output.func) (eq-eqb place pipeline.output.func e)))
       | inr e ↦
           let a = is_asked place (length schedule.standings) place (omega arith) (omega arith) own there e (inl (refl, flag_is schedule.standings place own there.standing ∙ plain)) in
           let b = behind a.reader a.its a.later a.there a.plain in
-          from_asked host pipeline flags schedule place a.reader a.own a.own_is a.asking b.0 (place + 1) (a.reader - (place + 1)) (omega (arith, a.later)) others
+          from_asked consumer pipeline flags schedule place a.reader a.own a.own_is a.asking b.0 (place + 1) (a.reader - (place + 1)) (omega (arith, a.later)) others
           (later (a.reader - (place + 1)) ∙ ap (λ (n : ℕ). slice_get boxes.funcs n) (omega (arith, a.later)) ∙ b.1) start
     ]
       where
         start : Spread
-        start = own_updates pipeline flags place host (wanted pipeline.output place host) func.updates
+        start = own_updates pipeline flags place consumer (wanted pipeline.output place consumer) func.updates
 
     is_boxed : IsBoxed place
-    unfolding host
+    unfolding consumer
     is_boxed =
         let box = same_length schedule.standings boxes.funcs place own (sym (boxes_are_many ∙ funcs_are_many)) there.standing in
         let at = boxes_at pipeline schedule flags 0 pipeline.funcs boxes.funcs (are_found pipeline schedule boxes is).funcs place box.value box.is in
-        let spread = read_from pipeline schedule flags (place + 1) host (sources.Func place) at.behind (own_updates pipeline flags place host (wanted pipeline.output place host) at.func.updates) in
+        let spread = read_from pipeline schedule flags (place + 1) consumer (sources.Func place) at.behind (own_updates pipeline flags place consumer (wanted pipeline.output place consumer) at.func.updates) in
         let f = full at.func at.behind at.later in
         by_box box.value box.is
         (ap is_some (at.own_is
         ∙ ap (λ (n : ℕ). func_box pipeline schedule flags n at.func at.behind (slice_get schedule.standings n)) (omega arith)
         ∙ sought_is pipeline schedule flags boxes.funcs place at.func at.behind at.later own there.standing there.reached (placed_so place own there plain))
-        ∙ full_box (lasts_of host) spread.x spread.y f.0 f.1)
+        ∙ full_box (lasts_of consumer) spread.x spread.y f.0 f.1)
       where
         by_box : (found : Option SourceBox) → slice_get boxes.funcs place ≡ Some found → is_some found ≡ true → IsBoxed place
         by_box None e some = absurd cc
@@ -290,7 +289,7 @@ boxes_are_of_reached_funcs pipeline schedule boxes accepted is place =
   where
     not_inlined : (p : Place) → IsComputed place p → is_inlined p ≡ false
     not_inlined places.Root computed = refl
-    not_inlined (places.At host) computed = refl
+    not_inlined (places.At consumer) computed = refl
     not_inlined places.Inlined computed = absurd computed
     not_inlined places.Nowhere computed = absurd computed
 

@@ -4,64 +4,63 @@ use Rattle.std.specs.Prelude.{◌==◌, nat_lt, slice_get, Ok}
 use Rattle.std.proofs.lemmas.Bool.{and_parts, and_from, lt-ltb, eqb-true}
 use Rattle.halide_pipeline.specs.declared.definitions.Func.{Func}
 use Rattle.halide_pipeline.specs.declared.expressions.Variable.TheVariants as variables
-use Rattle.halide_pipeline.specs.Definitions.{dimensions}
+use Rattle.halide_pipeline.specs.WellFormed.{dimensions, IsWellFormed}
 use Rattle.halide_pipeline.specs.Pipelines.{Pipeline}
-use Rattle.halide_pipeline.specs.WellFormed.{IsWellFormed}
 use Rattle.schedule_lines.specs.declared.stages.Loop.{Loop}
 use Rattle.schedule_lines.specs.declared.stages.LoopId.{LoopId}
 use Rattle.schedule_lines.specs.declared.stages.LoopId.TheVariants as ids
 use Rattle.schedule_lines.specs.declared.stages.Stage.{Stage}
-use Rattle.schedule_lines.specs.Loops.{same_id}
+use Rattle.schedule_lines.specs.Directives.{same_id}
 use Rattle.schedule.specs.declared.plans.FuncPlan.{FuncPlan}
 use Rattle.schedule.specs.declared.schedules.Schedule.{Schedule}
 use Rattle.schedule.specs.declared.standings.LoopPlace.{LoopPlace}
 use Rattle.schedule.specs.declared.standings.Place.{Place}
 use Rattle.schedule.specs.declared.standings.Place.TheVariants as places
 use Rattle.schedule.specs.declared.standings.Standing.{Standing}
-use Rattle.schedule.specs.Accepted.{IsAccepted, IsPlan, IsLegal, IsHosted}
+use Rattle.schedule.specs.Accepted.{IsAccepted, IsPlan, IsLegal, IsProduced}
 use Rattle.schedule.specs.Standing.{comes_first, pure_loops_of}
-use Rattle.schedule.specs.Uses.{IsRootReached, HasHostAtRoot}
+use Rattle.schedule.specs.Uses.{IsRootReached, HasConsumerAtRoot}
 use Rattle.schedule.proofs.Uses.{numbered_at}
 use Rattle.schedule_loops.specs.declared.extents.Extents.{Extents}
-use Rattle.schedule_loops.specs.Counts.{Values, shifts_fit}
+use Rattle.schedule_loops.specs.Visits.{Values, shifts_fit, Visit}
 use Rattle.schedule_loops.specs.Laws.{IsMadeIn}
 use Rattle.schedule_loops.specs.Reach.{wholes}
 use Rattle.schedule_loops.specs.Stages.{IsStageOf, first_loops, has_variable, extent_in, is_slice_of}
-use Rattle.schedule_loops.specs.Visits.{Visit}
 use Rattle.schedule_loops.proofs.AcceptedStages.{accepted as accepted_stages, pair_at}
 use Rattle.schedule_loops.proofs.Covering.{visited}
 use Rattle.schedule_loops.proofs.TurnsFound.{of_all, visits_are_made}
 use Rattle.bounds_ranges.specs.declared.bases.Multiple.{Multiple}
 use Rattle.bounds_ranges.specs.declared.ranges.Range.{Range}
-use Rattle.bounds_ranges.specs.Bases.{more_sum, less_sum}
+use Rattle.bounds_ranges.specs.Ranges.{more_sum, less_sum}
 use Rattle.bounds_ranges.specs.Laws.{Below, Lies}
-use Rattle.bounds_ranges.specs.Ranges.{origin, spot}
-use Rattle.bounds.specs.declared.boxes.HostLoop.{HostLoop}
+use Rattle.bounds_ranges.specs.Numbers.{origin, spot}
+use Rattle.bounds.specs.declared.boxes.ConsumerLoop.{ConsumerLoop}
 use Rattle.bounds.specs.declared.boxes.SourceBox.{SourceBox}
 use Rattle.bounds.specs.declared.verdict.Boxes.{Boxes}
-use Rattle.bounds.specs.Boxes.{box_in, no_loops, lasts_of, extent}
+use Rattle.bounds.specs.Boxes.{no_loops, lasts_of}
+use Rattle.bounds.specs.Extents.{box_in, extent, extents_of}
 use Rattle.bounds_laws.specs.Callers.{IsReadWithin, StandsAt, HasLoop, IsWithin}
-use Rattle.bounds_laws.specs.HostLaws.{turns_from, gone, IsGone, IsTakenTo, AgreeFrom}
-use Rattle.bounds.specs.Inference.{host_of}
-use Rattle.bounds_laws.specs.Laws.{LiesIn, values_for, host_in, IsComputed}
+use Rattle.bounds_laws.specs.ConsumerLaws.{turns_from, gone, IsGone, IsTakenTo, AgreeFrom}
+use Rattle.bounds.specs.Inference.{consumer_of}
+use Rattle.bounds_laws.specs.Laws.{LiesIn, values_for, consumer_in, IsComputed}
 use Rattle.bounds.specs.Verdict.{inferred}
-use Rattle.bounds.specs.Views.{extents_of, inner_count, host_loop_in, host_loop, host_view_in, host_view, settled_box, view_of}
+use Rattle.bounds.specs.Views.{inner_count, consumer_loop_in, consumer_loop, consumer_view_in, consumer_view, settled_box, view_of}
 use Rattle.bounds_laws.proofs.BoxFacts.{HasBox, has_box, is_judged, shifts_at}
 use Rattle.bounds_laws.proofs.Flat.{one_row_boxes}
 use Rattle.bounds_laws.proofs.Found.{no_below}
-use Rattle.bounds_laws.proofs.HostArguments.{host_arguments_lie}
+use Rattle.bounds_laws.proofs.ConsumerArguments.{consumer_arguments_lie}
 use Rattle.bounds_laws.proofs.Settled.{settled_boxes_hold}
 use Rattle.bounds_laws.proofs.StandingWithin.{one_standing}
 
--- a reader's point lies in the view with which a source is asked, while the loops of the source's host have these values
+-- a reader's point lies in the view with which a source is asked, while the loops of the source's consumer have these values
 pub record Sees (pipeline : Pipeline) (schedule : Schedule) (boxes : Boxes) (reader : ℕ) (own : SourceBox) (x y : ℕ) (place : Place) : Type 0 where
-  pub host : Option HostLoop
-  pub host_is : host_in schedule boxes.funcs place ≡ host
+  pub consumer : Option ConsumerLoop
+  pub consumer_is : consumer_in schedule boxes.funcs place ≡ consumer
   pub view : SourceBox
-  pub view_is : view_of (slice_get schedule.funcs reader) (slice_get schedule.standings reader) own host ≡ view
+  pub view_is : view_of (slice_get schedule.funcs reader) (slice_get schedule.standings reader) own consumer ≡ view
   pub values : List ℕ
   pub below_view : Below values view.lasts
-  pub below_host : Below (values_for host values) (lasts_of host)
+  pub below_consumer : Below (values_for consumer values) (lasts_of consumer)
   pub lies : LiesIn values view x y
 
 -- ---- lists
@@ -174,7 +173,7 @@ module _ (pipeline : Pipeline) (schedule : Schedule) (boxes : Boxes) (rules : Is
     extents = extents_of own
 
     no_lasts : own.lasts ≡ no_loops
-    no_lasts = box.lasts ∙ ap (λ (p : Place). lasts_of (host_in schedule boxes.funcs p)) root
+    no_lasts = box.lasts ∙ ap (λ (p : Place). lasts_of (consumer_in schedule boxes.funcs p)) root
 
     below_none : Below values no_loops
     below_none = subst (λ (l : List ℕ). Below values l) no_lasts below
@@ -244,25 +243,25 @@ module _ (pipeline : Pipeline) (schedule : Schedule) (boxes : Boxes) (rules : Is
     turns : List ℕ
     turns = turns_from (length inside) made.turns stage.loops
 
-    taken : Below turns (host_loop plan own id).lasts × LiesIn turns (host_view stage own (host_loop plan own id)) x y
+    taken : Below turns (consumer_loop plan own id).lasts × LiesIn turns (consumer_view stage own (consumer_loop plan own id)) x y
     unfolding turns inside outside inner stage extents
     taken =
-        let h = host_arguments_lie func plan own id inside outside made.turns stage_is (parted inner stage.loops) (taken_length inner stage.loops (count_few id stage.loops)) made.are in (
+        let h = consumer_arguments_lie func plan own id inside outside made.turns stage_is (parted inner stage.loops) (taken_length inner stage.loops (count_few id stage.loops)) made.are in (
           h.0,
-          of_all (λ (whole : Values). (a b : ℕ) → IsTakenTo func own whole a b → LiesIn turns (host_view stage own (host_loop plan own id)) a b) (wholes extents stage.splits inside made.turns) h.1 made.whole made.visited x y
+          of_all (λ (whole : Values). (a b : ℕ) → IsTakenTo func own whole a b → LiesIn turns (consumer_view stage own (consumer_loop plan own id)) a b) (wholes extents stage.splits inside made.turns) h.1 made.whole made.visited x y
               (record { first = gone_x; second = gone_y }),
         )
 
-    pub host_sees : (place : Place) → host_in schedule boxes.funcs place ≡ Some (host_loop plan own id) → Sees pipeline schedule boxes reader own x y place
-    unfolding stage host_view_in
-    host_sees place host_is = record {
-      host = Some (host_loop plan own id);
-      host_is = host_is;
-      view = host_view plan.pure own (host_loop plan own id);
+    pub consumer_sees : (place : Place) → consumer_in schedule boxes.funcs place ≡ Some (consumer_loop plan own id) → Sees pipeline schedule boxes reader own x y place
+    unfolding stage consumer_view_in
+    consumer_sees place consumer_is = record {
+      consumer = Some (consumer_loop plan own id);
+      consumer_is = consumer_is;
+      view = consumer_view plan.pure own (consumer_loop plan own id);
       view_is = rw (box.there.standing, plan_is) (rw root refl);
       values = turns;
       below_view = taken.0;
-      below_host = taken.0;
+      below_consumer = taken.0;
       lies = taken.1;
     }
 
@@ -272,15 +271,15 @@ module _ (pipeline : Pipeline) (schedule : Schedule) (boxes : Boxes) (rules : Is
     box : HasBox pipeline schedule boxes reader own
     box = has_box pipeline schedule boxes accepted is reader own own_is
 
-    root_sees : (place : Place) → host_in schedule boxes.funcs place ≡ None → Sees pipeline schedule boxes reader own x y place
+    root_sees : (place : Place) → consumer_in schedule boxes.funcs place ≡ None → Sees pipeline schedule boxes reader own x y place
     root_sees place none = record {
-      host = None;
-      host_is = none;
+      consumer = None;
+      consumer_is = none;
       view = own;
       view_is = refl;
       values = values;
       below_view = below;
-      below_host = no_below;
+      below_consumer = no_below;
       lies = lies;
     }
 
@@ -290,21 +289,21 @@ module _ (pipeline : Pipeline) (schedule : Schedule) (boxes : Boxes) (rules : Is
     module _ (func : ℕ) (within : IsReadWithin schedule reader func) (at : LoopPlace) (place_is : within.own.place ≡ places.At at) where
       rooted : IsRootReached schedule.standings at.func
       rooted =
-          let h : HasHostAtRoot schedule.standings func within.own = subst (λ (n : ℕ). HasHostAtRoot schedule.standings n within.own) (here func) (numbered_at (HasHostAtRoot schedule.standings) 0 schedule.standings accepted.hosts_at_root func within.own within.there.standing) in
+          let h : HasConsumerAtRoot schedule.standings func within.own = subst (λ (n : ℕ). HasConsumerAtRoot schedule.standings n within.own) (here func) (numbered_at (HasConsumerAtRoot schedule.standings) 0 schedule.standings accepted.consumers_at_root func within.own within.there.standing) in
           h within.there.reached at place_is
 
-      hosted : IsHosted pipeline schedule.funcs func within.own
-      hosted = subst (λ (n : ℕ). IsHosted pipeline schedule.funcs n within.own) (here func) (numbered_at (IsHosted pipeline schedule.funcs) 0 schedule.standings accepted.hosts func within.own within.there.standing)
+      produced : IsProduced pipeline schedule.funcs func within.own
+      produced = subst (λ (n : ℕ). IsProduced pipeline schedule.funcs n within.own) (here func) (numbered_at (IsProduced pipeline schedule.funcs) 0 schedule.standings accepted.consumers func within.own within.there.standing)
 
       by_loop : StandsAt schedule at reader → Sees pipeline schedule boxes reader own x y (places.At at)
-      unfolding box host_loop_in
+      unfolding box consumer_loop_in
       by_loop (HasLoop same) =
-          let host = hosted at place_is in
-          let plan_is : slice_get schedule.funcs reader ≡ Some host.plan = ap (λ (n : ℕ). slice_get schedule.funcs n) same ∙ host.plan_is in
+          let consumer = produced at place_is in
+          let plan_is : slice_get schedule.funcs reader ≡ Some consumer.plan = ap (λ (n : ℕ). slice_get schedule.funcs n) same ∙ consumer.plan_is in
           let standing_is = one_standing schedule.standings reader box.standing rooted.own box.there.standing (ap (λ (n : ℕ). slice_get schedule.standings n) same ∙ rooted.there.standing) in
           let root : box.standing.place ≡ places.Root = ap (λ (s : Standing). s.place) standing_is ∙ rooted.root in
           let box_is : slice_get boxes.funcs at.func ≡ Some (Some own) = ap (λ (n : ℕ). slice_get boxes.funcs n) (sym same) ∙ own_is in
-          host_sees reader own own_is box root host.plan plan_is at.inside values below x y lies (places.At at) (rw (host.plan_is, box_is) refl)
+          consumer_sees reader own own_is box root consumer.plan plan_is at.inside values below x y lies (places.At at) (rw (consumer.plan_is, box_is) refl)
       by_loop (IsWithin st other there other_place inside) = by_box (slice_get schedule.funcs at.func) refl (box_in (slice_get boxes.funcs at.func)) refl
         where
           same_func : other.func ≡ at.func
@@ -313,27 +312,27 @@ module _ (pipeline : Pipeline) (schedule : Schedule) (boxes : Boxes) (rules : Is
           own_place : box.standing.place ≡ places.At other
           own_place = ap (λ (s : Standing). s.place) (one_standing schedule.standings reader box.standing st box.there.standing there.standing) ∙ other_place
 
-          own_lasts : own.lasts ≡ lasts_of (host_of other (slice_get schedule.funcs at.func) (box_in (slice_get boxes.funcs at.func)))
+          own_lasts : own.lasts ≡ lasts_of (consumer_of other (slice_get schedule.funcs at.func) (box_in (slice_get boxes.funcs at.func)))
           own_lasts =
-              box.lasts ∙ ap (λ (p : Place). lasts_of (host_in schedule boxes.funcs p)) own_place
-              ∙ ap (λ (n : ℕ). lasts_of (host_of other (slice_get schedule.funcs n) (box_in (slice_get boxes.funcs n)))) same_func
+              box.lasts ∙ ap (λ (p : Place). lasts_of (consumer_in schedule boxes.funcs p)) own_place
+              ∙ ap (λ (n : ℕ). lasts_of (consumer_of other (slice_get schedule.funcs n) (box_in (slice_get boxes.funcs n)))) same_func
 
-          by_box : (plan : Option FuncPlan) → slice_get schedule.funcs at.func ≡ plan → (host_box : Option SourceBox) → box_in (slice_get boxes.funcs at.func) ≡ host_box
+          by_box : (plan : Option FuncPlan) → slice_get schedule.funcs at.func ≡ plan → (consumer_box : Option SourceBox) → box_in (slice_get boxes.funcs at.func) ≡ consumer_box
               → Sees pipeline schedule boxes reader own x y (places.At at)
-          by_box None p host_box b = root_sees (places.At at) (rw p refl)
+          by_box None p consumer_box b = root_sees (places.At at) (rw p refl)
           by_box (Some plan) p None b = root_sees (places.At at) (rw (p, b) refl)
-          by_box (Some plan) p (Some host_box) b =
-              let host = host_loop plan host_box at.inside in
-              let lasts_are : own.lasts ≡ host.lasts = own_lasts ∙ rw (p, b) refl in
+          by_box (Some plan) p (Some consumer_box) b =
+              let consumer = consumer_loop plan consumer_box at.inside in
+              let lasts_are : own.lasts ≡ consumer.lasts = own_lasts ∙ rw (p, b) refl in
               record {
-                host = Some host;
-                host_is = rw (p, b) refl;
-                view = settled_box host.inner own;
+                consumer = Some consumer;
+                consumer_is = rw (p, b) refl;
+                view = settled_box consumer.inner own;
                 view_is = rw box.there.standing (rw own_place refl);
                 values = values;
                 below_view = below;
-                below_host = subst (λ (l : List ℕ). Below values l) lasts_are below;
-                lies = settled_boxes_hold host.inner own values values below (agree_self host.inner values) x y lies;
+                below_consumer = subst (λ (l : List ℕ). Below values l) lasts_are below;
+                lies = settled_boxes_hold consumer.inner own values values below (agree_self consumer.inner values) x y lies;
               }
 
     pub sees : (func : ℕ) (within : IsReadWithin schedule reader func) → IsComputed func within.own.place → Sees pipeline schedule boxes reader own x y within.own.place

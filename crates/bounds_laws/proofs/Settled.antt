@@ -3,9 +3,9 @@ use Rattle.std.proofs.Common.{◌≡◌, ℕ, zero, suc, ◌+◌, ◌-◌, ◌*�
 use Rattle.std.specs.Prelude.{not, nat_lt, if◌then◌else◌}
 use Rattle.std.proofs.lemmas.Bool.{lt-ltb}
 use Rattle.bounds_ranges.specs.declared.bases.Multiple.{Multiple}
-use Rattle.bounds_ranges.specs.Bases.{zero_multiple, more_sum, less_sum}
+use Rattle.bounds_ranges.specs.Ranges.{zero_multiple, more_sum, less_sum}
 use Rattle.bounds_ranges.proofs.Sums.{more_below, less_below}
-use Rattle.bounds_laws.specs.HostLaws.{AgreeFrom, SettledRangesHold, SettledBoxesHold}
+use Rattle.bounds_laws.specs.ConsumerLaws.{AgreeFrom, SettledRangesHold, SettledBoxesHold}
 use Rattle.bounds.specs.Views.{chosen, inner_part, outer_part}
 use Rattle.bounds.proofs.Settling.{less_parts, more_parts}
 

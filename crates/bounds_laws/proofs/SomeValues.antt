@@ -3,9 +3,9 @@ use Rattle.std.proofs.Common.{◌≡◌, ℕ, zero, suc, ◌+◌, ◌^◌, ◌�
 use Rattle.std.specs.Prelude.{◌||◌, nat_lt, nat_le}
 use Rattle.std.proofs.lemmas.Bool.{and_parts, and_from, or_cases, cases_eq, lt-ltb, ltb-true, leb-true, le-leb}
 use Rattle.bounds_ranges.specs.declared.ranges.Range.{Range}
-use Rattle.bounds_ranges.specs.Bases.{more_sum, less_sum}
+use Rattle.bounds_ranges.specs.Ranges.{more_sum, less_sum}
 use Rattle.bounds_ranges.specs.Laws.{Below, Lies}
-use Rattle.bounds_ranges.specs.Ranges.{least, greatest, spot}
+use Rattle.bounds_ranges.specs.Numbers.{least, greatest, spot}
 use Rattle.bounds.specs.declared.boxes.SourceBox.{SourceBox}
 use Rattle.bounds_laws.specs.Closure.{some_upto, some_values, lies, lies_in}
 use Rattle.bounds_laws.specs.Laws.{LiesIn}

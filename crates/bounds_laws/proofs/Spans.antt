@@ -9,8 +9,8 @@ use Rattle.bounds_ranges.specs.declared.bases.Multiple.{Multiple}
 use Rattle.bounds_ranges.specs.declared.ranges.CommonBase.{CommonBase}
 use Rattle.bounds_ranges.specs.declared.ranges.Ends.{Ends}
 use Rattle.bounds_ranges.specs.declared.ranges.Range.{Range}
-use Rattle.bounds_ranges.specs.Bases.{cut, zero_multiple, no_base, same_multiple, same_base, more_sum, less_sum}
-use Rattle.bounds_ranges.specs.Ranges.{least, greatest, ends_of, fit, IsFit, widened, together, hull}
+use Rattle.bounds_ranges.specs.Ranges.{cut, zero_multiple, no_base, same_multiple, same_base, more_sum, less_sum, ends_of, fit, IsFit, widened, together, hull}
+use Rattle.bounds_ranges.specs.Numbers.{least, greatest}
 use Rattle.bounds_ranges.proofs.Sums.{Small, no_more, no_less}
 use Rattle.bounds_laws.proofs.Hulls.{hull_fits, small_fit}
 use Rattle.bounds_laws.specs.Least.{IsSpan, IsLeast}

@@ -10,9 +10,8 @@ use Rattle.schedule.specs.declared.standings.Place.{Place}
 use Rattle.schedule.specs.declared.standings.Place.TheVariants as places
 use Rattle.schedule.specs.declared.standings.Standing.{Standing}
 use Rattle.schedule.specs.Accepted.{Numbered}
-use Rattle.schedule.specs.Calls.{place_calls}
-use Rattle.schedule.specs.Standing.{is_called, is_away, is_outside, outside, place_at, place_computed, place_of, standing, standings, standings_from}
-use Rattle.schedule.specs.Uses.{IsReached, StandsWithin, Host, Computed as ComputedThere, Inlined, HasUsesWithin}
+use Rattle.schedule.specs.Standing.{place_calls, is_called, is_away, is_outside, outside, place_at, place_computed, place_of, standing, standings, standings_from}
+use Rattle.schedule.specs.Uses.{IsReached, StandsWithin, Consumer, Computed as ComputedThere, Inlined, HasUsesWithin}
 use Rattle.schedule.proofs.Uses.{numbered_at, uses_lie_within}
 use Rattle.bounds_laws.specs.StandingWhere.{HasReadersWithin, IsSaidAt, StandsWhereReadersDo, StandsNowhereElse}
 use Rattle.bounds_laws.proofs.StandingWithin.{one_standing}
@@ -56,14 +55,14 @@ module _ (pipeline : Pipeline) (plans : List FuncPlan) (all : List Standing) (lo
       (λ reached calls. each at first others (omega arith) (record { standing = ap (λ (n : ℕ). slice_get all n) here ∙ from 0; reached = reached }) calls (from_next at first others from)))
       (none_calls func (at + 1) others (from_next at first others from) (λ reader its behind later. each reader its behind (omega (arith, later))))
 
-  away_by : (is_host reached : Bool) (at : ℕ) (own : Standing) (flags : List Bool) → is_away pipeline plans loop at own.place flags ≡ false
-      → (reached && (not is_host && is_away pipeline plans loop at own.place flags)) ≡ false
-  away_by is_host reached at own flags e =
-      none_both reached (not is_host && is_away pipeline plans loop at own.place flags) (none_both (not is_host) (is_away pipeline plans loop at own.place flags) e)
+  away_by : (is_consumer reached : Bool) (at : ℕ) (own : Standing) (flags : List Bool) → is_away pipeline plans loop at own.place flags ≡ false
+      → (reached && (not is_consumer && is_away pipeline plans loop at own.place flags)) ≡ false
+  away_by is_consumer reached at own flags e =
+      none_both reached (not is_consumer && is_away pipeline plans loop at own.place flags) (none_both (not is_consumer) (is_away pipeline plans loop at own.place flags) e)
 
   lowered : (reader : ℕ) → StandsWithin pipeline plans all loop reader → (its : Standing) → IsReached all reader its → (behind : List Standing) → From (reader + 1) behind
       → is_outside pipeline plans loop reader its (outside pipeline plans loop (reader + 1) behind) ≡ false
-  lowered reader Host its there behind from =
+  lowered reader Consumer its there behind from =
       none_both its.is_reached (not (loop.func == loop.func) && is_away pipeline plans loop loop.func its.place (outside pipeline plans loop (loop.func + 1) behind)) (rw (eq-eqb loop.func loop.func refl) refl)
   lowered reader (ComputedThere _ own at own_there place_is within) its there behind from =
       let same : own ≡ its = one_standing all reader own its own_there.standing there.standing in

@@ -8,11 +8,10 @@ use Rattle.schedule.specs.declared.standings.Place.{Place}
 use Rattle.schedule.specs.declared.standings.Place.TheVariants as places
 use Rattle.schedule.specs.declared.standings.Standing.{Standing}
 use Rattle.schedule.specs.Accepted.{IsAccepted}
-use Rattle.schedule.specs.Calls.{place_calls}
+use Rattle.schedule.specs.Standing.{place_calls, standings_from, is_within}
 use Rattle.schedule.specs.Legal.{is_inlined}
-use Rattle.schedule.specs.Standing.{standings_from, is_within}
 use Rattle.schedule.specs.Standing as standing
-use Rattle.schedule.specs.Uses.{IsReached, StandsWithin, Host, Computed, Inlined, HasUsesWithin, HasHostAtRoot, IsRootReached}
+use Rattle.schedule.specs.Uses.{IsReached, StandsWithin, Consumer, Computed, Inlined, HasUsesWithin, HasConsumerAtRoot, IsRootReached}
 use Rattle.schedule.proofs.Uses.{IsThereReached, called_is_reached, numbered_at}
 use Rattle.bounds_inlining.specs.Inlining.{flagged}
 use Rattle.bounds_weights.specs.Weight.{flags_of}
@@ -49,23 +48,23 @@ module _ (pipeline : Pipeline) (schedule : Schedule) (accepted : IsAccepted pipe
       let r = read_reached between b.own b.there func through in
       record { reached = r.reached; before = omega (arith, r.before, before) }
 
-  module _ (func : ℕ) (own : Standing) (own_there : IsReached schedule.standings func own) (host : LoopPlace) (place_is : own.place ≡ places.At host) where
+  module _ (func : ℕ) (own : Standing) (own_there : IsReached schedule.standings func own) (consumer : LoopPlace) (place_is : own.place ≡ places.At consumer) where
     here : (n : ℕ) → 0 + n ≡ n
     here n = omega arith
 
     uses : HasUsesWithin pipeline schedule.funcs schedule.standings func own
     uses = subst (λ (n : ℕ). HasUsesWithin pipeline schedule.funcs schedule.standings n own) (here func) (numbered_at (HasUsesWithin pipeline schedule.funcs schedule.standings) 0 schedule.standings accepted.uses func own own_there.standing)
 
-    rooted : IsRootReached schedule.standings host.func
+    rooted : IsRootReached schedule.standings consumer.func
     rooted =
-        let h : HasHostAtRoot schedule.standings func own = subst (λ (n : ℕ). HasHostAtRoot schedule.standings n own) (here func) (numbered_at (HasHostAtRoot schedule.standings) 0 schedule.standings accepted.hosts_at_root func own own_there.standing) in
-        h own_there.reached host place_is
+        let h : HasConsumerAtRoot schedule.standings func own = subst (λ (n : ℕ). HasConsumerAtRoot schedule.standings n own) (here func) (numbered_at (HasConsumerAtRoot schedule.standings) 0 schedule.standings accepted.consumers_at_root func own own_there.standing) in
+        h own_there.reached consumer place_is
 
     -- an inlined Func within the loop has its readers there
-    passed_on : (between : ℕ) (its : Standing) → IsReached schedule.standings between its → is_inlined its.place ≡ true → StandsWithin pipeline schedule.funcs schedule.standings host between
-        → (reader : ℕ) (reading : Standing) → between < reader → IsReached schedule.standings reader reading → place_calls pipeline reader between ≡ true → StandsWithin pipeline schedule.funcs schedule.standings host reader
-    passed_on between its there inlined Host reader reading before reading_there called =
-        let same = one_standing schedule.standings host.func its rooted.own there.standing rooted.there.standing in
+    passed_on : (between : ℕ) (its : Standing) → IsReached schedule.standings between its → is_inlined its.place ≡ true → StandsWithin pipeline schedule.funcs schedule.standings consumer between
+        → (reader : ℕ) (reading : Standing) → between < reader → IsReached schedule.standings reader reading → place_calls pipeline reader between ≡ true → StandsWithin pipeline schedule.funcs schedule.standings consumer reader
+    passed_on between its there inlined Consumer reader reading before reading_there called =
+        let same = one_standing schedule.standings consumer.func its rooted.own there.standing rooted.there.standing in
         let wrong : is_inlined places.Root ≡ true = ap is_inlined (sym (ap (λ (s : Standing). s.place) same ∙ rooted.root)) ∙ inlined in
         absurd cc
     passed_on between its there inlined (Computed _ other at other_there other_place within) reader reading before reading_there called =
@@ -74,14 +73,14 @@ module _ (pipeline : Pipeline) (schedule : Schedule) (accepted : IsAccepted pipe
         absurd cc
     passed_on between its there inlined (Inlined _ other other_there other_place callers) reader reading before reading_there called = callers reader reading before reading_there called
 
-    within : (reader : ℕ) (its : Standing) → IsReached schedule.standings reader its → ReadsThrough pipeline schedule.standings reader func → StandsWithin pipeline schedule.funcs schedule.standings host reader
-    within reader its there (Calls _ _ before called) = uses host place_is reader its before there called
+    within : (reader : ℕ) (its : Standing) → IsReached schedule.standings reader its → ReadsThrough pipeline schedule.standings reader func → StandsWithin pipeline schedule.funcs schedule.standings consumer reader
+    within reader its there (Calls _ _ before called) = uses consumer place_is reader its before there called
     within reader its there (Through _ between _ before flag called through) =
         let b = called_reached reader its there between before called in
         passed_on between b.own b.there (sym (flag_is schedule.standings between b.own b.there.standing) ∙ flag) (within between b.own b.there through) reader its before there called
 
-    stands : (reader : ℕ) (its : Standing) → IsReached schedule.standings reader its → IsComputed reader its.place → StandsWithin pipeline schedule.funcs schedule.standings host reader → StandsAt schedule host reader
-    stands reader its there computed Host = HasLoop refl
+    stands : (reader : ℕ) (its : Standing) → IsReached schedule.standings reader its → IsComputed reader its.place → StandsWithin pipeline schedule.funcs schedule.standings consumer reader → StandsAt schedule consumer reader
+    stands reader its there computed Consumer = HasLoop refl
     stands reader its there computed (Computed _ other at other_there other_place inside) = IsWithin other at other_there other_place inside
     stands reader its there computed (Inlined _ other other_there other_place callers) =
         let same = one_standing schedule.standings reader its other there.standing other_there.standing in
@@ -94,7 +93,7 @@ readers_stand_within pipeline schedule accepted reader its there computed func t
       own = read.reached.own;
       there = read.reached.there;
       before = read.before;
-      within = λ host place_is.
-          stands pipeline schedule accepted func read.reached.own read.reached.there host place_is reader its there computed
-          (within pipeline schedule accepted func read.reached.own read.reached.there host place_is reader its there through);
+      within = λ consumer place_is.
+          stands pipeline schedule accepted func read.reached.own read.reached.there consumer place_is reader its there computed
+          (within pipeline schedule accepted func read.reached.own read.reached.there consumer place_is reader its there through);
     }

@@ -13,10 +13,9 @@ use Rattle.halide_pipeline.specs.declared.expressions.Source.{Source}
 use Rattle.halide_pipeline.specs.declared.expressions.Source.TheVariants as sources
 use Rattle.halide_pipeline.specs.declared.expressions.Variable.{Variable}
 use Rattle.halide_pipeline.specs.declared.expressions.Variable.TheVariants as variables
-use Rattle.halide_pipeline.specs.Definitions.{dimensions, is_first_in_place, is_second, is_second_in_place}
+use Rattle.halide_pipeline.specs.WellFormed.{dimensions, is_first_in_place, is_second, is_second_in_place, IsWellFormed, IsUpdate, Placed, placed_at, calls_in_place, is_own_call, is_alone, is_argument, is_update_variable, is_func_of, is_read, keeps, keeps_index}
 use Rattle.halide_pipeline.specs.Expressions.{is_variable_at, is_variable}
 use Rattle.halide_pipeline.specs.Pipelines.{Pipeline}
-use Rattle.halide_pipeline.specs.WellFormed.{IsWellFormed, IsUpdate, Placed, placed_at, calls_in_place, is_own_call, is_alone, is_argument, is_update_variable, is_func_of, is_read, keeps, keeps_index}
 use Rattle.halide_pipeline.specs.declared.environments.Environment.{Environment}
 use Rattle.halide_pipeline.specs.Pixel.{Reads, variable, at_reduction}
 use Rattle.halide_pipeline.specs.Points.{Point, Seen}
@@ -29,9 +28,9 @@ use Rattle.bounds_inlining.specs.Values.{seeing, unread, second_points}
 use Rattle.bounds_inlining.proofs.KeptFolds.{KeptLevels, kept_folds_related}
 use Rattle.bounds_inlining.proofs.Steps.{inside_is}
 use Rattle.bounds_weights.specs.Weight.{flags_of}
-use Rattle.bounds_laws.specs.HostLaws.{IsInPlace, OwnReadsStay}
+use Rattle.bounds_laws.specs.ConsumerLaws.{IsInPlace, OwnReadsStay}
 use Rattle.bounds_laws.specs.Laws.{seen_in, second_seen, update_points}
-use Rattle.bounds.specs.Sources.{same_source}
+use Rattle.bounds.specs.Boxes.{same_source}
 
 -- a point of an input or of one of the first so many Funcs
 abbrev pub IsBelow : ℕ → Source → Type 0

@@ -10,9 +10,8 @@ use Rattle.halide_pipeline.specs.declared.expressions.Expr.{Expr}
 use Rattle.halide_pipeline.specs.declared.expressions.Source.TheVariants as sources
 use Rattle.halide_pipeline.specs.declared.expressions.Variable.{Variable}
 use Rattle.halide_pipeline.specs.declared.expressions.Variable.TheVariants as variables
-use Rattle.halide_pipeline.specs.Definitions.{dimensions}
+use Rattle.halide_pipeline.specs.WellFormed.{dimensions, IsWellFormed, IsFunc, IsUpdate, is_update_variable, is_minimum, is_width, is_box, is_height, most_extent, most_points, is_second_minimum, keeps, keeps_index, is_read}
 use Rattle.halide_pipeline.specs.Pipelines.{Pipeline}
-use Rattle.halide_pipeline.specs.WellFormed.{IsWellFormed, IsFunc, IsUpdate, is_update_variable, is_minimum, is_width, is_box, is_height, most_extent, most_points, is_second_minimum, keeps, keeps_index, is_read}
 use Rattle.halide_pipeline.specs.WellFormed as formed
 use Rattle.halide_pipeline.specs.Words.{add}
 use Rattle.halide_pipeline.specs.declared.environments.Environment.{Environment}
@@ -23,13 +22,14 @@ use Rattle.bounds_inlining.specs.Inlining.{flagged}
 use Rattle.bounds_ranges.specs.declared.expressions.Asked.{Asked}
 use Rattle.bounds_ranges.specs.Expressions.{range_of, ranges_where}
 use Rattle.bounds_ranges.specs.Laws.{Below, Lies, AllLie, Covers, AnswerWords}
-use Rattle.bounds_ranges.specs.Ranges.{origin, spot, literal}
+use Rattle.bounds_ranges.specs.Ranges.{literal}
+use Rattle.bounds_ranges.specs.Numbers.{origin, spot}
 use Rattle.bounds_ranges.proofs.Division.{literal_lies}
 use Rattle.bounds_ranges.proofs.Lying.{plain_lies}
 use Rattle.bounds_ranges.proofs.Operations.{update_ranges_cover}
 use Rattle.bounds_weights.specs.Weight.{flags_of}
 use Rattle.bounds.specs.declared.boxes.SourceBox.{SourceBox}
-use Rattle.bounds.specs.Asks.{reduction_range, second_range, update_variables, own_calls, left, second_left, right, left_read, update_asked}
+use Rattle.bounds.specs.Inference.{reduction_range, second_range, update_variables, own_calls, left, second_left, right, left_read, update_asked}
 use Rattle.bounds_laws.specs.Laws.{LiesIn, IsNear, seen_in, second_seen, points_at}
 
 -- ---- lists of points, one behind the other

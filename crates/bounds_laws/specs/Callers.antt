@@ -15,8 +15,7 @@ use Rattle.schedule.specs.declared.standings.LoopPlace.{LoopPlace}
 use Rattle.schedule.specs.declared.standings.Place.TheVariants as places
 use Rattle.schedule.specs.declared.standings.Standing.{Standing}
 use Rattle.schedule.specs.Accepted.{IsAccepted}
-use Rattle.schedule.specs.Calls.{place_calls}
-use Rattle.schedule.specs.Standing.{is_within}
+use Rattle.schedule.specs.Standing.{place_calls, is_within}
 use Rattle.schedule.specs.Uses.{IsReached}
 use Rattle.bounds_inlining.specs.Inlining.{flagged}
 use Rattle.bounds_weights.specs.Weight.{flags_of}
@@ -52,16 +51,16 @@ UpdatePointsAreReadThrough = (pipeline : Pipeline) (schedule : Schedule) → IsW
     → AreReadThrough pipeline schedule.standings reader (suc reader) (update_points pipeline schedule reads reader update number x y)
 
 -- It is the Func that has the loop, or it is computed at that loop or at one inside it.
-pub data StandsAt (schedule : Schedule) (host : LoopPlace) (reader : ℕ) : Type 0 where
-  HasLoop : reader ≡ host.func → StandsAt schedule host reader
-  IsWithin : (own : Standing) (at : LoopPlace) → IsReached schedule.standings reader own → own.place ≡ places.At at → is_within schedule.funcs host at ≡ true → StandsAt schedule host reader
+pub data StandsAt (schedule : Schedule) (consumer : LoopPlace) (reader : ℕ) : Type 0 where
+  HasLoop : reader ≡ consumer.func → StandsAt schedule consumer reader
+  IsWithin : (own : Standing) (at : LoopPlace) → IsReached schedule.standings reader own → own.place ≡ places.At at → is_within schedule.funcs consumer at ≡ true → StandsAt schedule consumer reader
 
 -- What a Func that is computed reads of others is reached and computed; and where that is at a loop, the reader stands at it.
 pub record IsReadWithin (schedule : Schedule) (reader func : ℕ) : Type 0 where
   pub own : Standing
   pub there : IsReached schedule.standings func own
   pub before : func < reader
-  pub within : (host : LoopPlace) → own.place ≡ places.At host → StandsAt schedule host reader
+  pub within : (consumer : LoopPlace) → own.place ≡ places.At consumer → StandsAt schedule consumer reader
 
 abbrev pub ReadersStandWithin : Type 0
 ReadersStandWithin = (pipeline : Pipeline) (schedule : Schedule) → IsAccepted pipeline schedule

@@ -5,9 +5,8 @@ use Rattle.halide_pipeline.specs.declared.definitions.Func.{Func}
 use Rattle.halide_pipeline.specs.declared.definitions.Input.{Input}
 use Rattle.halide_pipeline.specs.declared.expressions.Source.{Source}
 use Rattle.halide_pipeline.specs.declared.expressions.Source.TheVariants as sources
-use Rattle.halide_pipeline.specs.Definitions.{dimensions}
+use Rattle.halide_pipeline.specs.WellFormed.{dimensions, IsWellFormed}
 use Rattle.halide_pipeline.specs.Pipelines.{Pipeline}
-use Rattle.halide_pipeline.specs.WellFormed.{IsWellFormed}
 use Rattle.halide_pipeline.specs.Pixel.{Planes, reads_of, pixels}
 use Rattle.halide_pipeline.specs.Points.{Point, Hold, pixel_trace}
 use Rattle.schedule.specs.declared.schedules.Schedule.{Schedule}
@@ -15,9 +14,9 @@ use Rattle.schedule.specs.declared.standings.Standing.{Standing}
 use Rattle.schedule.specs.Accepted.{IsAccepted}
 use Rattle.schedule.specs.Legal.{is_inlined}
 use Rattle.bounds_ranges.specs.declared.ranges.Range.{Range}
-use Rattle.bounds_ranges.specs.Bases.{no_base, more_sum, less_sum}
+use Rattle.bounds_ranges.specs.Ranges.{no_base, more_sum, less_sum}
 use Rattle.bounds_ranges.specs.Laws.{AnswerWords}
-use Rattle.bounds_ranges.specs.Ranges.{origin, least, greatest, spot}
+use Rattle.bounds_ranges.specs.Numbers.{origin, least, greatest, spot}
 use Rattle.bounds.specs.declared.boxes.SourceBox.{SourceBox}
 use Rattle.bounds.specs.declared.verdict.Boxes.{Boxes}
 use Rattle.bounds.specs.Verdict.{inferred}
@@ -45,7 +44,7 @@ lies lasts values range x =
 abbrev pub lies_in : SourceBox → ℕ → ℕ → List ℕ → Bool
 lies_in own x y values = lies own.lasts values own.x x && lies own.lasts values own.y y
 
--- under some values of the loops of the host, if there is a host
+-- under some values of the loops of the consumer, if there is a consumer
 abbrev pub is_boxed : Option (Option SourceBox) → ℕ → ℕ → Bool
 is_boxed None x y = false
 is_boxed (Some None) x y = false

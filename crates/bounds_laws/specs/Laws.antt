@@ -7,9 +7,8 @@ use Rattle.halide_pipeline.specs.declared.definitions.Update.{Update}
 use Rattle.halide_pipeline.specs.declared.expressions.Expr.{Expr}
 use Rattle.halide_pipeline.specs.declared.expressions.Source.{Source}
 use Rattle.halide_pipeline.specs.declared.expressions.Source.TheVariants as sources
-use Rattle.halide_pipeline.specs.Definitions.{is_first_in_place, is_second_in_place}
+use Rattle.halide_pipeline.specs.WellFormed.{is_first_in_place, is_second_in_place, IsWellFormed}
 use Rattle.halide_pipeline.specs.Pipelines.{Pipeline}
-use Rattle.halide_pipeline.specs.WellFormed.{IsWellFormed}
 use Rattle.halide_pipeline.specs.declared.environments.Environment.{Environment}
 use Rattle.halide_pipeline.specs.Pixel.{Reads, at_point, at_reduction, points}
 use Rattle.halide_pipeline.specs.Points.{Point, Seen}
@@ -21,14 +20,14 @@ use Rattle.bounds_inlining.specs.Inlining.{inlined, flagged}
 use Rattle.bounds_inlining.specs.Laws.{seen_variable}
 use Rattle.bounds_inlining.specs.Values.{seeing}
 use Rattle.bounds_ranges.specs.Laws.{Below, Lies, AnswerWords}
-use Rattle.bounds_ranges.specs.Ranges.{origin, spot}
+use Rattle.bounds_ranges.specs.Numbers.{origin, spot}
 use Rattle.bounds_weights.specs.Weight.{flags_of}
-use Rattle.bounds.specs.declared.boxes.HostLoop.{HostLoop}
+use Rattle.bounds.specs.declared.boxes.ConsumerLoop.{ConsumerLoop}
 use Rattle.bounds.specs.declared.boxes.SourceBox.{SourceBox}
 use Rattle.bounds.specs.declared.verdict.Boxes.{Boxes}
-use Rattle.bounds.specs.Boxes.{box_in, no_loops, lasts_of}
-use Rattle.bounds.specs.Inference.{host_of}
-use Rattle.bounds.specs.Sources.{same_source}
+use Rattle.bounds.specs.Boxes.{no_loops, lasts_of, same_source}
+use Rattle.bounds.specs.Extents.{box_in}
+use Rattle.bounds.specs.Inference.{consumer_of}
 use Rattle.bounds.specs.Verdict.{inferred}
 use Rattle.bounds.specs.Views.{view_of}
 
@@ -37,10 +36,10 @@ pub record LiesIn (values : List ℕ) (own : SourceBox) (x y : ℕ) : Type 0 whe
   pub first : Lies own.lasts values own.x x
   pub second : Lies own.lasts values own.y y
 
--- the values of the host's loops, where there is a host
-abbrev pub values_for : Option HostLoop → List ℕ → List ℕ
+-- the values of the consumer's loops, where there is a consumer
+abbrev pub values_for : Option ConsumerLoop → List ℕ → List ℕ
 values_for None values = no_loops
-values_for (Some host) values = values
+values_for (Some consumer) values = values
 
 -- There is a box, and the point lies in it; nothing is said where there is no such source.
 abbrev pub IsBoxed : List ℕ → Option (Option SourceBox) → ℕ → ℕ → Type 0
@@ -68,9 +67,9 @@ PureReadsOfInputsLie = (pipeline : Pipeline) (schedule : Schedule) (boxes : Boxe
 -- ---- Funcs
 
 -- the loop at which a Func with this place is computed
-abbrev pub host_in : Schedule → List (Option SourceBox) → Place → Option HostLoop
-host_in schedule boxes (places.At at) = host_of at (slice_get schedule.funcs at.func) (box_in (slice_get boxes at.func))
-host_in schedule boxes _ = None
+abbrev pub consumer_in : Schedule → List (Option SourceBox) → Place → Option ConsumerLoop
+consumer_in schedule boxes (places.At at) = consumer_of at (slice_get schedule.funcs at.func) (box_in (slice_get boxes at.func))
+consumer_in schedule boxes _ = None
 
 -- A Func is computed at root, or at a loop of a Func behind it.
 abbrev pub IsComputed : ℕ → Place → Type 0
@@ -80,16 +79,16 @@ IsComputed func places.Inlined = ⊥
 IsComputed func places.Nowhere = ⊥
 
 -- Wherever loops take the arguments of a Func, all that its pure definition reads there of another Func that is computed lies in the box of
--- that one, while the loops of the host have these values.
+-- that one, while the loops of the consumer have these values.
 abbrev pub PureReadsOfFuncsLie : Type 0
 PureReadsOfFuncsLie = (pipeline : Pipeline) (schedule : Schedule) (boxes : Boxes) → IsWellFormed pipeline → inferred pipeline schedule ≡ Ok boxes
     → (reader : ℕ) (func : Func) (own : SourceBox) → slice_get pipeline.funcs reader ≡ Some func → slice_get boxes.funcs reader ≡ Some (Some own)
     → (place : ℕ) (sought : Standing) → place < reader → slice_get schedule.standings place ≡ Some sought → sought.is_reached ≡ true → IsComputed place sought.place
-    → (host : Option HostLoop) → host_in schedule boxes.funcs sought.place ≡ host
-    → (view : SourceBox) → view_of (slice_get schedule.funcs reader) (slice_get schedule.standings reader) own host ≡ view
+    → (consumer : Option ConsumerLoop) → consumer_in schedule boxes.funcs sought.place ≡ consumer
+    → (view : SourceBox) → view_of (slice_get schedule.funcs reader) (slice_get schedule.standings reader) own consumer ≡ view
     → (reads : Reads) → AnswerWords pipeline.inputs reads
-    → (values : List ℕ) → Below values view.lasts → Below (values_for host values) (lasts_of host) → (x y : ℕ) → LiesIn values view x y
-    → AreBoxed (values_for host values) (sources.Func place) (slice_get boxes.funcs place) (pure_points pipeline schedule reads reader func x y)
+    → (values : List ℕ) → Below values view.lasts → Below (values_for consumer values) (lasts_of consumer) → (x y : ℕ) → LiesIn values view x y
+    → AreBoxed (values_for consumer values) (sources.Func place) (slice_get boxes.funcs place) (pure_points pipeline schedule reads reader func x y)
 
 -- ---- updates
 
@@ -136,12 +135,12 @@ UpdateReadsOfFuncsLie = (pipeline : Pipeline) (schedule : Schedule) (boxes : Box
     → (reader : ℕ) (func : Func) (own : SourceBox) → slice_get pipeline.funcs reader ≡ Some func → slice_get boxes.funcs reader ≡ Some (Some own)
     → (at : ℕ) (update : Update) → slice_get func.updates at ≡ Some update
     → (place : ℕ) (sought : Standing) → place < reader → slice_get schedule.standings place ≡ Some sought → sought.is_reached ≡ true → IsComputed place sought.place
-    → (host : Option HostLoop) → host_in schedule boxes.funcs sought.place ≡ host
-    → (view : SourceBox) → view_of (slice_get schedule.funcs reader) (slice_get schedule.standings reader) own host ≡ view
+    → (consumer : Option ConsumerLoop) → consumer_in schedule boxes.funcs sought.place ≡ consumer
+    → (view : SourceBox) → view_of (slice_get schedule.funcs reader) (slice_get schedule.standings reader) own consumer ≡ view
     → (reads : Reads) → AnswerWords pipeline.inputs reads
-    → (values : List ℕ) → Below values view.lasts → Below (values_for host values) (lasts_of host) → (x y : ℕ) → LiesIn values view x y → IsNear x → IsNear y
+    → (values : List ℕ) → Below values view.lasts → Below (values_for consumer values) (lasts_of consumer) → (x y : ℕ) → LiesIn values view x y → IsNear x → IsNear y
     → (number : ℕ) → number < points update
-    → AreBoxed (values_for host values) (sources.Func place) (slice_get boxes.funcs place) (update_points pipeline schedule reads reader update number x y)
+    → AreBoxed (values_for consumer values) (sources.Func place) (slice_get boxes.funcs place) (update_points pipeline schedule reads reader update number x y)
 
 -- ---- a Func's own box
 

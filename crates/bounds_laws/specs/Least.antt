@@ -10,28 +10,24 @@ use Rattle.halide_pipeline.specs.declared.definitions.Output.{Output}
 use Rattle.halide_pipeline.specs.declared.definitions.Update.{Update}
 use Rattle.halide_pipeline.specs.declared.expressions.Source.{Source}
 use Rattle.halide_pipeline.specs.declared.expressions.Source.TheVariants as sources
-use Rattle.halide_pipeline.specs.Definitions.{is_first_in_place, is_second_in_place}
+use Rattle.halide_pipeline.specs.WellFormed.{is_first_in_place, is_second_in_place, IsWellFormed}
 use Rattle.halide_pipeline.specs.Pipelines.{Pipeline}
-use Rattle.halide_pipeline.specs.WellFormed.{IsWellFormed}
 use Rattle.schedule.specs.declared.schedules.Schedule.{Schedule}
 use Rattle.schedule.specs.declared.standings.Standing.{Standing}
 use Rattle.schedule.specs.Accepted.{IsAccepted}
 use Rattle.bounds_ranges.specs.declared.expressions.Asked.{Asked}
 use Rattle.bounds_ranges.specs.declared.ranges.Ends.{Ends}
 use Rattle.bounds_ranges.specs.declared.ranges.Range.{Range}
-use Rattle.bounds_ranges.specs.Bases.{no_base, same_base}
-use Rattle.bounds_ranges.specs.Ranges.{ends_of, widened}
+use Rattle.bounds_ranges.specs.Ranges.{no_base, same_base, ends_of, widened}
 use Rattle.bounds_weights.specs.Weight.{flags_of}
-use Rattle.bounds.specs.declared.boxes.HostLoop.{HostLoop}
+use Rattle.bounds.specs.declared.boxes.ConsumerLoop.{ConsumerLoop}
 use Rattle.bounds.specs.declared.boxes.SourceBox.{SourceBox}
 use Rattle.bounds.specs.declared.verdict.Boxes.{Boxes}
-use Rattle.bounds.specs.Asks.{update_asked, func_asked, unplaced}
-use Rattle.bounds.specs.Boxes.{no_loops, lasts_of, taken}
-use Rattle.bounds.specs.Inference.{pixels_range}
-use Rattle.bounds.specs.Sources.{same_source}
+use Rattle.bounds.specs.Inference.{update_asked, func_asked, unplaced, pixels_range}
+use Rattle.bounds.specs.Boxes.{no_loops, lasts_of, taken, same_source}
 use Rattle.bounds.specs.Verdict.{inferred}
 use Rattle.bounds.specs.Views.{view_of}
-use Rattle.bounds_laws.specs.Laws.{host_in}
+use Rattle.bounds_laws.specs.Laws.{consumer_in}
 
 -- ---- the least range that holds all of a list
 
@@ -59,66 +55,66 @@ pub record IsLeast (lasts : List ℕ) (all : List Range) (own : Range) : Type 0 
 
 module _ (side : Asked → Range) where
   -- among these reads
-  abbrev pub asked_of : Option HostLoop → List ℕ → Source → List Asked → List Range
-  asked_of host lasts source [] = []
-  asked_of host lasts source (read ∷ others) =
-      if same_source read.source source then taken host lasts (side read) ∷ asked_of host lasts source others else asked_of host lasts source others
+  abbrev pub asked_of : Option ConsumerLoop → List ℕ → Source → List Asked → List Range
+  asked_of consumer lasts source [] = []
+  asked_of consumer lasts source (read ∷ others) =
+      if same_source read.source source then taken consumer lasts (side read) ∷ asked_of consumer lasts source others else asked_of consumer lasts source others
 
   module _ (pipeline : Pipeline) (schedule : Schedule) where
     -- by the updates of the Func itself, but those in which this dimension is in place
-    abbrev pub asked_by_updates : (Update → Bool) → ℕ → Option HostLoop → List Update → List Range
-    asked_by_updates is_in_place at host [] = []
-    asked_by_updates is_in_place at host (update ∷ others) =
-        (if is_in_place update then [] else asked_of host no_loops (sources.Func at) (update_asked pipeline.inputs pipeline.funcs (flags_of schedule.standings) at unplaced update))
-        ++ asked_by_updates is_in_place at host others
+    abbrev pub asked_by_updates : (Update → Bool) → ℕ → Option ConsumerLoop → List Update → List Range
+    asked_by_updates is_in_place at consumer [] = []
+    asked_by_updates is_in_place at consumer (update ∷ others) =
+        (if is_in_place update then [] else asked_of consumer no_loops (sources.Func at) (update_asked pipeline.inputs pipeline.funcs (flags_of schedule.standings) at unplaced update))
+        ++ asked_by_updates is_in_place at consumer others
 
-    abbrev pub asked_by_func : ℕ → SourceBox → Option HostLoop → Source → Option Func → List Range
-    asked_by_func reader view host source None = []
-    asked_by_func reader view host source (Some func) =
-        asked_of host view.lasts source (func_asked pipeline.inputs pipeline.funcs (flags_of schedule.standings) reader view func)
+    abbrev pub asked_by_func : ℕ → SourceBox → Option ConsumerLoop → Source → Option Func → List Range
+    asked_by_func reader view consumer source None = []
+    asked_by_func reader view consumer source (Some func) =
+        asked_of consumer view.lasts source (func_asked pipeline.inputs pipeline.funcs (flags_of schedule.standings) reader view func)
 
-    abbrev pub asked_by : ℕ → Option HostLoop → Source → Option SourceBox → List Range
-    asked_by reader host source None = []
-    asked_by reader host source (Some own) =
-        asked_by_func reader (view_of (slice_get schedule.funcs reader) (slice_get schedule.standings reader) own host) host source (slice_get pipeline.funcs reader)
+    abbrev pub asked_by : ℕ → Option ConsumerLoop → Source → Option SourceBox → List Range
+    asked_by reader consumer source None = []
+    asked_by reader consumer source (Some own) =
+        asked_by_func reader (view_of (slice_get schedule.funcs reader) (slice_get schedule.standings reader) own consumer) consumer source (slice_get pipeline.funcs reader)
 
     -- by the Funcs from a place on, which have these boxes
-    abbrev pub asked_from : ℕ → Option HostLoop → Source → List (Option SourceBox) → List Range
-    asked_from reader host source [] = []
-    asked_from reader host source (first ∷ others) = asked_by reader host source first ++ asked_from (reader + 1) host source others
+    abbrev pub asked_from : ℕ → Option ConsumerLoop → Source → List (Option SourceBox) → List Range
+    asked_from reader consumer source [] = []
+    asked_from reader consumer source (first ∷ others) = asked_by reader consumer source first ++ asked_from (reader + 1) consumer source others
 
 -- the output's picture, of so many pixels
-abbrev pub wanted_of : Output → ℕ → Option HostLoop → ℕ → List Range
-wanted_of output at host count = if at == output.func then pixels_range (lasts_of host) count ∷ [] else []
+abbrev pub wanted_of : Output → ℕ → Option ConsumerLoop → ℕ → List Range
+wanted_of output at consumer count = if at == output.func then pixels_range (lasts_of consumer) count ∷ [] else []
 
 -- of the Func at a place: as picture, by its own updates, by later Funcs
-abbrev pub columns_asked : Pipeline → Schedule → List (Option SourceBox) → ℕ → Option HostLoop → Func → List Range
-columns_asked pipeline schedule boxes at host func =
-    wanted_of pipeline.output at host pipeline.output.width
-    ++ (asked_by_updates (λ read. read.x) pipeline schedule is_first_in_place at host func.updates
-    ++ asked_from (λ read. read.x) pipeline schedule (at + 1) host (sources.Func at) (drop (at + 1) boxes))
+abbrev pub columns_asked : Pipeline → Schedule → List (Option SourceBox) → ℕ → Option ConsumerLoop → Func → List Range
+columns_asked pipeline schedule boxes at consumer func =
+    wanted_of pipeline.output at consumer pipeline.output.width
+    ++ (asked_by_updates (λ read. read.x) pipeline schedule is_first_in_place at consumer func.updates
+    ++ asked_from (λ read. read.x) pipeline schedule (at + 1) consumer (sources.Func at) (drop (at + 1) boxes))
 
-abbrev pub rows_asked : Pipeline → Schedule → List (Option SourceBox) → ℕ → Option HostLoop → Func → List Range
-rows_asked pipeline schedule boxes at host func =
-    wanted_of pipeline.output at host pipeline.output.height
-    ++ (asked_by_updates (λ read. read.y) pipeline schedule is_second_in_place at host func.updates
-    ++ asked_from (λ read. read.y) pipeline schedule (at + 1) host (sources.Func at) (drop (at + 1) boxes))
+abbrev pub rows_asked : Pipeline → Schedule → List (Option SourceBox) → ℕ → Option ConsumerLoop → Func → List Range
+rows_asked pipeline schedule boxes at consumer func =
+    wanted_of pipeline.output at consumer pipeline.output.height
+    ++ (asked_by_updates (λ read. read.y) pipeline schedule is_second_in_place at consumer func.updates
+    ++ asked_from (λ read. read.y) pipeline schedule (at + 1) consumer (sources.Func at) (drop (at + 1) boxes))
 
 -- ---- the boxes
 
--- It is the least in both dimensions, over the loops of its host.
-pub record IsLeastBox (host : Option HostLoop) (columns rows : List Range) (own : SourceBox) : Type 0 where
-  pub lasts_are : own.lasts ≡ lasts_of host
-  pub columns_are : IsLeast (lasts_of host) columns own.x
-  pub rows_are : IsLeast (lasts_of host) rows own.y
+-- It is the least in both dimensions, over the loops of its consumer.
+pub record IsLeastBox (consumer : Option ConsumerLoop) (columns rows : List Range) (own : SourceBox) : Type 0 where
+  pub lasts_are : own.lasts ≡ lasts_of consumer
+  pub columns_are : IsLeast (lasts_of consumer) columns own.x
+  pub rows_are : IsLeast (lasts_of consumer) rows own.y
 
 -- That of a Func is the least that holds what is asked of it.
 abbrev pub FuncBoxesAreLeast : Type 0
 FuncBoxesAreLeast = (pipeline : Pipeline) (schedule : Schedule) (boxes : Boxes) → IsWellFormed pipeline → IsAccepted pipeline schedule → inferred pipeline schedule ≡ Ok boxes
     → (at : ℕ) (func : Func) (standing : Standing) (own : SourceBox)
     → slice_get pipeline.funcs at ≡ Some func → slice_get schedule.standings at ≡ Some standing → slice_get boxes.funcs at ≡ Some (Some own)
-    → let host = host_in schedule boxes.funcs standing.place in
-    IsLeastBox host (columns_asked pipeline schedule boxes.funcs at host func) (rows_asked pipeline schedule boxes.funcs at host func) own
+    → let consumer = consumer_in schedule boxes.funcs standing.place in
+    IsLeastBox consumer (columns_asked pipeline schedule boxes.funcs at consumer func) (rows_asked pipeline schedule boxes.funcs at consumer func) own
 
 -- So is that of an input.
 abbrev pub InputBoxesAreLeast : Type 0

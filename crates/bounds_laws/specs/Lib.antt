@@ -1,6 +1,6 @@
 pub mod Laws
 pub mod Callers
-pub mod HostLaws
+pub mod ConsumerLaws
 pub mod Closure
 pub mod Reached
 pub mod Least

@@ -11,7 +11,7 @@ use Rattle.schedule.specs.Accepted.{IsAccepted}
 use Rattle.schedule.specs.Legal.{is_root}
 use Rattle.bounds_weights.specs.Weight.{is_computed}
 use Rattle.bounds.specs.declared.verdict.Boxes.{Boxes}
-use Rattle.bounds.specs.Boxes.{box_in}
+use Rattle.bounds.specs.Extents.{box_in}
 use Rattle.bounds.specs.Verdict.{inferred}
 
 -- The Func at a place is computed: the output reaches it, and it isn't inlined.

@@ -11,8 +11,7 @@ use Rattle.schedule.specs.declared.plans.FuncPlan.{FuncPlan}
 use Rattle.schedule.specs.declared.standings.LoopPlace.{LoopPlace}
 use Rattle.schedule.specs.declared.standings.Place.TheVariants as places
 use Rattle.schedule.specs.declared.standings.Standing.{Standing}
-use Rattle.schedule.specs.Calls.{place_calls}
-use Rattle.schedule.specs.Standing.{host, standings}
+use Rattle.schedule.specs.Standing.{place_calls, consumer, standings}
 use Rattle.schedule.specs.Uses.{IsReached, StandsWithin}
 
 -- Each later Func that is reached and calls the one at a place makes its reads within the loop.
@@ -29,7 +28,7 @@ pub record IsSaidAt (pipeline : Pipeline) (plans : List FuncPlan) (at : ℕ) (lo
   pub plan_is : slice_get plans at ≡ Some plan
   pub line_is : plan.compute ≡ Some line
   pub at_loop : line.computed ≡ computed.At names
-  pub loop_is : host pipeline plans at names ≡ loop
+  pub loop_is : consumer pipeline plans at names ≡ loop
   pub no_output : at ≡ pipeline.output.func → ⊥
 
 -- It is computed there, or nowhere.

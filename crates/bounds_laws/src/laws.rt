@@ -18,7 +18,7 @@ pub fn pure_reads_of_inputs_lie()
 
 /// Wherever loops take the arguments of a Func, all that its pure definition reads there of another Func that is
 /// computed, also through inlined Funcs, lies in the box of that one: of a Func computed at a loop, in its box while
-/// the loops of the host have the same values.
+/// the loops of the consumer have the same values.
 pub fn pure_reads_of_funcs_lie()
     ensures { PureReadsOfFuncsLie }
 {}

@@ -7,11 +7,11 @@
 //!   (`specs/Callers.antt`, `specs/StandingWhere.antt`).
 //! - [`laws`]: **what is read lies in its box**, for all that the output's pixels read, with all that these read in
 //!   turn (`specs/Laws.antt`, `specs/Closure.antt`).
-//! - [`host_laws`]: so do the arguments to which loops take a Func, and what is read there of a Func at a loop
-//!   (`specs/HostLaws.antt`).
+//! - [`consumer_laws`]: so do the arguments to which loops take a Func, and what is read there of a Func at a loop
+//!   (`specs/ConsumerLaws.antt`).
 #![tactic(auto)]
 
 pub mod box_laws;
 pub mod caller_laws;
-pub mod host_laws;
+pub mod consumer_laws;
 pub mod laws;

@@ -4,7 +4,8 @@ use Rattle.std.proofs.lemmas.Bool.{le-leb, lt-leb, lt-ltb, le-ltb, ne_eqb, cases
 use Rattle.std.proofs.Math.Nat.{mod-lt, div-lt_iff_lt-mul, div-le_self}
 use Rattle.halide_pipeline.specs.Words.{divide, remainder}
 use Rattle.bounds_ranges.specs.declared.ranges.Range.{Range}
-use Rattle.bounds_ranges.specs.Ranges.{origin, spot, widened, divided_end, divided_ends, divided, remainders, literal}
+use Rattle.bounds_ranges.specs.Ranges.{widened, divided_end, divided_ends, divided, remainders, literal}
+use Rattle.bounds_ranges.specs.Numbers.{origin, spot}
 use Rattle.bounds_ranges.specs.Laws.{Below, Lies}
 use Rattle.bounds_ranges.proofs.Lying.{widened_stands, plain_lies}
 

@@ -5,8 +5,8 @@ use Rattle.std.proofs.lemmas.Bool.{leb-true}
 use Rattle.bounds_ranges.specs.declared.bases.Multiple.{Multiple}
 use Rattle.bounds_ranges.specs.declared.ranges.Ends.{Ends}
 use Rattle.bounds_ranges.specs.declared.ranges.Range.{Range}
-use Rattle.bounds_ranges.specs.Bases.{no_base, more_sum, less_sum}
-use Rattle.bounds_ranges.specs.Ranges.{least, greatest, spot, between, every, fit, widened}
+use Rattle.bounds_ranges.specs.Ranges.{no_base, more_sum, less_sum, between, every, fit, widened}
+use Rattle.bounds_ranges.specs.Numbers.{least, greatest, spot}
 use Rattle.bounds_ranges.specs.Laws.{Below, Lies}
 use Rattle.bounds_ranges.proofs.Sums.{Small, more_below, less_below, no_more, no_less}
 

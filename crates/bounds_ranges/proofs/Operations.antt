@@ -28,8 +28,8 @@ use Rattle.bounds_ranges.specs.declared.ranges.Ends.{Ends}
 use Rattle.bounds_ranges.specs.declared.expressions.Asked.{Asked}
 use Rattle.bounds_ranges.specs.declared.expressions.OwnCalls.{OwnCalls}
 use Rattle.bounds_ranges.specs.declared.ranges.Range.{Range}
-use Rattle.bounds_ranges.specs.Bases.{no_base, add_base, negated, same_base, more_sum, less_sum}
-use Rattle.bounds_ranges.specs.Ranges.{origin, least, greatest, spot, between, every, ends_of, fit, widened, added, subtracted, aligned, together, lesser, greater, hull, truths, literal, operated}
+use Rattle.bounds_ranges.specs.Ranges.{no_base, add_base, negated, same_base, more_sum, less_sum, between, every, ends_of, fit, widened, added, subtracted, aligned, together, lesser, greater, hull, truths, literal, operated}
+use Rattle.bounds_ranges.specs.Numbers.{origin, least, greatest, spot}
 use Rattle.bounds_ranges.specs.Expressions.{Ranged, ranging, second_asked, unasked_variable, pixels_of, called, ranges_where, is_anywhere, chosen, ranged_update}
 use Rattle.bounds_ranges.specs.Laws.{Below, Lies, AllLie, Covers, AnswerWords, RangesCover, UpdateRangesCover}
 use Rattle.bounds_ranges.proofs.Sums.{more_below, less_below, add_sums, negated_more, negated_less, negated_small, same_sums}

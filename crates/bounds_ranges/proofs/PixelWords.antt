@@ -11,8 +11,7 @@ use Rattle.halide_pipeline.specs.declared.expressions.Source.{Source}
 use Rattle.halide_pipeline.specs.declared.expressions.Source.TheVariants as sources
 use Rattle.halide_pipeline.specs.declared.expressions.Variable.{Variable}
 use Rattle.halide_pipeline.specs.declared.expressions.Variable.TheVariants as variables
-use Rattle.halide_pipeline.specs.Definitions.{dimensions}
-use Rattle.halide_pipeline.specs.WellFormed.{keeps, is_read, is_argument, is_update_variable}
+use Rattle.halide_pipeline.specs.WellFormed.{dimensions, keeps, is_read, is_argument, is_update_variable}
 use Rattle.halide_pipeline.specs.Words.{add}
 use Rattle.halide_pipeline.specs.declared.environments.Environment.{Environment}
 use Rattle.halide_pipeline.specs.Pixel.{Plane, Planes, Reads, value, variable, reads_of, with_plane, at_point, at_reduction, second_value, is_hit, after, after_all, stage, func_plane, pixels, points}

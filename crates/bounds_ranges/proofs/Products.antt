@@ -8,8 +8,8 @@ use Rattle.halide_pipeline.specs.Words.{multiply}
 use Rattle.bounds_ranges.specs.declared.bases.Multiple.{Multiple}
 use Rattle.bounds_ranges.specs.declared.ranges.Ends.{Ends}
 use Rattle.bounds_ranges.specs.declared.ranges.Range.{Range}
-use Rattle.bounds_ranges.specs.Bases.{no_base, negated, times_base, same_base, more_sum, less_sum}
-use Rattle.bounds_ranges.specs.Ranges.{origin, least, greatest, spot, fit, widened, times_end, ordered, scaled, crossed, is_number, multiplied}
+use Rattle.bounds_ranges.specs.Ranges.{no_base, negated, times_base, same_base, more_sum, less_sum, fit, widened, times_end, ordered, scaled, crossed, is_number, multiplied}
+use Rattle.bounds_ranges.specs.Numbers.{origin, least, greatest, spot}
 use Rattle.bounds_ranges.specs.Laws.{Below, Lies}
 use Rattle.bounds_ranges.proofs.Sums.{more_below, less_below, no_more, no_less, same_sums, more_times, less_times, negated_more, negated_less}
 use Rattle.bounds_ranges.proofs.Lying.{small_of, widened_stands, fit_lies, plain_lies}

@@ -1,8 +1,8 @@
 -- Small ranges, by computing.
 use Rattle.std.proofs.Common.{◌≡◌, ℕ, ◌+◌, ◌-◌, List, [], ◌∷◌, refl}
 use Rattle.bounds_ranges.specs.declared.ranges.Range.{Range}
-use Rattle.bounds_ranges.specs.Bases.{zero_multiple}
-use Rattle.bounds_ranges.specs.Ranges.{origin, between, every, added, subtracted, multiplied, divided, remainders, literal, together, lesser, hull}
+use Rattle.bounds_ranges.specs.Ranges.{zero_multiple, between, every, added, subtracted, multiplied, divided, remainders, literal, together, lesser, hull}
+use Rattle.bounds_ranges.specs.Numbers.{origin}
 
 -- one loop with the values 0 to 5
 abbrev lasts : List ℕ

@@ -4,7 +4,7 @@ use Rattle.std.specs.Prelude.{min}
 use Rattle.std.proofs.lemmas.Bool.{and_parts, eqb-true, cases_lt}
 use Rattle.std.proofs.Math.Nat.{mul-le-mul_left}
 use Rattle.bounds_ranges.specs.declared.bases.Multiple.{Multiple}
-use Rattle.bounds_ranges.specs.Bases.{cut, zero_multiple, no_base, add_base, negated, times_base, same_multiple, same_base, more_sum, less_sum}
+use Rattle.bounds_ranges.specs.Ranges.{cut, zero_multiple, no_base, add_base, negated, times_base, same_multiple, same_base, more_sum, less_sum}
 use Rattle.bounds_ranges.specs.Laws.{Below}
 
 pub more_below : (base : List Multiple) (values lasts : List ℕ) → Below values lasts → more_sum base values ≤ more_sum base lasts

@@ -17,8 +17,8 @@ use Rattle.bounds_ranges.specs.declared.expressions.Asked.{Asked}
 use Rattle.bounds_ranges.specs.declared.expressions.OwnCalls.{OwnCalls}
 use Rattle.bounds_ranges.specs.declared.expressions.Variables.{Variables}
 use Rattle.bounds_ranges.specs.declared.ranges.Range.{Range}
-use Rattle.bounds_ranges.specs.Bases.{no_base}
-use Rattle.bounds_ranges.specs.Ranges.{IsFit, origin, between, fit, every, literal, together, hull, divided, remainders, operated}
+use Rattle.bounds_ranges.specs.Ranges.{no_base, IsFit, between, fit, every, literal, together, hull, divided, remainders, operated}
+use Rattle.bounds_ranges.specs.Numbers.{origin}
 
 abbrev pub pixels_of : Option Input → Range
 pixels_of None = every

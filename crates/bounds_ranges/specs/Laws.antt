@@ -18,8 +18,8 @@ use Rattle.bounds_inlining.specs.Laws.{AreFuncs, seen_variable}
 use Rattle.bounds_ranges.specs.declared.expressions.Asked.{Asked}
 use Rattle.bounds_ranges.specs.declared.expressions.OwnCalls.{OwnCalls}
 use Rattle.bounds_ranges.specs.declared.ranges.Range.{Range}
-use Rattle.bounds_ranges.specs.Bases.{more_sum, less_sum}
-use Rattle.bounds_ranges.specs.Ranges.{least, greatest, spot}
+use Rattle.bounds_ranges.specs.Ranges.{more_sum, less_sum}
+use Rattle.bounds_ranges.specs.Numbers.{least, greatest, spot}
 use Rattle.bounds_ranges.specs.Expressions.{Ranged, ranged, ranged_update, ranges_where}
 
 -- Each loop has a value up to its greatest.

@@ -1,5 +1,5 @@
-pub mod Bases
 pub mod Ranges
 pub mod Expressions
 pub mod Laws
+pub mod Numbers
 pub mod inner

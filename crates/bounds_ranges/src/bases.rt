@@ -1,7 +1,7 @@
 //! Sums of multiples of loops.
 
 ghost use Rattle.std.specs.Prelude.{◌≡◌, ◌^◌, ◌+◌, ◌-◌, ◌≤◌, min};
-ghost use Rattle.bounds_ranges.specs.Bases as spec;
+ghost use Rattle.bounds_ranges.specs.Ranges as spec;
 
 /// A whole number: `more` less `less`, of which one is 0.
 #[derive(Clone, Copy, Debug, PartialEq, Eq)]

@@ -1,6 +1,6 @@
 //! Between which numbers the value of an expression lies.
 //!
-//! - [`bases`]: sums of multiples of loops (`specs/Bases.antt`).
+//! - [`bases`]: sums of multiples of loops (`specs/Ranges.antt`).
 //! - [`ranges`]: ranges, and what operations make of them (`specs/Ranges.antt`).
 //! - [`expressions`]: **the range of an expression through its inlined Funcs, and of the points that it reads**; the
 //!   same in an update, whose arguments may be anywhere in an index that doesn't stand in place

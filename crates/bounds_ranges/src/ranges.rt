@@ -1,8 +1,8 @@
 //! Ranges, and what operations make of them.
 
 ghost use Rattle.std.specs.Prelude.{◌≡◌, ◌^◌, ◌+◌, ◌-◌, ◌*◌, ◌<◌, ◌≤◌, ◌&&◌, nat_le};
-ghost use Rattle.bounds_ranges.specs.Bases as bases;
-ghost use Rattle.bounds_ranges.specs.Ranges as spec;
+ghost use Rattle.bounds_ranges.specs.Ranges as bases;
+ghost use Rattle.bounds_ranges.specs.Numbers as spec_numbers;
 
 use crate::bases::{Base, add_base, less_sum, more_sum, negated, no_base, same_base, times_base};
 use halide_pipeline::Operation;
@@ -44,7 +44,7 @@ pub const GREATEST: u64 = ORIGIN + (1 << 31) - 1;
 
 /// The range between two ends, with no base.
 pub fn between(low: u64, high: u64) -> Range
-    ensures { result ≡ spec.between low high }
+    ensures { result ≡ bases.between low high }
 {
     Range {
         base: no_base(),
@@ -55,13 +55,13 @@ pub fn between(low: u64, high: u64) -> Range
 
 /// All words.
 pub fn every() -> Range
-    ensures { result ≡ spec.every }
+    ensures { result ≡ bases.every }
 {
     between(LEAST, GREATEST)
 }
 
 fn ends_of(a: &Range) -> Ends
-    ensures { result ≡ spec.ends_of a.now }
+    ensures { result ≡ bases.ends_of a.now }
 {
     Ends {
         low: a.low,
@@ -73,8 +73,8 @@ fn ends_of(a: &Range) -> Ends
 fn is_within(lasts: &Lasts, base: &Base, ends: Ends) -> bool
     requires high { ends.high ≤ 2 ^ 63 }
     requires ordered { ends.low ≤ ends.high }
-    ensures { result ≡ (nat_le (spec.least + bases.less_sum base.now lasts.now) ends.low && nat_le
-        (ends.high + bases.more_sum base.now lasts.now) spec.greatest) }
+    ensures { result ≡ (nat_le (spec_numbers.least + bases.less_sum base.now lasts.now) ends.low && nat_le
+        (ends.high + bases.more_sum base.now lasts.now) spec_numbers.greatest) }
 {
     LEAST + less_sum(base, lasts) <= ends.low && ends.high + more_sum(base, lasts) <= GREATEST
 }
@@ -84,8 +84,8 @@ fn is_within(lasts: &Lasts, base: &Base, ends: Ends) -> bool
 pub fn fit(lasts: &Lasts, base: Base, ends: Ends) -> Range
     requires high { ends.high ≤ 2 ^ 63 }
     requires ordered { ends.low ≤ ends.high }
-    ensures value { result ≡ spec.fit lasts.now base ends }
-    ensures fits { spec.IsFit lasts.now result }
+    ensures value { result ≡ bases.fit lasts.now base ends }
+    ensures fits { bases.IsFit lasts.now result }
 {
     if is_within(lasts, &base, ends) {
         Range {
@@ -100,11 +100,11 @@ pub fn fit(lasts: &Lasts, base: Base, ends: Ends) -> Range
 
 /// The ends over all values of the loops.
 pub fn widened(lasts: &Lasts, a: &Range) -> Ends
-    requires { spec.IsFit lasts.now a.now }
-    ensures value { result ≡ spec.widened lasts.now a.now }
-    ensures low { spec.least ≤ result.low }
+    requires { bases.IsFit lasts.now a.now }
+    ensures value { result ≡ bases.widened lasts.now a.now }
+    ensures low { spec_numbers.least ≤ result.low }
     ensures ordered { result.low ≤ result.high }
-    ensures high { result.high ≤ spec.greatest }
+    ensures high { result.high ≤ spec_numbers.greatest }
 {
     Ends {
         low: a.low - less_sum(&a.base, lasts),
@@ -114,10 +114,10 @@ pub fn widened(lasts: &Lasts, a: &Range) -> Ends
 
 /// The sum of two ranges.
 pub fn added(lasts: &Lasts, a: &Range, b: &Range) -> Range
-    requires first { spec.IsFit lasts.now a.now }
-    requires second { spec.IsFit lasts.now b.now }
-    ensures value { result ≡ spec.added lasts.now a.now b.now }
-    ensures fits { spec.IsFit lasts.now result }
+    requires first { bases.IsFit lasts.now a.now }
+    requires second { bases.IsFit lasts.now b.now }
+    ensures value { result ≡ bases.added lasts.now a.now b.now }
+    ensures fits { bases.IsFit lasts.now result }
 {
     let ends = Ends {
         low: a.low + b.low - ORIGIN,
@@ -128,10 +128,10 @@ pub fn added(lasts: &Lasts, a: &Range, b: &Range) -> Range
 
 /// The difference of two ranges.
 pub fn subtracted(lasts: &Lasts, a: &Range, b: &Range) -> Range
-    requires first { spec.IsFit lasts.now a.now }
-    requires second { spec.IsFit lasts.now b.now }
-    ensures value { result ≡ spec.subtracted lasts.now a.now b.now }
-    ensures fits { spec.IsFit lasts.now result }
+    requires first { bases.IsFit lasts.now a.now }
+    requires second { bases.IsFit lasts.now b.now }
+    ensures value { result ≡ bases.subtracted lasts.now a.now b.now }
+    ensures fits { bases.IsFit lasts.now result }
 {
     let ends = Ends {
         low: a.low + ORIGIN - b.high,
@@ -142,13 +142,13 @@ pub fn subtracted(lasts: &Lasts, a: &Range, b: &Range) -> Range
 
 /// The ends of two ranges over one base, widened first if their bases differ.
 fn aligned(lasts: &Lasts, a: &Range, b: &Range) -> CommonBase
-    requires first { spec.IsFit lasts.now a.now }
-    requires second { spec.IsFit lasts.now b.now }
-    ensures value { result ≡ spec.aligned lasts.now a.now b.now }
+    requires first { bases.IsFit lasts.now a.now }
+    requires second { bases.IsFit lasts.now b.now }
+    ensures value { result ≡ bases.aligned lasts.now a.now b.now }
     ensures first { result.first.low ≤ result.first.high }
     ensures second { result.second.low ≤ result.second.high }
-    ensures first_high { result.first.high ≤ spec.greatest }
-    ensures second_high { result.second.high ≤ spec.greatest }
+    ensures first_high { result.first.high ≤ spec_numbers.greatest }
+    ensures second_high { result.second.high ≤ spec_numbers.greatest }
 {
     if same_base(a.base, b.base) {
         CommonBase {
@@ -167,10 +167,10 @@ fn aligned(lasts: &Lasts, a: &Range, b: &Range) -> CommonBase
 
 /// The range of the lesser of two numbers.
 pub fn minimum(lasts: &Lasts, a: &Range, b: &Range) -> Range
-    requires first { spec.IsFit lasts.now a.now }
-    requires second { spec.IsFit lasts.now b.now }
-    ensures value { result ≡ spec.together lasts.now spec.lesser a.now b.now }
-    ensures fits { spec.IsFit lasts.now result }
+    requires first { bases.IsFit lasts.now a.now }
+    requires second { bases.IsFit lasts.now b.now }
+    ensures value { result ≡ bases.together lasts.now bases.lesser a.now b.now }
+    ensures fits { bases.IsFit lasts.now result }
 {
     let both = aligned(lasts, a, b);
     let ends = Ends {
@@ -182,10 +182,10 @@ pub fn minimum(lasts: &Lasts, a: &Range, b: &Range) -> Range
 
 /// The range of the greater of two numbers.
 pub fn maximum(lasts: &Lasts, a: &Range, b: &Range) -> Range
-    requires first { spec.IsFit lasts.now a.now }
-    requires second { spec.IsFit lasts.now b.now }
-    ensures value { result ≡ spec.together lasts.now spec.greater a.now b.now }
-    ensures fits { spec.IsFit lasts.now result }
+    requires first { bases.IsFit lasts.now a.now }
+    requires second { bases.IsFit lasts.now b.now }
+    ensures value { result ≡ bases.together lasts.now bases.greater a.now b.now }
+    ensures fits { bases.IsFit lasts.now result }
 {
     let both = aligned(lasts, a, b);
     let ends = Ends {
@@ -197,10 +197,10 @@ pub fn maximum(lasts: &Lasts, a: &Range, b: &Range) -> Range
 
 /// The range that two lie in.
 pub fn hull(lasts: &Lasts, a: &Range, b: &Range) -> Range
-    requires first { spec.IsFit lasts.now a.now }
-    requires second { spec.IsFit lasts.now b.now }
-    ensures value { result ≡ spec.together lasts.now spec.hull a.now b.now }
-    ensures fits { spec.IsFit lasts.now result }
+    requires first { bases.IsFit lasts.now a.now }
+    requires second { bases.IsFit lasts.now b.now }
+    ensures value { result ≡ bases.together lasts.now bases.hull a.now b.now }
+    ensures fits { bases.IsFit lasts.now result }
 {
     let both = aligned(lasts, a, b);
     let ends = Ends {
@@ -222,11 +222,11 @@ fn product(a: u64, b: u64) -> u64
 
 /// The product of two ends.
 fn times_end(p: u64, q: u64) -> u64
-    requires least_first { spec.least ≤ p }
-    requires first { p ≤ spec.greatest }
-    requires least_second { spec.least ≤ q }
-    requires second { q ≤ spec.greatest }
-    ensures value { result ≡ spec.times_end p q }
+    requires least_first { spec_numbers.least ≤ p }
+    requires first { p ≤ spec_numbers.greatest }
+    requires least_second { spec_numbers.least ≤ q }
+    requires second { q ≤ spec_numbers.greatest }
+    ensures value { result ≡ bases.times_end p q }
     ensures small { result ≤ 2 ^ 63 }
 {
     if p >= ORIGIN {
@@ -244,7 +244,7 @@ fn times_end(p: u64, q: u64) -> u64
 
 /// Two ends in order.
 fn ordered(p: u64, q: u64) -> Ends
-    ensures { result ≡ spec.ordered p q }
+    ensures { result ≡ bases.ordered p q }
 {
     Ends {
         low: p.min(q),
@@ -253,7 +253,7 @@ fn ordered(p: u64, q: u64) -> Ends
 }
 
 fn scaled_base(c: u64, base: Base) -> Base
-    ensures { result ≡ spec.scaled_base c base }
+    ensures { result ≡ bases.scaled_base c base }
 {
     if c >= ORIGIN {
         times_base(c - ORIGIN, base)
@@ -264,11 +264,11 @@ fn scaled_base(c: u64, base: Base) -> Base
 
 /// A range times a number, which is told by its end.
 fn scaled(lasts: &Lasts, a: &Range, c: u64) -> Range
-    requires fits { spec.IsFit lasts.now a.now }
-    requires least { spec.least ≤ c }
-    requires greatest { c ≤ spec.greatest }
-    ensures value { result ≡ spec.scaled lasts.now a.now c }
-    ensures fits { spec.IsFit lasts.now result }
+    requires fits { bases.IsFit lasts.now a.now }
+    requires least { spec_numbers.least ≤ c }
+    requires greatest { c ≤ spec_numbers.greatest }
+    ensures value { result ≡ bases.scaled lasts.now a.now c }
+    ensures fits { bases.IsFit lasts.now result }
 {
     let ends = ordered(times_end(a.low, c), times_end(a.high, c));
     fit(lasts, scaled_base(c, a.base), ends)
@@ -276,13 +276,13 @@ fn scaled(lasts: &Lasts, a: &Range, c: u64) -> Range
 
 /// From the least to the greatest of four products.
 fn crossed(a: Ends, b: Ends) -> Ends
-    requires least_first { spec.least ≤ a.low }
+    requires least_first { spec_numbers.least ≤ a.low }
     requires ordered_first { a.low ≤ a.high }
-    requires first { a.high ≤ spec.greatest }
-    requires least_second { spec.least ≤ b.low }
+    requires first { a.high ≤ spec_numbers.greatest }
+    requires least_second { spec_numbers.least ≤ b.low }
     requires ordered_second { b.low ≤ b.high }
-    requires second { b.high ≤ spec.greatest }
-    ensures value { result ≡ spec.crossed a b }
+    requires second { b.high ≤ spec_numbers.greatest }
+    ensures value { result ≡ bases.crossed a b }
     ensures ordered { result.low ≤ result.high }
     ensures small { result.high ≤ 2 ^ 63 }
 {
@@ -296,17 +296,17 @@ fn crossed(a: Ends, b: Ends) -> Ends
 
 /// Whether there is one number in a range, and no base.
 fn is_number(a: &Range) -> bool
-    ensures { result ≡ spec.is_number a.now }
+    ensures { result ≡ bases.is_number a.now }
 {
     same_base(a.base, no_base()) && a.low == a.high
 }
 
 /// The product of two ranges.
 pub fn multiplied(lasts: &Lasts, a: &Range, b: &Range) -> Range
-    requires first { spec.IsFit lasts.now a.now }
-    requires second { spec.IsFit lasts.now b.now }
-    ensures value { result ≡ spec.multiplied lasts.now a.now b.now }
-    ensures fits { spec.IsFit lasts.now result }
+    requires first { bases.IsFit lasts.now a.now }
+    requires second { bases.IsFit lasts.now b.now }
+    ensures value { result ≡ bases.multiplied lasts.now a.now b.now }
+    ensures fits { bases.IsFit lasts.now result }
 {
     if is_number(b) {
         scaled(lasts, a, b.low)
@@ -324,9 +324,9 @@ pub fn multiplied(lasts: &Lasts, a: &Range, b: &Range) -> Range
 /// An end divided, rounded to minus infinity.
 fn divided_end(end: u64, c: u64) -> u64
     requires positive { 1 ≤ c }
-    requires small { end ≤ spec.greatest }
-    ensures value { result ≡ spec.divided_end end c }
-    ensures small { result ≤ spec.greatest }
+    requires small { end ≤ spec_numbers.greatest }
+    ensures value { result ≡ bases.divided_end end c }
+    ensures small { result ≤ spec_numbers.greatest }
 {
     if end >= ORIGIN {
         ORIGIN + (end - ORIGIN) / c
@@ -338,10 +338,10 @@ fn divided_end(end: u64, c: u64) -> u64
 fn divided_ends(a: Ends, c: u64) -> Ends
     requires positive { 1 ≤ c }
     requires ordered { a.low ≤ a.high }
-    requires small { a.high ≤ spec.greatest }
-    ensures value { result ≡ spec.divided_ends a c }
+    requires small { a.high ≤ spec_numbers.greatest }
+    ensures value { result ≡ bases.divided_ends a c }
     ensures ordered { result.low ≤ result.high }
-    ensures small { result.high ≤ spec.greatest }
+    ensures small { result.high ≤ spec_numbers.greatest }
 {
     Ends {
         low: divided_end(a.low, c),
@@ -351,9 +351,9 @@ fn divided_ends(a: Ends, c: u64) -> Ends
 
 /// A range divided by a number.
 pub fn divided(lasts: &Lasts, a: &Range, c: u32) -> Range
-    requires { spec.IsFit lasts.now a.now }
-    ensures value { result ≡ spec.divided lasts.now a.now c }
-    ensures fits { spec.IsFit lasts.now result }
+    requires { bases.IsFit lasts.now a.now }
+    ensures value { result ≡ bases.divided lasts.now a.now c }
+    ensures fits { bases.IsFit lasts.now result }
 {
     if c == 0 {
         every()
@@ -368,8 +368,8 @@ pub fn divided(lasts: &Lasts, a: &Range, c: u32) -> Range
 
 /// The range of remainders.
 pub fn remainders(lasts: &Lasts, c: u32) -> Range
-    ensures value { result ≡ spec.remainders lasts.now c }
-    ensures fits { spec.IsFit lasts.now result }
+    ensures value { result ≡ bases.remainders lasts.now c }
+    ensures fits { bases.IsFit lasts.now result }
 {
     if c == 0 {
         every()
@@ -384,8 +384,8 @@ pub fn remainders(lasts: &Lasts, c: u32) -> Range
 
 /// The range of a number.
 pub fn literal(lasts: &Lasts, n: u32) -> Range
-    ensures value { result ≡ spec.literal lasts.now n }
-    ensures fits { spec.IsFit lasts.now result }
+    ensures value { result ≡ bases.literal lasts.now n }
+    ensures fits { bases.IsFit lasts.now result }
 {
     let end = ORIGIN + u64::from(n);
     fit(
@@ -400,10 +400,10 @@ pub fn literal(lasts: &Lasts, n: u32) -> Range
 
 /// The range of an operation on two numbers.
 pub fn operated(lasts: &Lasts, operation: Operation, a: &Range, b: &Range) -> Range
-    requires first { spec.IsFit lasts.now a.now }
-    requires second { spec.IsFit lasts.now b.now }
-    ensures value { result ≡ spec.operated lasts.now operation a.now b.now }
-    ensures fits { spec.IsFit lasts.now result }
+    requires first { bases.IsFit lasts.now a.now }
+    requires second { bases.IsFit lasts.now b.now }
+    ensures value { result ≡ bases.operated lasts.now operation a.now b.now }
+    ensures fits { bases.IsFit lasts.now result }
 {
     match operation {
         Operation::Add => added(lasts, a, b),

@@ -1,4 +1,2 @@
-pub mod Copies
 pub mod Weight
-pub mod Need
 pub mod inner

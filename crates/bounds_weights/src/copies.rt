@@ -1,7 +1,7 @@
 //! How often a stage's code stands, for loops that are unrolled.
 
 ghost use Rattle.std.specs.Prelude.{◌≡◌};
-ghost use Rattle.bounds_weights.specs.Copies as spec;
+ghost use Rattle.bounds_weights.specs.Weight as spec;
 ghost use Rattle.bounds_weights.specs.inner.Tables.{capped};
 
 use schedule::{FuncPlan, Place};
@@ -52,14 +52,14 @@ fn copies_from(id: LoopId, loops: &[Loop]) -> u32
 
 /// How many there are of the code of a Func that is computed here, for the loop at which it is and those outside of
 /// it; or the greatest `u32` if there are more.
-pub fn host_copies(plans: &[FuncPlan], place: Place) -> u32
-    ensures { result ≡ capped (spec.host_copies plans.now place) }
+pub fn consumer_copies(plans: &[FuncPlan], place: Place) -> u32
+    ensures { result ≡ capped (spec.consumer_copies plans.now place) }
 {
     match place {
         Place::Inlined | Place::Root | Place::Nowhere => 1,
-        Place::At(host) => match at(plans, host.func) {
+        Place::At(consumer) => match at(plans, consumer.func) {
             None => 1,
-            Some(plan) => copies_from(host.inside, plan.pure.loops.as_slice()),
+            Some(plan) => copies_from(consumer.inside, plan.pure.loops.as_slice()),
         },
     }
 }

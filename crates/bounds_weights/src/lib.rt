@@ -1,9 +1,9 @@
 //! How heavy a schedule is, and how many registers its stages need.
 //!
-//! - [`copies`]: how often a stage's code stands, for loops that are unrolled (`specs/Copies.antt`).
+//! - [`copies`]: how often a stage's code stands, for loops that are unrolled (`specs/Weight.antt`).
 //! - [`weighing`]: what all stages together weigh (`specs/Weight.antt`), and [`weigh`], which refuses what is too
 //!   heavy.
-//! - [`stage_needs`]: how many registers expressions need at once (`specs/Need.antt`): of a stage, [`stage_need`]; of
+//! - [`stage_needs`]: how many registers expressions need at once (`specs/Weight.antt`): of a stage, [`stage_need`]; of
 //!   all stages, [`needs`].
 //!
 //! Inlined Funcs are never put in place: each Func is gone through once (`bounds_inlining`).

@@ -1,8 +1,7 @@
 //! How many registers the expressions of stages need at once.
 
 ghost use Rattle.std.specs.Prelude.{◌≡◌, ℕ, IfOk};
-ghost use Rattle.bounds_weights.specs.Need as spec;
-ghost use Rattle.bounds_weights.specs.Weight as weight;
+ghost use Rattle.bounds_weights.specs.Weight as spec;
 ghost use Rattle.bounds_weights.specs.inner.Tables as inner;
 
 use crate::weighing::{inlined_flags, is_computed};
@@ -186,7 +185,7 @@ fn total_needs(
     standings: &[Standing],
 ) -> Result<StageNeeds, AllocError>
     ensures { IfOk result (λ own. own
-        ≡ inner.capped_needs (spec.funcs_needs (weight.flags_of standings.now) funcs.now funcs.now plans.now
+        ≡ inner.capped_needs (spec.funcs_needs (spec.flags_of standings.now) funcs.now funcs.now plans.now
         standings.now)) }
 {
     let flags = inlined_flags(alloc, standings)?;
@@ -194,13 +193,13 @@ fn total_needs(
     Ok(funcs_needs(calls.as_slice(), funcs, plans, standings))
 }
 
-/// The needs of all stages that are computed (`specs/Need.antt`), in time that is linear in the texts. A number past
+/// The needs of all stages that are computed (`specs/Weight.antt`), in time that is linear in the texts. A number past
 /// the greatest `u32` counts as that, so each limit is told as it is.
 ///
 /// # Errors
 ///
 /// Memory ran out.
-#[tactic(auto, unfolding(crate::specs::Need::needs))]
+#[tactic(auto, unfolding(crate::specs::Weight::needs))]
 pub fn needs(
     pipeline: &Pipeline,
     schedule: &Schedule,

@@ -5,7 +5,7 @@ ghost use Rattle.schedule.specs.Legal as legal;
 ghost use Rattle.bounds_weights.specs.Weight as spec;
 ghost use Rattle.bounds_weights.specs.inner.Tables as inner;
 
-use crate::copies::{all_copies, host_copies};
+use crate::copies::{all_copies, consumer_copies};
 use crate::faults::WeightError;
 use bounds_inlining::counts::{CountCall, count_calls, nodes};
 use halide_pipeline::{Expr, Func, Pipeline, Update};
@@ -112,7 +112,7 @@ fn func_weight(
     let pure = stage_weight(all_nodes(calls, &func.pure), &plan.pure);
     let updates = updates_weight(calls, func.updates.as_slice(), plan.updates.as_slice());
     pure.saturating_add(updates)
-        .saturating_mul(host_copies(plans, own.place))
+        .saturating_mul(consumer_copies(plans, own.place))
 }
 
 /// What a Func weighs, if it is computed.

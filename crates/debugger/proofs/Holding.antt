@@ -3,7 +3,7 @@ use Rattle.std.proofs.Common.{◌≡◌, ◌∙◌, ◌≤◌, ℕ, Bool, nat_le
 use Rattle.std.proofs.lemmas.Bool.{and_parts, leb-true}
 use Rattle.std.proofs.lemmas.List.{with_items_is}
 use Rattle.std.specs.Vec.{with_items}
-use Rattle.memory.specs.Addresses.{most_bytes, most_words}
+use Rattle.memory.specs.Access.{most_bytes, most_words}
 use Rattle.rv_insn.specs.declared.instructions.Insn.{Insn}
 use Rattle.hart_core.specs.HartState.{HartState}
 use Rattle.multi_hart.specs.Run.{KeepsShape, State}

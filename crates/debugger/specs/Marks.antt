@@ -2,7 +2,7 @@
 -- together are at most 64. This project's own.
 use Rattle.std.specs.Prelude.{ℕ, ◌+◌, ◌%◌, ◌==◌, ◌&&◌, Bool, nat_lt, not, if◌then◌else◌, List, [], ◌∷◌, ◌++◌, length, Result, Ok, Err}
 use Rattle.std.specs.List.{list_any}
-use Rattle.memory.specs.Addresses.{is_text_word, in_data}
+use Rattle.memory.specs.Access.{is_text_word, in_data}
 use Rattle.debugger.specs.declared.refusals.Refusal.{Refusal}
 use Rattle.debugger.specs.declared.refusals.Refusal.TheVariants.{Address, TooManyMarks}
 use Rattle.debugger.specs.Places.{SessionState}

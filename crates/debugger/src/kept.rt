@@ -6,7 +6,7 @@
 
 ghost use Rattle.std.specs.Prelude.{◌≡◌, ◌+◌, ◌/◌, ◌^◌, ◌<◌, ◌≤◌, ℕ, List, All, false, Some, IfOk, IfSome, length};
 ghost use Rattle.std.specs.Prelude.{option_map, slice_get, take};
-ghost use Rattle.memory.specs.Addresses.{most_bytes};
+ghost use Rattle.memory.specs.Access.{most_bytes};
 ghost use Rattle.multi_hart.specs.Parts.{with_data, with_harts};
 ghost use Rattle.multi_hart.specs.Run.{run};
 ghost use Rattle.loader.specs.Image.{ImageContents};

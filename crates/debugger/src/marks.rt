@@ -1,7 +1,7 @@
 //! Breaks and watches.
 
 ghost use Rattle.std.specs.Prelude.{◌≡◌, ◌≤◌, [], ◌∷◌, ◌++◌, Ok, Err, OnOk, OnErr, IfErr};
-ghost use Rattle.memory.specs.Addresses.{is_text_word, most_words, most_bytes};
+ghost use Rattle.memory.specs.Access.{is_text_word, most_words, most_bytes};
 ghost use Rattle.debugger.specs.Marks.{with_break, with_watch, is_data_word};
 ghost use Rattle.debugger.specs.Refusals.{UnlessMemory};
 

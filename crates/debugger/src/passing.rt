@@ -2,7 +2,7 @@
 
 ghost use Rattle.std.specs.Prelude.{◌≡◌, ◌≢◌, ℕ, List, Some, ◌||◌, ◌+◌, ◌^◌, ◌<◌, ◌≤◌, length, map};
 ghost use Rattle.std.specs.List.{list_any};
-ghost use Rattle.memory.specs.Addresses.{most_words};
+ghost use Rattle.memory.specs.Access.{most_words};
 ghost use Rattle.multi_hart.specs.Run.{KeepsShape, hart_at};
 ghost use Rattle.turn_log.specs.RunAt.{run_at};
 ghost use Rattle.turn_log.specs.TurnLog.{IsLog};

@@ -2,7 +2,7 @@
 
 ghost use Rattle.std.specs.Prelude.{◌≡◌, ◌+◌, ◌-◌, ◌<◌, ◌≤◌, ◌==◌, ℕ, Some, true, false, length, map, take, replicate};
 ghost use Rattle.std.specs.List.{list_any};
-ghost use Rattle.memory.specs.Addresses.{most_words};
+ghost use Rattle.memory.specs.Access.{most_words};
 ghost use Rattle.multi_hart.specs.Run.{KeepsShape, State, hart_at, outcome, run, turn};
 ghost use Rattle.turn_log.specs.RunAt.{run_at};
 ghost use Rattle.debugger_pages.specs.Pages.{Marks};

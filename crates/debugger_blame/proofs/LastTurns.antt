@@ -1,8 +1,7 @@
 -- The last writing turn, along a list of turns.
 use Rattle.std.proofs.Common.{◌≡◌, ◌∙◌, ◌+◌, ℕ, zero, suc, Bool, true, false, refl, sym, ap, subst, arith, List, [], ◌∷◌, ◌++◌, length, length-append, append_assoc, take, Option, Some, None}
 use Rattle.std.specs.Prelude.{if◌then◌else◌, option_and_then, slice_get}
-use Rattle.multi_hart.specs.Run.{State, hart_at, run, turn}
-use Rattle.multi_hart.specs.Frame.{is_in}
+use Rattle.multi_hart.specs.Run.{State, hart_at, run, turn, is_in}
 use Rattle.vector_codegen_sharing.specs.Turns.{is_word_in, last_writer, written_next}
 use Rattle.debugger_blame.specs.declared.writes.Write.{Write}
 use Rattle.debugger_blame.specs.LastWrites.{Blames, HartsAreLastWriters, IsLastWrite, held, last_turn, last_turn_of_word}

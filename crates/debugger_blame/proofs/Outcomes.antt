@@ -5,7 +5,7 @@ use Rattle.rv_insn.specs.declared.outcomes.Outcome.{Outcome}
 use Rattle.rv_insn.specs.declared.outcomes.Outcome.TheVariants.{Finished as HasFinished, Idle, Stepped, Trapped as HasTrapped}
 use Rattle.rv_insn.specs.declared.instructions.Insn.{Insn}
 use Rattle.rv_encoding.specs.Decoding.{decoded}
-use Rattle.memory.specs.Addresses.{fetched}
+use Rattle.memory.specs.Access.{fetched}
 use Rattle.hart_core.specs.Scalar.{illegal_fault}
 use Rattle.multi_hart.specs.Run.{State, hart_at, outcome}
 use Rattle.vector_codegen_sharing.specs.Turns.{is_word_in, written_by_one, written_next}

@@ -7,9 +7,8 @@ use Rattle.hart_core.specs.HartState.{HartState}
 use Rattle.hart_core.specs.Turn.{due, if_running}
 use Rattle.hart_core.specs.declared.harts.Status.{Status}
 use Rattle.hart_core.specs.declared.harts.Status.TheVariants.{Running, Finished, Trapped}
-use Rattle.memory.specs.Addresses.{fetched}
-use Rattle.multi_hart.specs.Frame.{writes}
-use Rattle.multi_hart.specs.Run.{KeepsShape, State, hart_at, run, turn}
+use Rattle.memory.specs.Access.{fetched}
+use Rattle.multi_hart.specs.Run.{writes, KeepsShape, State, hart_at, run, turn}
 use Rattle.multi_hart.proofs.Resting.{run-append, turn-resting}
 use Rattle.multi_hart.proofs.TurnByTurn.{shape-turn}
 use Rattle.turn_log.specs.RunAt.{Stand}

@@ -10,7 +10,7 @@ use Rattle.rv_insn.specs.declared.vector_instructions.VectorInsn.{VectorInsn}
 use Rattle.rv_insn.specs.declared.vector_instructions.VectorInsn.TheVariants as v
 use Rattle.rv_insn.specs.declared.outcomes.Outcome.TheVariants.{Stepped}
 use Rattle.rv_encoding.specs.Decoding.{decoded}
-use Rattle.memory.specs.Addresses.{fetched, most_words, text_start}
+use Rattle.memory.specs.Access.{fetched, most_words, text_start}
 use Rattle.hart_core.specs.HartState.{HartState, next_pc, opening_hart, with_vectors}
 use Rattle.hart_core.specs.Scalar.{after}
 use Rattle.hart_core.specs.VectorRows.{computed_by, vector_after_turn, with_scalar}

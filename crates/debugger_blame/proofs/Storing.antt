@@ -1,7 +1,7 @@
 -- Places that stores touch.
 use Rattle.std.proofs.Common.{◌≡◌, ◌||◌, ◌==◌, ℕ, Bool, true, false, refl, List, [], ◌∷◌, ◌++◌}
 use Rattle.std.specs.Prelude.{if◌then◌else◌}
-use Rattle.multi_hart.specs.Frame.{is_in}
+use Rattle.multi_hart.specs.Run.{is_in}
 
 or_kept : (b x y z : Bool) → x ≡ y || z → (if b then true else x) ≡ (if b then true else y) || z
 or_kept true x y z is = refl

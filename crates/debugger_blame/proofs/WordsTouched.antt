@@ -6,7 +6,7 @@ use Rattle.std.proofs.lemmas.Bool.Decides.{nat_tests}
 use Rattle.memory.specs.Access.{access_at, places_of, touched, Byte, Half, Word}
 use Rattle.rv_insn.specs.declared.vector_operations.ElementWidth.{ElementWidth}
 use Rattle.hart_core.specs.VectorRows.{accesses_at, size_of}
-use Rattle.multi_hart.specs.Frame.{is_in}
+use Rattle.multi_hart.specs.Run.{is_in}
 use Rattle.vector_codegen_sharing.specs.Turns.{is_word_in}
 use Rattle.debugger_blame.specs.inner.Marked.{Marked, is_byte_of_word}
 use Rattle.debugger_blame.proofs.Storing.{in_both}

@@ -1,8 +1,7 @@
 -- The last of a list of turns that writes a word, beside the last writer of a byte that the theorem on assignments names.
 -- This project's own.
 use Rattle.std.specs.Prelude.{◌≡◌, ℕ, ◌+◌, Bool, if◌then◌else◌, option_and_then, slice_get, take, unwrap_or, List, [], ◌∷◌, Option, Some, None}
-use Rattle.multi_hart.specs.Run.{State, hart_at, run, turn, word_in}
-use Rattle.multi_hart.specs.Frame.{is_in}
+use Rattle.multi_hart.specs.Run.{State, hart_at, run, turn, word_in, is_in}
 use Rattle.vector_codegen_sharing.specs.Turns.{is_word_in, last_writer, written_next}
 use Rattle.debugger_blame.specs.declared.writes.Write.{Write}
 

@@ -5,7 +5,7 @@ ghost use Rattle.std.specs.Prelude.{option_and_then, replicate, Some, None, IfOk
 ghost use Rattle.hart_core.specs.Scalar.{illegal_fault};
 ghost use Rattle.hart_core.specs.VectorRows.{accesses_at, size_of};
 ghost use Rattle.memory.specs.Access.{access_at, places_of, touched};
-ghost use Rattle.memory.specs.Addresses.{fetched, most_words};
+ghost use Rattle.memory.specs.Access.{fetched, most_words};
 ghost use Rattle.multi_hart.specs.Run.{KeepsShape, State, hart_at, run, turn};
 ghost use Rattle.vector_codegen_sharing.specs.Turns.{is_word_in, written_next};
 ghost use Rattle.debugger_blame.specs.Marks.{AreMarks};

@@ -3,7 +3,7 @@
 ghost use Rattle.std.specs.Prelude.{◌≡◌, ◌+◌, ◌<◌, ◌≤◌, ◌^◌, ◌++◌, ◌∷◌, [], ℕ, List, None, Some, length, map};
 ghost use Rattle.std.specs.Prelude.{option_and_then, replicate, unwrap_or, IfOk};
 ghost use Rattle.std.specs.Option.{option_copied};
-ghost use Rattle.memory.specs.Addresses.{fetched, most_words};
+ghost use Rattle.memory.specs.Access.{fetched, most_words};
 ghost use Rattle.rv_encoding.specs.Decoding.{decoded};
 ghost use Rattle.hart_core.specs.Scalar.{illegal_fault};
 ghost use Rattle.multi_hart.specs.Run.{State, hart_at, run, turn, word_in};

@@ -5,7 +5,7 @@ ghost use Rattle.memory.specs.Access.{access_at, places_of, touched};
 ghost use Rattle.hart_core.specs.HartState.{register};
 ghost use Rattle.hart_core.specs.Scalar.{illegal_fault};
 ghost use Rattle.hart_core.specs.VectorRows.{accesses_at, size_of};
-ghost use Rattle.multi_hart.specs.Frame.{is_in};
+ghost use Rattle.multi_hart.specs.Run.{is_in};
 ghost use Rattle.vector_codegen_sharing.specs.Turns.{is_word_in};
 ghost use Rattle.debugger_stores.specs.Stored.{places_in, places_stored};
 

@@ -5,14 +5,12 @@ use Rattle.std.proofs.Math.Seq.{take-length}
 use Rattle.std.proofs.lemmas.Bool.{cases_Bool, cases_eq, cases_lt, cond-false, cond-true, eq-eqb, ne_eqb}
 use Rattle.std.proofs.lemmas.List.{get_or-set_same, get_or-set_other, get_or_past, get_or_push, length_push, take_at}
 use Rattle.std.proofs.lemmas.List.Elements.{All-get_or, All-same, All-take}
-use Rattle.memory.specs.Access.{access_at, bytes_in, places_of, touched}
-use Rattle.memory.specs.Addresses.{data_start, fetched}
+use Rattle.memory.specs.Access.{access_at, bytes_in, places_of, touched, data_start, fetched}
 use Rattle.rv_insn.specs.declared.vector_operations.ElementWidth.{ElementWidth}
 use Rattle.rv_insn.specs.declared.vector_operations.ElementWidth.TheVariants.{Bits8, Bits16, Bits32}
 use Rattle.hart_core.specs.Scalar.{illegal_fault}
 use Rattle.hart_core.specs.VectorRows.{accesses_at, size_of}
-use Rattle.multi_hart.specs.Frame.{is_in}
-use Rattle.multi_hart.specs.Run.{State, hart_at, outcome, turn}
+use Rattle.multi_hart.specs.Run.{is_in, State, hart_at, outcome, turn}
 use Rattle.multi_hart.proofs.Resting.{there as there-is}
 use Rattle.multi_hart.proofs.TurnByTurn.{shape-turn}
 use Rattle.debugger_stores.specs.declared.stores.Stored.{Stored}

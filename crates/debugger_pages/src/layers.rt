@@ -1,7 +1,7 @@
 //! Pages of copies that were let go: the last of each page.
 
 ghost use Rattle.std.specs.Prelude.{◌≡◌, ◌+◌, ◌*◌, ◌/◌, ◌<◌, ◌≤◌, ℕ, Some, All, length};
-ghost use Rattle.memory.specs.Addresses.{most_bytes};
+ghost use Rattle.memory.specs.Access.{most_bytes};
 ghost use Rattle.multi_hart.specs.Parts.{with_data};
 ghost use Rattle.debugger_pages.specs.Pages.{AreBelow, Holds, IsPage, laid, laid_slot, lowest, over};
 

@@ -2,9 +2,9 @@
 
 ghost use Rattle.std.specs.Prelude.{◌≡◌, ◌+◌, ◌-◌, ◌/◌, ◌<◌, ◌≤◌, ◌^◌, ℕ, false, true, length};
 ghost use Rattle.memory.specs.Access.{access_at, bytes_in, places_of, touched};
-ghost use Rattle.memory.specs.Addresses.{data_start};
+ghost use Rattle.memory.specs.Access.{data_start};
 ghost use Rattle.hart_core.specs.VectorRows.{accesses_at, size_of};
-ghost use Rattle.multi_hart.specs.Frame.{is_in};
+ghost use Rattle.multi_hart.specs.Run.{is_in};
 ghost use Rattle.debugger_stores.specs.Stored.{places_in};
 ghost use Rattle.debugger_pages.specs.Pages.{Marked, is_written, lowest, over};
 ghost use Rattle.debugger_pages.specs.inner.Covering.{Covers};

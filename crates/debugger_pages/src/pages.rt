@@ -1,7 +1,7 @@
 //! Copies of pages of data.
 
 ghost use Rattle.std.specs.Prelude.{◌≡◌, ◌+◌, ◌*◌, ◌/◌, ◌%◌, ◌<◌, ◌≤◌, ℕ, All, IfOk, length, slice_index};
-ghost use Rattle.memory.specs.Addresses.{most_bytes};
+ghost use Rattle.memory.specs.Access.{most_bytes};
 ghost use Rattle.multi_hart.specs.Parts.{with_data};
 ghost use Rattle.debugger_pages.specs.Pages.{Holds, HoldsUnwritten, IsPage, laid, over, pages_of};
 

@@ -1,7 +1,7 @@
 //! Turns that mark the pages which they write.
 
 ghost use Rattle.std.specs.Prelude.{◌≡◌, ◌<◌, ◌≤◌, false, Some, length, map, option_and_then};
-ghost use Rattle.memory.specs.Addresses.{fetched, most_words};
+ghost use Rattle.memory.specs.Access.{fetched, most_words};
 ghost use Rattle.multi_hart.specs.Run.{hart_at, outcome, turn};
 ghost use Rattle.debugger_stores.specs.Stored.{store_in};
 ghost use Rattle.debugger_pages.specs.Pages.{Marks};

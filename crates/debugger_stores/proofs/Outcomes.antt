@@ -7,15 +7,13 @@ use Rattle.rv_insn.specs.declared.outcomes.Trap.{Trap}
 use Rattle.rv_insn.specs.declared.instructions.Insn.{Insn}
 use Rattle.rv_insn.specs.declared.instructions.Insn.TheVariants as i
 use Rattle.rv_encoding.specs.Decoding.{decoded}
-use Rattle.memory.specs.Access.{or_else}
-use Rattle.memory.specs.Addresses.{fetched}
+use Rattle.memory.specs.Access.{or_else, fetched}
 use Rattle.hart_core.specs.HartState.{HartState}
 use Rattle.hart_core.specs.Scalar.{illegal_fault, outcome_of}
 use Rattle.hart_core.specs.Turn.{Next, Rests, Traps, Does, due, fault, if_running, judged, made, meant, next_of}
 use Rattle.hart_core.specs.declared.harts.Status.{Status}
 use Rattle.hart_core.specs.declared.harts.Status.TheVariants.{Running, Finished, Trapped}
-use Rattle.multi_hart.specs.Frame.{writes}
-use Rattle.multi_hart.specs.Run.{State, hart_at, outcome}
+use Rattle.multi_hart.specs.Run.{writes, State, hart_at, outcome}
 use Rattle.rv_insn.specs.declared.vector_instructions.VectorInsn.TheVariants as v
 use Rattle.debugger_stores.specs.Stored.{if_store, is_store, places_stored, store_in, written}
 

@@ -2,12 +2,11 @@
 use Rattle.std.proofs.Common.{◌≡◌, ◌∙◌, ◌+◌, ◌-◌, ◌==◌, ◌<◌, ◌≤◌, ℕ, Bool, true, false, refl, sym, ap, subst, arith, List, [], ◌∷◌, length, Option, Some, None, eq-eqb}
 use Rattle.std.specs.Prelude.{◌≢◌, if◌then◌else◌, nat_lt, cond, slice_get, slice_index}
 use Rattle.std.proofs.lemmas.Bool.{cond_both, ltb-true}
-use Rattle.memory.specs.Addresses.{NotIn, byte_at, data_start, put}
+use Rattle.memory.specs.Access.{NotIn, byte_at, data_start, put}
 use Rattle.memory.proofs.Putting.{byte-put, length-put}
 use Rattle.hart_core.specs.HartState.{HartState}
 use Rattle.hart_core.specs.Turn.{effect, next_of}
-use Rattle.multi_hart.specs.Frame.{is_in, writes}
-use Rattle.multi_hart.specs.Run.{State, hart_at, put_back, turn, turned}
+use Rattle.multi_hart.specs.Run.{is_in, writes, State, hart_at, put_back, turn, turned}
 use Rattle.multi_hart.proofs.Framing.{places-are}
 use Rattle.debugger_stores.specs.Stored.{written}
 

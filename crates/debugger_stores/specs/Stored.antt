@@ -9,8 +9,7 @@ use Rattle.hart_core.specs.HartState.{HartState}
 use Rattle.hart_core.specs.Scalar.{accesses, kind_of}
 use Rattle.hart_core.specs.Turn.{next_of}
 use Rattle.hart_core.specs.VectorRows.{accesses_at}
-use Rattle.multi_hart.specs.Frame.{writes}
-use Rattle.multi_hart.specs.Run.{State, hart_at}
+use Rattle.multi_hart.specs.Run.{writes, State, hart_at}
 use Rattle.debugger_stores.specs.declared.stores.Stored.{Stored}
 use Rattle.debugger_stores.specs.declared.stores.Stored.TheVariants.{Nothing, Number, Elements}
 

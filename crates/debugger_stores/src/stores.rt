@@ -2,8 +2,8 @@
 
 ghost use Rattle.std.specs.Prelude.{◌≡◌, None};
 ghost use Rattle.vector_unit.specs.Accesses.{addresses_by, spacing_of};
-ghost use Rattle.vector_unit.specs.VectorState.{has_vill};
-ghost use Rattle.hart_core.specs.Alu.{store_size};
+ghost use Rattle.vector_unit.specs.Vector.{has_vill};
+ghost use Rattle.hart_core.specs.Scalar.{store_size};
 ghost use Rattle.hart_core.specs.HartState.{register, vectors_of};
 ghost use Rattle.hart_core.specs.Scalar.{illegal_fault};
 ghost use Rattle.hart_core.specs.VectorRows.{accesses_at, size_of};

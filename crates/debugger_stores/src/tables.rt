@@ -2,7 +2,7 @@
 
 ghost use Rattle.std.specs.Prelude.{◌≡◌, ◌≤◌, ℕ, List, length, map, option_and_then, IfOk};
 ghost use Rattle.std.specs.Option.{option_copied};
-ghost use Rattle.memory.specs.Addresses.{fetched, most_words};
+ghost use Rattle.memory.specs.Access.{fetched, most_words};
 ghost use Rattle.debugger_stores.specs.Stored.{store_in};
 
 use crate::stores::store_of;

@@ -2,7 +2,7 @@
 use Rattle.std.proofs.Common.{◌≡◌, ◌∙◌, ◌⊎◌, ℕ, zero, suc, ◌+◌, ◌<◌, ◌==◌, Bool, true, false, List, [], ◌∷◌, ◌++◌, length, take, drop, refl, sym, ap, ap₂, subst, inl, inr, arith, length-append}
 use Rattle.std.specs.Prelude.{if◌then◌else◌}
 use Rattle.std.specs.List.{prefix_len}
-use Rattle.line_text.specs.Classes.{ends, is_blank, is_digit, skip_blanks}
+use Rattle.line_text.specs.Lines.{ends, is_blank, is_digit, skip_blanks}
 use Rattle.assembler_syntax.specs.declared.tokens.Token.{Token}
 use Rattle.assembler_syntax.specs.declared.tokens.Token.TheVariants as t
 use Rattle.assembler_syntax.specs.Tokens.{begins_word, continues_word, front_token, mark, negative_token, number_token, span, tokens_from, tokens_of}

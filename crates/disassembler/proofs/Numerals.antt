@@ -7,8 +7,7 @@ use Rattle.std.proofs.lemmas.List.Folds.{list_all-append}
 use Rattle.std.proofs.lemmas.List.Sums.{fold-append}
 use Rattle.std.proofs.lemmas.Bool.Decides.{nat_tests}
 use Rattle.std.proofs.lemmas.Int.{ints}
-use Rattle.line_text.specs.Classes.{is_digit, is_hexadecimal}
-use Rattle.line_text.specs.Numbers.{decimal_number, hexadecimal_number, hexadecimal_value}
+use Rattle.line_text.specs.Lines.{is_digit, is_hexadecimal, decimal_number, hexadecimal_number, hexadecimal_value}
 use Rattle.line_text.proofs.Numerals.{decimal_digits, decimal_value}
 use Rattle.assembler_syntax.specs.declared.tokens.Token.{Token}
 use Rattle.assembler_syntax.specs.declared.tokens.Token.TheVariants as t

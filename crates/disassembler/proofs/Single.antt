@@ -7,7 +7,7 @@ use Rattle.std.proofs.lemmas.Int.{ints}
 use Rattle.std.proofs.lemmas.List.Folds.{list_all-append}
 use Rattle.line_text.specs.Lines.{is_in_line, IsLine}
 use Rattle.line_text.proofs.Numerals.{decimal_digits}
-use Rattle.rv_insn.specs.Meaning.{fields_of}
+use Rattle.rv_insn.specs.Table.{fields_of}
 use Rattle.rv_insn.specs.declared.instructions.Insn.{Insn}
 use Rattle.assembler_mnemonics.specs.Forms.{form_of, mnemonic}
 use Rattle.assembler_mnemonics.specs.Slots.{shape, blank, field_at, FitsSlot, FitsSlots}

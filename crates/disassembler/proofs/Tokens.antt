@@ -3,7 +3,7 @@ use Rattle.std.proofs.Common.{◌≡◌, ℕ, zero, suc, ◌+◌, ◌<◌, ◌==
 use Rattle.std.specs.List.{prefix_len, list_all}
 use Rattle.std.proofs.lemmas.Bool.{eqb-true}
 use Rattle.std.proofs.lemmas.Bool.Decides.{nat_tests}
-use Rattle.line_text.specs.Classes.{is_blank, is_digit, skip_blanks, ends, begins_name}
+use Rattle.line_text.specs.Lines.{is_blank, is_digit, skip_blanks, ends, begins_name}
 use Rattle.line_text.proofs.SpanLaws.{prefix_len-front}
 use Rattle.assembler_syntax.specs.declared.tokens.Token.{Token}
 use Rattle.assembler_syntax.specs.declared.tokens.Token.TheVariants as t

@@ -1,7 +1,7 @@
 -- The line of each word is the tokens of what it says.
 use Rattle.std.proofs.Common.{◌≡◌, ℕ, ◌^◌, ◌<◌, Bool, true, false, cond, pos, List, [], ◌∷◌, length, codes, refl, subst, arith, append-nil, Option, Some, None, find}
 use Rattle.std.specs.List.{list_all}
-use Rattle.rv_insn.specs.Meaning.{fields_of}
+use Rattle.rv_insn.specs.Table.{fields_of}
 use Rattle.rv_insn.specs.declared.instructions.Insn.{Insn}
 use Rattle.assembler_mnemonics.specs.Forms.{form_of, mnemonic}
 use Rattle.assembler_mnemonics.specs.Named.{forms, vector_forms, form_among, form_named}

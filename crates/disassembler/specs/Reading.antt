@@ -1,7 +1,7 @@
 -- What a listed line says when it is read as assembly text: a mnemonic and operands, and their tokens.
 -- This project's own.
 use Rattle.std.specs.Prelude.{ℕ, ◌==◌, if◌then◌else◌, ℤ, pos, ◌*ℤ◌, unsigned_abs, List, [], ◌∷◌, ◌++◌, codes, Option, Some, None}
-use Rattle.rv_insn.specs.Meaning.{fields_of}
+use Rattle.rv_insn.specs.Table.{fields_of}
 use Rattle.rv_insn.specs.declared.instructions.Insn.{Insn}
 use Rattle.rv_encoding.specs.Decoding.{decoded}
 use Rattle.assembler_mnemonics.specs.Forms.{form_of, mnemonic}

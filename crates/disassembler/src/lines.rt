@@ -2,7 +2,7 @@
 
 ghost use Rattle.std.specs.Prelude.{◌≡◌, ℕ, [], ◌∷◌, ◌++◌, OnOk, OnErr};
 ghost use Rattle.std.specs.String.{string_bytes};
-ghost use Rattle.rv_insn.specs.Meaning.{Means};
+ghost use Rattle.rv_insn.specs.Table.{Means};
 ghost use Rattle.rv_encoding.specs.Decoding.{decoded};
 ghost use Rattle.disassembler.specs.Listing.{addressed_line, instruction_text, word_text, line_of, listed};
 

@@ -3,9 +3,7 @@ use Rattle.std.proofs.Common.{◌≡◌, ℕ, ◌+◌, Bool, true, false, cond, 
 use Rattle.std.specs.Prelude.{◌||◌, min, nat_le, nat_lt}
 use Rattle.std.proofs.lemmas.Bool.{or_parts, leb-true, leb-false, le-leb, lt-leb}
 use Rattle.std.specs.declared.alloc.Global.{Global}
-use Rattle.line_text.specs.Reading.{◌>>=◌}
-use Rattle.line_text.specs.Lines.{lines_of}
-use Rattle.line_text.specs.LineReading.{taken_from}
+use Rattle.line_text.specs.Lines.{◌>>=◌, taken_from, lines_of}
 use Rattle.halide_pipeline.specs.declared.expressions.Expr.{Expr}
 use Rattle.halide_pipeline.specs.declared.expressions.Variable.TheVariants as variables
 use Rattle.halide_pipeline.specs.Expressions.{nodes}
@@ -33,9 +31,8 @@ use Rattle.halide_parser.specs.inner.JudgedLines as lines
 use Rattle.halide_parser.specs.Expressions as asked
 use Rattle.halide_parser.specs.Meaning.{second_tree, reduction_of, second_reduction, with_func, with_update, applied}
 use Rattle.halide_parser.specs.Parsing as parsing
-use Rattle.halide_parser.specs.Readers.{func_place}
+use Rattle.halide_parser.specs.Expressions.{func_place, scope_of}
 use Rattle.halide_parser.specs.Rules as r
-use Rattle.halide_parser.specs.Scopes.{scope_of}
 use Rattle.halide_parser.proofs.Faultless.{chain, faultless, IsFaultless}
 use Rattle.halide_parser.proofs.Keeping.{none_of_three, none_of_four}
 use Rattle.halide_parser.proofs.Marks as marks

@@ -9,8 +9,7 @@ use Rattle.halide_pipeline.specs.declared.expressions.Expr.{Expr}
 use Rattle.halide_pipeline.specs.declared.expressions.Source.{Source}
 use Rattle.halide_pipeline.specs.declared.expressions.Source.TheVariants as sources
 use Rattle.halide_pipeline.specs.declared.expressions.Variable.{Variable}
-use Rattle.halide_pipeline.specs.Definitions.{dimensions}
-use Rattle.halide_pipeline.specs.WellFormed.{is_read, is_source, is_input_of, is_func_of, keeps, keeps_index, is_update_variable, is_argument, IsFunc, IsUpdate}
+use Rattle.halide_pipeline.specs.WellFormed.{dimensions, is_read, is_source, is_input_of, is_func_of, keeps, keeps_index, is_update_variable, is_argument, IsFunc, IsUpdate}
 use Rattle.halide_pipeline.proofs.Keeping.{keeps-grows}
 use Rattle.halide_parser.specs.Meaning.{with_update}
 

@@ -30,8 +30,7 @@ use Rattle.halide_parser.specs.declared.scopes.Scope.{Scope}
 use Rattle.halide_parser.specs.inner.Judging as j
 use Rattle.halide_parser.specs.inner.JudgedLines.{tree_or_zero}
 use Rattle.halide_parser.specs.Expressions as asked
-use Rattle.halide_parser.specs.Readers.{source}
-use Rattle.halide_parser.specs.Scopes.{variable}
+use Rattle.halide_parser.specs.Expressions.{source, variable}
 
 -- Where an argument stands in place it is not moved, and where it doesn't it is not used.
 pub record Calm (first second : Bool) (marks : Marks) : Type 0 where

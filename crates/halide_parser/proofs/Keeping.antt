@@ -9,14 +9,12 @@ use Rattle.halide_pipeline.specs.declared.definitions.Input.{Input}
 use Rattle.halide_pipeline.specs.declared.definitions.Output.{Output}
 use Rattle.halide_pipeline.specs.declared.expressions.Source.{Source}
 use Rattle.halide_pipeline.specs.declared.expressions.Source.TheVariants as sources
-use Rattle.halide_pipeline.specs.Definitions.{dimensions}
-use Rattle.halide_pipeline.specs.Names.{lookup, Named}
-use Rattle.halide_pipeline.specs.WellFormed.{are_names, IsFunc, is_input, is_output, is_width, is_height, are_dimensions, is_source, is_func_of, is_read}
+use Rattle.halide_pipeline.specs.WellFormed.{dimensions, are_names, IsFunc, is_input, is_output, is_width, is_height, are_dimensions, is_source, is_func_of, is_read}
+use Rattle.halide_pipeline.specs.Pipelines.{lookup, Named}
 use Rattle.halide_parser.specs.declared.readers.Reader.{Reader}
 use Rattle.halide_parser.specs.declared.scopes.Scope.{Scope}
 use Rattle.halide_parser.specs.Expressions as asked
-use Rattle.halide_parser.specs.Readers.{source, with_dimensions, func_place, place_of, func_at}
-use Rattle.halide_parser.specs.Readers as rd
+use Rattle.halide_parser.specs.Expressions.{source, with_dimensions, func_place, place_of, func_at}
 use Rattle.halide_parser.specs.Rules.{is_bad_box, is_bad_extent, height_of, count_with}
 use Rattle.halide_parser.proofs.KeptTrees.{MayRead}
 
@@ -62,15 +60,15 @@ some_of None e = cc
 some_of (Some x) e = (x, refl)
 
 -- a source that is there may be read with as many indexes as it has dimensions
-may_read : (reader : Reader) (s : Source) → is_source reader.inputs reader.funcs s ≡ true → is_read reader.inputs reader.funcs (length reader.funcs) s (rd.dimensions reader s) ≡ true
+may_read : (reader : Reader) (s : Source) → is_source reader.inputs reader.funcs s ≡ true → is_read reader.inputs reader.funcs (length reader.funcs) s (asked.dimensions reader s) ≡ true
 may_read reader (sources.Input place) e =
     let found = some_of (slice_get reader.inputs place) e in
     rw (found.1) (same found.0.dimensions)
 may_read reader (sources.Func place) e =
     let found = some_of (slice_get reader.funcs place) e in
     let below : nat_lt place (length reader.funcs) ≡ true = lt-ltb place (length reader.funcs) (slice_get_within reader.funcs place found.0 found.1) in
-    let equal : is_func_of (slice_get reader.funcs place) (rd.func_dimensions (slice_get reader.funcs place)) ≡ true = rw (found.1) (same (dimensions found.0)) in
-    and_from (nat_lt place (length reader.funcs)) (is_func_of (slice_get reader.funcs place) (rd.func_dimensions (slice_get reader.funcs place))) below equal
+    let equal : is_func_of (slice_get reader.funcs place) (asked.func_dimensions (slice_get reader.funcs place)) ≡ true = rw (found.1) (same (dimensions found.0)) in
+    and_from (nat_lt place (length reader.funcs)) (is_func_of (slice_get reader.funcs place) (asked.func_dimensions (slice_get reader.funcs place))) below equal
 
 -- each source that a name stands for
 may_by : (reader : Reader) (scope : Scope) (found : Option Source) → ((s : Source) → found ≡ Some s → is_source reader.inputs reader.funcs s ≡ true)
@@ -96,7 +94,7 @@ before_last reader place (sources.Func at) n last other e =
 before_by : (reader : Reader) (scope : Scope) (place : ℕ) (found : Option Source) → scope.own ≡ Some place → suc place ≡ length reader.funcs → ((s : Source) → found ≡ Some s → is_source reader.inputs reader.funcs s ≡ true)
     → MayRead (is_read reader.inputs reader.funcs place) true scope (with_dimensions reader found)
 before_by reader scope place None own last there = tt
-before_by reader scope place (Some s) own last there = λ other. before_last reader place s (rd.dimensions reader s) last (rw own at other) (may_read reader s (there s refl))
+before_by reader scope place (Some s) own last there = λ other. before_last reader place s (asked.dimensions reader s) last (rw own at other) (may_read reader s (there s refl))
 
 pub may_before : (reader : Reader) (scope : Scope) (place : ℕ) → IsKept reader → scope.own ≡ Some place → suc place ≡ length reader.funcs → (name : List ℕ) → MayRead (is_read reader.inputs reader.funcs place) true scope (source reader name)
 unfolding source
@@ -145,11 +143,11 @@ pub record IsNamed (reader : Reader) (name : List ℕ) : Type 0 where
   pub func : Func
   pub place_is : func_place reader name ≡ Some place
   pub found : slice_get reader.funcs place ≡ Some func
-  pub func_is : rd.func reader name ≡ Some func
+  pub func_is : asked.func reader name ≡ Some func
 
 named_by : (reader : Reader) (name : List ℕ) (s : Option Source) → lookup name reader.names ≡ s → ((t : Source) → s ≡ Some t → is_source reader.inputs reader.funcs t ≡ true) → is_some (place_of s) ≡ true
     → IsNamed reader name
-unfolding rd.func func_place
+unfolding asked.func func_place
 named_by reader name None is there e = cc
 named_by reader name (Some (sources.Input place)) is there e = cc
 named_by reader name (Some (sources.Func place)) is there e =

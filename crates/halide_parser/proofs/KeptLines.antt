@@ -9,8 +9,7 @@ use Rattle.halide_pipeline.specs.declared.expressions.Source.{Source}
 use Rattle.halide_pipeline.specs.declared.expressions.Source.TheVariants as sources
 use Rattle.halide_pipeline.specs.declared.expressions.Variable.{Variable}
 use Rattle.halide_pipeline.specs.declared.expressions.Variable.TheVariants as variables
-use Rattle.halide_pipeline.specs.Definitions.{dimensions, count_arguments}
-use Rattle.halide_pipeline.specs.WellFormed.{is_name, is_second_name, IsFunc, is_input, is_width, is_height, are_dimensions, is_source, is_func_of, is_read, is_argument}
+use Rattle.halide_pipeline.specs.WellFormed.{dimensions, count_arguments, is_name, is_second_name, IsFunc, is_input, is_width, is_height, are_dimensions, is_source, is_func_of, is_read, is_argument}
 use Rattle.halide_pipeline.proofs.Keeping.{keeps-grows}
 use Rattle.halide_parser_syntax.specs.declared.lines.Definition.{Definition}
 use Rattle.halide_parser_syntax.specs.declared.lines.Extents.{Extents}
@@ -26,8 +25,8 @@ use Rattle.halide_parser.specs.inner.JudgedLines.{tree_of, tree_or_zero}
 use Rattle.halide_parser.specs.inner.JudgedLines as lines
 use Rattle.halide_parser.specs.Meaning.{with_input, with_func, with_output}
 use Rattle.halide_parser.specs.Rules as r
-use Rattle.halide_pipeline.specs.Names.{is_named}
-use Rattle.halide_parser.specs.Scopes.{variable}
+use Rattle.halide_pipeline.specs.Pipelines.{is_named}
+use Rattle.halide_parser.specs.Expressions.{variable}
 use Rattle.halide_parser.proofs.Faultless.{IsFaultless}
 use Rattle.halide_parser.proofs.Growing.{get-last, inputs_grow, funcs_grow, func_grows, source-input, source-func, some-last}
 use Rattle.halide_parser.proofs.Keeping.{IsKept, IsDrawn, lookup-last, may, box, counted, named, all_of_three}

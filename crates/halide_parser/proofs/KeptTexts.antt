@@ -1,9 +1,7 @@
 -- A text that is read names a pipeline that keeps the rules.
 use Rattle.std.proofs.Common.{◌≡◌, ℕ, ◌+◌, false, List, [], ◌∷◌, length, Option, Some, None, Result, Ok, Err, refl, sym, subst, ◌∙◌}
 use Rattle.std.specs.declared.alloc.Global.{Global}
-use Rattle.line_text.specs.Reading.{◌>>=◌}
-use Rattle.line_text.specs.Lines.{lines_of}
-use Rattle.line_text.specs.LineReading.{located, taken_from}
+use Rattle.line_text.specs.Lines.{◌>>=◌, located, taken_from, lines_of}
 use Rattle.halide_pipeline.specs.Pipelines.{Pipeline}
 use Rattle.halide_pipeline.specs.declared.definitions.Output.{Output}
 use Rattle.halide_pipeline.specs.WellFormed.{IsWellFormed}

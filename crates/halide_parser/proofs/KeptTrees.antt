@@ -24,8 +24,7 @@ use Rattle.halide_parser.specs.declared.scopes.Scope.{Scope}
 use Rattle.halide_parser.specs.inner.Judging as j
 use Rattle.halide_parser.specs.inner.JudgedLines.{tree_or_zero}
 use Rattle.halide_parser.specs.Expressions as asked
-use Rattle.halide_parser.specs.Readers.{source}
-use Rattle.halide_parser.specs.Scopes.{variable}
+use Rattle.halide_parser.specs.Expressions.{source, variable}
 use Rattle.halide_parser.proofs.Numbers.{IsSmall}
 
 module _ (reads : Source → ℕ → Bool) (has : Variable → Bool) where

@@ -8,11 +8,10 @@ use Rattle.halide_pipeline.specs.declared.definitions.Func.{Func}
 use Rattle.halide_pipeline.specs.declared.definitions.Update.{Update}
 use Rattle.halide_pipeline.specs.declared.expressions.Variable.{Variable}
 use Rattle.halide_pipeline.specs.declared.expressions.Variable.TheVariants as variables
-use Rattle.halide_pipeline.specs.Definitions.{dimensions, is_first_in_place, is_second, is_second_in_place}
+use Rattle.halide_pipeline.specs.WellFormed.{dimensions, is_first_in_place, is_second, is_second_in_place, is_alone, IsFunc, IsUpdate, is_read, is_update_variable, keeps, keeps_index, is_minimum, is_second_minimum, is_box, is_width, is_height}
 use Rattle.halide_pipeline.specs.Expressions.{uses}
 use Rattle.halide_pipeline.specs.Words.{subtract}
 use Rattle.halide_pipeline.specs.WellFormed as w
-use Rattle.halide_pipeline.specs.WellFormed.{is_alone, IsFunc, IsUpdate, is_read, is_update_variable, keeps, keeps_index, is_minimum, is_second_minimum, is_box, is_width, is_height}
 use Rattle.halide_parser_syntax.specs.declared.lines.Bounds.{Bounds}
 use Rattle.halide_parser_syntax.specs.declared.lines.Change.{Change}
 use Rattle.halide_parser_syntax.specs.declared.lines.Line.TheVariants as line
@@ -28,10 +27,10 @@ use Rattle.halide_parser.specs.inner.Judging as j
 use Rattle.halide_parser.specs.inner.JudgedLines.{tree_of}
 use Rattle.halide_parser.specs.inner.JudgedLines as lines
 use Rattle.halide_parser.specs.Meaning.{second_tree, reduction_of, second_reduction, update_of, with_update, applied}
-use Rattle.halide_parser.specs.Readers as rd
+use Rattle.halide_parser.specs.Expressions as rd
 use Rattle.halide_parser.specs.Rules as r
-use Rattle.halide_pipeline.specs.Names.{is_named}
-use Rattle.halide_parser.specs.Scopes.{variable, known_scope, change_scope, change_scope_of, bounds_name}
+use Rattle.halide_pipeline.specs.Pipelines.{is_named}
+use Rattle.halide_parser.specs.Expressions.{variable, known_scope, change_scope, change_scope_of, bounds_name}
 use Rattle.halide_parser.proofs.Faultless.{IsFaultless}
 use Rattle.halide_parser.proofs.InPlace.{Calm, calm_parts, Stays, stays_there, placed, strict_join, unused_none}
 use Rattle.halide_parser.proofs.Growing.{get-last, updates_grow, func_grows, update_grows, source-update, get-update, length-update, updated}

@@ -1,6 +1,6 @@
 -- The variables that are found ahead are those of the line that is written.
 use Rattle.std.proofs.Common.{◌≡◌, ℕ, Bool, true, false, List, [], ◌∷◌, Option, Some, None, Result, Ok, Err, refl, ap, ◌∙◌}
-use Rattle.line_text.specs.Reading.{◌>>=◌}
+use Rattle.line_text.specs.Lines.{◌>>=◌}
 use Rattle.halide_pipeline.specs.declared.definitions.Func.{Func}
 use Rattle.halide_parser_syntax.specs.declared.faults.ParseFault.{ParseFault}
 use Rattle.halide_parser_syntax.specs.declared.tokens.Token.{Token}
@@ -20,8 +20,7 @@ use Rattle.halide_parser.specs.declared.scopes.Scope.{Scope}
 use Rattle.halide_parser.specs.inner.Ahead.{behind_over, second_argument, second_name, arguments_of, with_ranges, update_scope, scope_ahead}
 use Rattle.halide_parser.specs.inner.Judging.{judging}
 use Rattle.halide_parser.specs.inner.JudgedLines.{judged, judged_line}
-use Rattle.halide_parser.specs.Readers.{func, func_place}
-use Rattle.halide_parser.specs.Scopes.{scope_of, bounds_name, change_scope_of}
+use Rattle.halide_parser.specs.Expressions.{func, func_place, scope_of, bounds_name, change_scope_of}
 
 -- no expression has an `over`
 past : (w : Written) (rest : List Token) → behind_over (spell w rest) ≡ behind_over rest

@@ -3,7 +3,7 @@ use Rattle.std.proofs.Common.{◌≡◌, ℕ, Bool, true, false, List, [], ◌�
 use Rattle.std.specs.Prelude.{◌&&◌, nat_lt}
 use Rattle.std.specs.List.{list_any}
 use Rattle.std.proofs.lemmas.Bool.{or_parts, and_parts, and_from, ltb-false, le-leb}
-use Rattle.halide_pipeline.specs.Names.{Named}
+use Rattle.halide_pipeline.specs.Pipelines.{Named}
 use Rattle.halide_pipeline.specs.WellFormed.{is_name, is_second_name, are_names}
 use Rattle.halide_parser_syntax.specs.declared.tokens.Token.{Token}
 use Rattle.halide_parser_syntax.specs.declared.tokens.Token.TheVariants as t
@@ -15,7 +15,7 @@ use Rattle.halide_parser_syntax.specs.declared.lines.Line.TheVariants as line
 use Rattle.halide_parser_syntax.specs.Grammar.{Written, spell, Literal, Bare, Group, Minus, Call, CallTwo, Two, Three, Product, Sum, Comparison}
 use Rattle.halide_parser_syntax.specs.LineGrammar.{spell_line, spell_height, spell_kind, spell_argument, spell_index, spell_sign, spell_second_bounds}
 use Rattle.halide_parser.specs.Rules.{is_long}
-use Rattle.halide_parser.specs.Scopes.{bounds_name}
+use Rattle.halide_parser.specs.Expressions.{bounds_name}
 
 abbrev pub AreShort : List Token → Type 0
 AreShort tokens = list_any is_long tokens ≡ false

@@ -25,8 +25,7 @@ use Rattle.halide_parser.specs.declared.scopes.Scope.{Scope}
 use Rattle.halide_parser.specs.inner.Judging as j
 use Rattle.halide_parser.specs.inner.JudgedLines as lines
 use Rattle.halide_parser.specs.Expressions as asked
-use Rattle.halide_parser.specs.Readers.{source}
-use Rattle.halide_parser.specs.Scopes.{variable}
+use Rattle.halide_parser.specs.Expressions.{source, variable}
 use Rattle.halide_parser.proofs.Marks as marks
 use Rattle.halide_parser.proofs.Wholeness.{IsPlain, fits_is, whole}
 

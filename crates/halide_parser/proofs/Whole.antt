@@ -1,8 +1,6 @@
 -- The whole of a text from its lines.
 use Rattle.std.proofs.Common.{◌≡◌, ℕ, suc, ◌≤◌, Bool, true, false, cond, ◌==◌, List, [], ◌∷◌, length, Ok, refl, arith}
-use Rattle.line_text.specs.Lines.{lines_of, joined}
-use Rattle.line_text.specs.LineReading.{taken_from}
-use Rattle.line_text.specs.Reading.{FailsAt}
+use Rattle.line_text.specs.Lines.{lines_of, joined, taken_from, FailsAt}
 use Rattle.line_text.specs.declared.read_errors.LocatedError.{LocatedError}
 use Rattle.line_text.specs.declared.read_errors.LocatedError.TheVariants as places
 use Rattle.halide_parser_syntax.specs.declared.faults.ParseFault.{ParseFault}

@@ -23,8 +23,7 @@ use Rattle.halide_parser.specs.declared.readers.Reader.{Reader}
 use Rattle.halide_parser.specs.declared.scopes.Scope.{Scope}
 use Rattle.halide_parser.specs.inner.Judging as j
 use Rattle.halide_parser.specs.Expressions as asked
-use Rattle.halide_parser.specs.Readers.{source}
-use Rattle.halide_parser.specs.Scopes.{variable}
+use Rattle.halide_parser.specs.Expressions.{source, variable}
 use Rattle.halide_parser.proofs.Marks.{literal_is}
 
 -- ---- sizes

@@ -1,7 +1,7 @@
 -- What is asked of an expression as it is written, among the variables of its line and behind the lines before it, and the tree that it
 -- means.
 -- This project's own.
-use Rattle.std.specs.Prelude.{ℕ, Bool, false, not, ◌&&◌, ◌==◌, Option, Some, None, is_some}
+use Rattle.std.specs.Prelude.{ℕ, Bool, false, not, ◌&&◌, ◌==◌, Option, Some, None, is_some, if◌then◌else◌, List, slice_get}
 use Rattle.halide_pipeline.specs.declared.expressions.Variable.{Variable}
 use Rattle.halide_pipeline.specs.declared.expressions.Variable.TheVariants as variables
 use Rattle.halide_pipeline.specs.declared.expressions.Operation.{Operation}
@@ -12,6 +12,9 @@ use Rattle.halide_pipeline.specs.declared.expressions.Source.{Source}
 use Rattle.halide_pipeline.specs.declared.expressions.Source.TheVariants as sources
 use Rattle.halide_pipeline.specs.Expressions.{nodes}
 use Rattle.halide_pipeline.specs.WellFormed.{is_alone, is_divisor, fits}
+use Rattle.halide_pipeline.specs.declared.definitions.Func.{Func}
+use Rattle.halide_pipeline.specs.Pipelines.{is_named, lookup}
+use Rattle.halide_pipeline.specs.declared.definitions.Input.{Input}
 use Rattle.halide_parser_syntax.specs.declared.tokens.ProductOperator.TheVariants as products
 use Rattle.halide_parser_syntax.specs.declared.tokens.SumOperator.{SumOperator}
 use Rattle.halide_parser_syntax.specs.declared.tokens.SumOperator.TheVariants as sums
@@ -21,10 +24,89 @@ use Rattle.halide_parser_syntax.specs.declared.tokens.TwoFunction.{TwoFunction}
 use Rattle.halide_parser_syntax.specs.declared.tokens.TwoFunction.TheVariants as twos
 use Rattle.halide_parser_syntax.specs.declared.tokens.ThreeFunction.TheVariants as threes
 use Rattle.halide_parser_syntax.specs.Grammar.{Written, Literal, Bare, Group, Minus, Call, CallTwo, Two, Three, Product, Sum, Comparison, nesting}
+use Rattle.halide_parser_syntax.specs.declared.lines.Bounds.{Bounds}
+use Rattle.halide_parser_syntax.specs.declared.lines.Change.{Change}
+use Rattle.halide_parser_syntax.specs.declared.lines.Line.{Line}
 use Rattle.halide_parser.specs.declared.readers.Reader.{Reader}
 use Rattle.halide_parser.specs.declared.scopes.Scope.{Scope}
-use Rattle.halide_parser.specs.Readers.{source}
-use Rattle.halide_parser.specs.Scopes.{variable}
+use Rattle.halide_parser_syntax.specs.declared.lines.Line.TheVariants as line
+use Rattle.halide_pipeline.specs.WellFormed as definitions
+
+-- ---- What names stand for after some lines.
+
+abbrev pub input_dimensions : Option Input → ℕ
+input_dimensions None = 1
+input_dimensions (Some input) = input.dimensions
+
+abbrev pub func_dimensions : Option Func → ℕ
+func_dimensions None = 1
+func_dimensions (Some func) = definitions.dimensions func
+
+-- how many indexes a source has
+abbrev pub dimensions : Reader → Source → ℕ
+dimensions reader (sources.Input place) = input_dimensions (slice_get reader.inputs place)
+dimensions reader (sources.Func place) = func_dimensions (slice_get reader.funcs place)
+
+abbrev pub with_dimensions : Reader → Option Source → Option (Source × ℕ)
+with_dimensions reader None = None
+with_dimensions reader (Some source) = Some (source, dimensions reader source)
+
+-- the source with a name, and how many indexes it has
+unfoldable pub source : Reader → List ℕ → Option (Source × ℕ)
+source reader name = with_dimensions reader (lookup name reader.names)
+
+abbrev pub place_of : Option Source → Option ℕ
+place_of (Some (sources.Func place)) = Some place
+place_of _ = None
+
+-- the place of the Func with a name
+unfoldable pub func_place : Reader → List ℕ → Option ℕ
+func_place reader name = place_of (lookup name reader.names)
+
+abbrev pub func_at : Reader → Option ℕ → Option Func
+func_at reader None = None
+func_at reader (Some place) = slice_get reader.funcs place
+
+unfoldable pub func : Reader → List ℕ → Option Func
+func reader name = func_at reader (func_place reader name)
+
+-- ---- The variables of a line: a Func's arguments, and in an update its reduction variables.
+
+abbrev pub empty : Scope
+empty = record { first_argument = None; second_argument = None; first_reduction = None; second_reduction = None; own = None }
+
+-- the variable with a name
+unfoldable pub variable : Scope → List ℕ → Option Variable
+variable scope name =
+    if is_named scope.first_argument name then Some variables.FirstArgument
+    else if is_named scope.second_argument name then Some variables.SecondArgument
+    else if is_named scope.first_reduction name then Some variables.FirstReduction
+    else if is_named scope.second_reduction name then Some variables.SecondReduction
+    else None
+
+-- ---- the variables of a line
+
+abbrev pub bounds_name : Option Bounds → Option (List ℕ)
+bounds_name None = None
+bounds_name (Some bounds) = Some bounds.name
+
+abbrev pub unknown_scope : {V : Type 0} → Option ℕ → Change V → Scope
+unknown_scope own change = record { first_argument = None; second_argument = None; first_reduction = Some change.first.name; second_reduction = bounds_name change.second; own = own }
+
+abbrev pub known_scope : {V : Type 0} → Func → Option ℕ → Change V → Scope
+known_scope f own change = record { first_argument = Some f.first_argument; second_argument = f.second_argument; first_reduction = Some change.first.name; second_reduction = bounds_name change.second; own = own }
+
+abbrev pub change_scope_of : {V : Type 0} → Option Func → Option ℕ → Change V → Scope
+change_scope_of None own change = unknown_scope own change
+change_scope_of (Some f) own change = known_scope f own change
+
+abbrev pub change_scope : {V : Type 0} → Reader → Change V → Scope
+change_scope reader change = change_scope_of (func reader change.name) (func_place reader change.name) change
+
+abbrev pub scope_of : {V : Type 0} → Reader → Line V → Scope
+scope_of reader (line.Func definition) = record { first_argument = Some definition.first_argument; second_argument = definition.second_argument; first_reduction = None; second_reduction = None; own = None }
+scope_of reader (line.Update change) = change_scope reader change
+scope_of reader _ = empty
 
 -- ---- names and divisors, at one place
 

@@ -6,7 +6,7 @@ use Rattle.halide_pipeline.specs.declared.expressions.Source.TheVariants as sour
 use Rattle.halide_pipeline.specs.declared.definitions.Func.{Func}
 use Rattle.halide_pipeline.specs.declared.definitions.Update.{Update}
 use Rattle.halide_pipeline.specs.declared.definitions.Reduction.{Reduction}
-use Rattle.halide_pipeline.specs.Names.{lookup}
+use Rattle.halide_pipeline.specs.Pipelines.{lookup}
 use Rattle.halide_pipeline.specs.Words.{subtract}
 use Rattle.halide_parser_syntax.specs.declared.lines.Bounds.{Bounds}
 use Rattle.halide_parser_syntax.specs.declared.lines.Change.{Change}
@@ -15,7 +15,7 @@ use Rattle.halide_parser_syntax.specs.declared.lines.Extents.{Extents}
 use Rattle.halide_parser_syntax.specs.declared.lines.Line.{Line}
 use Rattle.halide_parser_syntax.specs.declared.lines.Line.TheVariants as line
 use Rattle.halide_parser.specs.declared.readers.Reader.{Reader}
-use Rattle.halide_parser.specs.Readers.{func_place}
+use Rattle.halide_parser.specs.Expressions.{func_place}
 use Rattle.halide_parser.specs.Rules.{height_of, count_with}
 
 -- ---- what a line adds

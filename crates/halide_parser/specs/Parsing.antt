@@ -2,9 +2,7 @@
 -- This project's own.
 use Rattle.std.specs.Prelude.{ℕ, ◌+◌, Bool, nat_lt, List, [], length, Option, Some, None, Result, Ok, Err}
 use Rattle.std.specs.declared.alloc.Global.{Global}
-use Rattle.line_text.specs.Reading.{◌>>=◌}
-use Rattle.line_text.specs.Lines.{lines_of}
-use Rattle.line_text.specs.LineReading.{taken_from}
+use Rattle.line_text.specs.Lines.{◌>>=◌, taken_from, lines_of}
 use Rattle.halide_pipeline.specs.Pipelines.{Pipeline}
 use Rattle.halide_pipeline.specs.declared.definitions.Output.{Output}
 use Rattle.halide_parser_syntax.specs.declared.faults.ParseFault.{ParseFault}
@@ -15,10 +13,9 @@ use Rattle.halide_parser_syntax.specs.Grammar.{Written}
 use Rattle.halide_parser_syntax.specs.Tokens.{tokens_of}
 use Rattle.halide_parser_syntax.specs.inner.LineReading.{line_of}
 use Rattle.halide_parser.specs.declared.readers.Reader.{Reader}
-use Rattle.halide_parser.specs.Expressions.{tree}
+use Rattle.halide_parser.specs.Expressions.{tree, scope_of}
 use Rattle.halide_parser.specs.Meaning.{applied}
 use Rattle.halide_parser.specs.Rules.{fault_of}
-use Rattle.halide_parser.specs.Scopes.{scope_of}
 
 -- ---- a line
 

@@ -6,8 +6,8 @@ use Rattle.std.specs.Str.{bytes_eq}
 use Rattle.halide_pipeline.specs.declared.expressions.Variable.TheVariants as variables
 use Rattle.halide_pipeline.specs.declared.definitions.Func.{Func}
 use Rattle.halide_pipeline.specs.declared.definitions.Output.{Output}
-use Rattle.halide_pipeline.specs.Definitions as definitions
-use Rattle.halide_pipeline.specs.Names.{lookup, is_named}
+use Rattle.halide_pipeline.specs.WellFormed as definitions
+use Rattle.halide_pipeline.specs.Pipelines.{lookup, is_named}
 use Rattle.halide_pipeline.specs.WellFormed.{is_alone, is_argument_name, most_extent, most_points}
 use Rattle.halide_parser_syntax.specs.declared.faults.ParseFault.{ParseFault}
 use Rattle.halide_parser_syntax.specs.declared.faults.ParseFault.TheVariants as fault
@@ -20,9 +20,7 @@ use Rattle.halide_parser_syntax.specs.declared.lines.Line.TheVariants as line
 use Rattle.halide_parser_syntax.specs.Grammar.{Written, has_part}
 use Rattle.halide_parser.specs.declared.readers.Reader.{Reader}
 use Rattle.halide_parser.specs.declared.scopes.Scope.{Scope}
-use Rattle.halide_parser.specs.Expressions.{is_unknown_at, is_wrong_count_at, is_bad_divisor_at, uses_at, alone, calls_own_at, moves_first_at, moves_second_at, exceeds}
-use Rattle.halide_parser.specs.Readers.{func, func_place}
-use Rattle.halide_parser.specs.Scopes.{scope_of}
+use Rattle.halide_parser.specs.Expressions.{is_unknown_at, is_wrong_count_at, is_bad_divisor_at, uses_at, alone, calls_own_at, moves_first_at, moves_second_at, exceeds, scope_of, func, func_place}
 
 -- ---- behind the output line only blank lines stand
 

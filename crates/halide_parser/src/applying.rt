@@ -1,7 +1,7 @@
 //! What a faultless line adds to the lines before it.
 
 ghost use Rattle.std.specs.Prelude.{◌≡◌, [], ◌∷◌, IfOk, OnOk, None};
-ghost use Rattle.halide_pipeline.specs.Names.{lookup};
+ghost use Rattle.halide_pipeline.specs.Pipelines.{lookup};
 ghost use Rattle.halide_parser.specs.Meaning as spec;
 ghost use Rattle.halide_parser.specs.inner.JudgedLines.{tree_of};
 

@@ -1,7 +1,7 @@
 //! A line read from its tokens, its expressions judged.
 
 ghost use Rattle.std.specs.Prelude.{◌≡◌};
-ghost use Rattle.line_text.specs.Reading.{Gives};
+ghost use Rattle.line_text.specs.Lines.{Gives};
 ghost use Rattle.halide_parser_syntax.specs.inner.LineReading as reading;
 ghost use Rattle.halide_parser.specs.inner.Judging.{judging};
 

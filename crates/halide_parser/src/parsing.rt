@@ -2,7 +2,7 @@
 
 ghost use Rattle.std.specs.Prelude.{◌≡◌, ◌+◌, ◌<◌, ◌^◌, IfOk, List, Option};
 ghost use Rattle.halide_pipeline.specs.WellFormed.{IsWellFormed};
-ghost use Rattle.line_text.specs.Reading.{Gives, GivesLocated};
+ghost use Rattle.line_text.specs.Lines.{Gives, GivesLocated};
 ghost use Rattle.halide_parser_syntax.specs.declared.tokens.Token.{Token};
 ghost use Rattle.halide_parser_syntax.specs.declared.lines.Line.{Line};
 ghost use Rattle.halide_parser_syntax.specs.Grammar.{Written};

@@ -4,7 +4,7 @@
 
 ghost use Rattle.std.specs.Prelude.{◌≡◌, ◌<◌, ◌≤◌, ◌+◌, ◌^◌, length, IfOk, IfSome, OnOk, None, Some, if◌then◌else◌};
 ghost use Rattle.std.specs.Prelude.{option_map};
-ghost use Rattle.line_text.specs.Reading.{Gives};
+ghost use Rattle.line_text.specs.Lines.{Gives};
 ghost use Rattle.halide_parser_syntax.specs.declared.states.Bracket.TheVariants as brackets;
 ghost use Rattle.halide_parser_syntax.specs.inner.Machine as machine;
 ghost use Rattle.halide_parser_syntax.specs.inner.LineReading as reading;

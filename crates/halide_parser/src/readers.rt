@@ -2,7 +2,7 @@
 
 ghost use Rattle.std.specs.Prelude.{◌≡◌};
 ghost use Rattle.std.specs.Option.{option_copied};
-ghost use Rattle.halide_parser.specs.Readers as spec;
+ghost use Rattle.halide_parser.specs.Expressions as spec;
 
 use halide_pipeline::{Func, Input, Names, Output, Source};
 use sqlite_items::Items;
@@ -39,7 +39,7 @@ fn dimensions(reader: &Reader, source: Source) -> usize
 }
 
 /// The source with a name, and its number of dimensions.
-#[tactic(auto, unfolding(crate::specs::Readers::source))]
+#[tactic(auto, unfolding(crate::specs::Expressions::source))]
 pub fn source(reader: &Reader, name: &[u8]) -> Option<(Source, usize)>
     ensures { result ≡ spec.source reader.now name.now }
 {
@@ -50,7 +50,7 @@ pub fn source(reader: &Reader, name: &[u8]) -> Option<(Source, usize)>
 }
 
 /// The place of the Func with a name.
-#[tactic(auto, unfolding(crate::specs::Readers::func_place))]
+#[tactic(auto, unfolding(crate::specs::Expressions::func_place))]
 pub fn func_place(reader: &Reader, name: &[u8]) -> Option<usize>
     ensures { result ≡ spec.func_place reader.now name.now }
 {
@@ -61,7 +61,7 @@ pub fn func_place(reader: &Reader, name: &[u8]) -> Option<usize>
 }
 
 /// The Func with a name.
-#[tactic(auto, unfolding(crate::specs::Readers::func))]
+#[tactic(auto, unfolding(crate::specs::Expressions::func))]
 pub fn func<'a>(reader: &'a Reader, name: &[u8]) -> Option<&'a Func>
     ensures { option_copied result ≡ spec.func reader.now name.now }
 {

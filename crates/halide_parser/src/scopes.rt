@@ -1,8 +1,8 @@
 //! The variables of a definition.
 
 ghost use Rattle.std.specs.Prelude.{◌≡◌, IfOk};
-ghost use Rattle.halide_pipeline.specs.Names.{is_named};
-ghost use Rattle.halide_parser.specs.Scopes as spec;
+ghost use Rattle.halide_pipeline.specs.Pipelines.{is_named};
+ghost use Rattle.halide_parser.specs.Expressions as spec;
 
 use halide_pipeline::Variable;
 use sqlite_items::Items;
@@ -43,7 +43,7 @@ pub fn is_named(own: &Option<Items<u8>>, name: &[u8]) -> bool
 }
 
 /// The variable with a name.
-#[tactic(auto, unfolding(crate::specs::Scopes::variable))]
+#[tactic(auto, unfolding(crate::specs::Expressions::variable))]
 pub fn variable(scope: &Scope, name: &[u8]) -> Option<Variable>
     ensures { result ≡ spec.variable scope.now name.now }
 {

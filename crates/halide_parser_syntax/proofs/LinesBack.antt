@@ -3,7 +3,7 @@ use Rattle.std.proofs.Common.{◌≡◌, ℕ, Bool, true, false, List, [], ◌�
 use Rattle.std.specs.Prelude.{codes}
 use Rattle.std.specs.Str.{bytes_eq}
 use Rattle.std.proofs.lemmas.Slice.Eq.{bytes_eq-Decides}
-use Rattle.line_text.specs.Reading.{◌>>=◌}
+use Rattle.line_text.specs.Lines.{◌>>=◌}
 use Rattle.halide_parser_syntax.specs.declared.faults.ParseFault.{ParseFault}
 use Rattle.halide_parser_syntax.specs.declared.tokens.Token.{Token}
 use Rattle.halide_parser_syntax.specs.declared.tokens.Token.TheVariants as t

@@ -13,7 +13,7 @@ use Rattle.halide_parser_syntax.specs.declared.states.Frame.{Frame}
 use Rattle.halide_parser_syntax.specs.declared.states.State.{State}
 use Rattle.halide_parser_syntax.specs.inner.Algebra.{Algebra, writing, made}
 use Rattle.halide_parser_syntax.specs.Grammar.{Written, Literal, Bare}
-use Rattle.halide_parser_syntax.specs.inner.Stacks.{is_empty}
+use Rattle.halide_parser_syntax.specs.inner.Machine.{is_empty}
 use Rattle.halide_parser_syntax.specs.inner.Machine as m
 
 module _ {V : Type 0} (alg : Algebra V) where

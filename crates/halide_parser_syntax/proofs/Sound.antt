@@ -13,7 +13,7 @@ use Rattle.halide_parser_syntax.specs.declared.states.Frame.{Frame}
 use Rattle.halide_parser_syntax.specs.declared.states.State.{State}
 use Rattle.halide_parser_syntax.specs.inner.Algebra.{writing}
 use Rattle.halide_parser_syntax.specs.Grammar.{Written, Literal, Bare, Group, Call, CallTwo, Two, Three, spell, level, IsRight}
-use Rattle.halide_parser_syntax.specs.inner.Stacks.{is_empty}
+use Rattle.halide_parser_syntax.specs.inner.Machine.{is_empty}
 use Rattle.halide_parser_syntax.specs.inner.Machine as m
 
 -- ---- the tokens of what was read

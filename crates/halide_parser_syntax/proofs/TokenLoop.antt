@@ -1,8 +1,7 @@
 -- Taking tokens one after the other, as a loop does.
 use Rattle.std.proofs.Common.{◌≡◌, ℕ, zero, suc, ◌-◌, ◌<◌, true, false, List, [], ◌∷◌, ◌++◌, length, Result, Ok, Err, refl, sym, ap, ◌∙◌, append_assoc, arith}
 use Rattle.std.proofs.lemmas.List.{append-nil}
-use Rattle.line_text.specs.Classes.{skip_blanks, ends}
-use Rattle.line_text.specs.Reading.{◌>>=◌, Fails}
+use Rattle.line_text.specs.Lines.{skip_blanks, ends, ◌>>=◌, Fails}
 use Rattle.line_text.specs.declared.read_errors.ReadError.{ReadError}
 use Rattle.line_text.specs.declared.read_errors.ReadError.TheVariants as errors
 use Rattle.halide_parser_syntax.specs.declared.faults.ParseFault.{ParseFault}

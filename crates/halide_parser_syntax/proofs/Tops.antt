@@ -2,7 +2,7 @@
 use Rattle.std.proofs.Common.{◌≡◌, ◌==◌, false, List, [], ◌∷◌, ◌++◌, length, Option, Some, None, MatchOption, refl, sym, ap, ◌∙◌, arith}
 use Rattle.std.proofs.lemmas.Bool.Decides.{nat_tests}
 use Rattle.halide_parser_syntax.specs.inner.Reversed.{on_top}
-use Rattle.halide_parser_syntax.specs.inner.Stacks.{is_empty}
+use Rattle.halide_parser_syntax.specs.inner.Machine.{is_empty}
 
 module _ {A : Type 0} where
   pub pushed : (items : List A) (item : A) → on_top (items ++ item ∷ []) ≡ item ∷ on_top items

@@ -3,9 +3,7 @@
 use Rattle.std.specs.Prelude.{ℕ, zero, suc, ◌+◌, min, ◌==◌, if◌then◌else◌, List, [], ◌∷◌, length, take, drop, codes, Result, Ok, Err}
 use Rattle.std.specs.List.{prefix_len}
 use Rattle.std.specs.Str.{bytes_eq}
-use Rattle.line_text.specs.Classes.{begins_name, continues_name, is_digit, skip_blanks, ends}
-use Rattle.line_text.specs.Numbers.{decimal_number}
-use Rattle.line_text.specs.Reading.{◌>>=◌}
+use Rattle.line_text.specs.Lines.{begins_name, continues_name, is_digit, skip_blanks, ends, decimal_number, ◌>>=◌}
 use Rattle.halide_parser_syntax.specs.declared.faults.ParseFault.{ParseFault}
 use Rattle.halide_parser_syntax.specs.declared.faults.ParseFault.TheVariants.{Syntax}
 use Rattle.halide_parser_syntax.specs.declared.tokens.Token.{Token}

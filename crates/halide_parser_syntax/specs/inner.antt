@@ -4,4 +4,3 @@ pub mod Algebra
 pub mod LineReading
 pub mod Machine
 pub mod Reversed
-pub mod Stacks

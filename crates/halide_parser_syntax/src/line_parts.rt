@@ -1,7 +1,7 @@
 //! The parts of a line that are no expressions, each read from the front of its tokens.
 
 ghost use Rattle.std.specs.Prelude.{◌≡◌, IfOk};
-ghost use Rattle.line_text.specs.Reading.{Gives};
+ghost use Rattle.line_text.specs.Lines.{Gives};
 ghost use Rattle.halide_parser_syntax.specs.inner.LineReading as spec;
 
 use crate::faults::ParseFault;

@@ -2,7 +2,7 @@
 //! read.
 
 ghost use Rattle.std.specs.Prelude.{◌≡◌, [], ◌∷◌, OnOk, MatchOption};
-ghost use Rattle.halide_parser_syntax.specs.inner.Stacks.{is_empty};
+ghost use Rattle.halide_parser_syntax.specs.inner.Machine.{is_empty};
 
 use crate::tokens::{CompareOperator, ProductOperator, SumOperator, ThreeFunction, TwoFunction};
 use sqlite_items::Items;

@@ -1,7 +1,7 @@
 //! The tokens of a line.
 
 ghost use Rattle.std.specs.Prelude.{◌≡◌, ◌≤◌, ◌<◌, length, IfOk};
-ghost use Rattle.line_text.specs.Reading.{Gives};
+ghost use Rattle.line_text.specs.Lines.{Gives};
 ghost use Rattle.halide_parser_syntax.specs.Tokens as spec;
 
 use crate::faults::ParseFault;

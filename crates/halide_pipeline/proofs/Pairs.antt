@@ -5,7 +5,7 @@ use Rattle.std.specs.declared.alloc.Global.{Global}
 use Rattle.std.specs.Map.{lookup as find}
 use Rattle.indexmap.specs.IndexMap.{insert_entry}
 use Rattle.halide_pipeline.specs.declared.expressions.Source.{Source}
-use Rattle.halide_pipeline.specs.Names.{lookup, pairs_of}
+use Rattle.halide_pipeline.specs.Pipelines.{lookup, pairs_of}
 
 abbrev Entries : Type 0
 Entries = List (Vec ℕ Global × Source)

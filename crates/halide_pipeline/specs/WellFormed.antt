@@ -14,10 +14,27 @@ use Rattle.halide_pipeline.specs.declared.expressions.Source.{Source}
 use Rattle.halide_pipeline.specs.declared.expressions.Source.TheVariants as sources
 use Rattle.halide_pipeline.specs.declared.expressions.Variable.{Variable}
 use Rattle.halide_pipeline.specs.declared.expressions.Variable.TheVariants as variables
-use Rattle.halide_pipeline.specs.Definitions.{dimensions, is_first_in_place, is_second_in_place}
-use Rattle.halide_pipeline.specs.Expressions.{same_variable, uses, nodes, brackets}
-use Rattle.halide_pipeline.specs.Names.{Named, lookup, is_named}
-use Rattle.halide_pipeline.specs.Pipelines.{Pipeline}
+use Rattle.halide_pipeline.specs.Expressions.{same_variable, uses, nodes, brackets, is_variable}
+use Rattle.halide_pipeline.specs.Pipelines.{Named, lookup, is_named, Pipeline}
+
+-- ---- Which arguments an update holds for all values of, and how many arguments a Func has.
+
+abbrev pub is_first_in_place : Update → Bool
+is_first_in_place u = is_variable variables.FirstArgument u.left_x
+
+abbrev pub is_second : Option Expr → Bool
+is_second None = false
+is_second (Some left) = is_variable variables.SecondArgument left
+
+abbrev pub is_second_in_place : Update → Bool
+is_second_in_place u = is_second u.left_y
+
+abbrev pub count_arguments : Option (List ℕ) → ℕ
+count_arguments None = 1
+count_arguments (Some name) = 2
+
+abbrev pub dimensions : Func → ℕ
+dimensions f = count_arguments f.second_argument
 
 -- ---- boxes
 

@@ -1,7 +1,7 @@
 //! Inputs, Funcs with their updates, and the output.
 
 ghost use Rattle.std.specs.Prelude.{◌≡◌};
-ghost use Rattle.halide_pipeline.specs.Definitions as spec;
+ghost use Rattle.halide_pipeline.specs.WellFormed as spec;
 
 use crate::expressions::{Expr, Variable};
 use sqlite_items::Items;

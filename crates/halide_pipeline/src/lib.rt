@@ -4,7 +4,7 @@
 //! - [`expressions`]: expressions over words, as trees. Contracts see a tree as plain data
 //!   (`specs/Expressions.antt` counts its nodes and says which variables it uses).
 //! - [`definitions`]: inputs, Funcs with their updates, and the output.
-//! - [`names`]: names with what they stand for, in order (`specs/Names.antt`).
+//! - [`names`]: names with what they stand for, in order (`specs/Pipelines.antt`).
 //! - [`pipelines`]: the whole of what a text names. `specs/WellFormed.antt` says what each keeps.
 //! - [`words`]: arithmetic on words that stand for signed numbers (`specs/Words.antt`).
 //! - `specs/Pixel.antt`: **what a pixel is**, for every Func, update and point of the plane; [`environments`] has what

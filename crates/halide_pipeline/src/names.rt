@@ -1,7 +1,7 @@
 //! Names with what they stand for.
 
 ghost use Rattle.std.specs.Prelude.{◌≡◌, ◌++◌, ◌∷◌, [], OnOk, OnErr, None, length};
-ghost use Rattle.halide_pipeline.specs.Names.{lookup};
+ghost use Rattle.halide_pipeline.specs.Pipelines.{lookup};
 
 use crate::expressions::Source;
 use indexmap::IndexMap;
@@ -16,7 +16,7 @@ pub struct Names {
 
 impl Model for Names {
     ghost use Rattle.std.specs.Prelude.{List, ℕ};
-    ghost use Rattle.halide_pipeline.specs.Names.{Named, pairs_of};
+    ghost use Rattle.halide_pipeline.specs.Pipelines.{Named, pairs_of};
 
     ghost Value = { List Named };
 

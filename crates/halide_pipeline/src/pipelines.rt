@@ -2,7 +2,7 @@
 
 ghost use Rattle.std.specs.Prelude.{◌≡◌, slice_get};
 ghost use Rattle.std.specs.Option.{option_copied};
-ghost use Rattle.halide_pipeline.specs.Names.{lookup};
+ghost use Rattle.halide_pipeline.specs.Pipelines.{lookup};
 ghost use Rattle.halide_pipeline.specs.WellFormed.{IsWellFormed};
 
 use crate::definitions::{Func, Input, Output};

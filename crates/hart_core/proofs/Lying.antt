@@ -5,13 +5,11 @@ use Rattle.std.specs.List.{range_with_len}
 use Rattle.std.proofs.Math.Nat.{mod-eq_of_lt}
 use Rattle.std.proofs.lemmas.Bool.Decides.{nat_tests}
 use Rattle.lanes.specs.Words as word
-use Rattle.lanes.specs.Elementwise.{chosen_of}
+use Rattle.lanes.specs.Words.{chosen_of}
 use Rattle.rv_insn.specs.declared.vector_operations.ElementWidth.{ElementWidth}
 use Rattle.rv_insn.specs.declared.vector_operations.ElementWidth.TheVariants as widths
-use Rattle.memory.specs.Addresses.{in_data, in_text, covers_load}
-use Rattle.memory.specs.Access.{Reads, Writes, bytes_in, fault_of, first_fault, or_else}
-use Rattle.vector_unit.specs.VectorState.{Vectors}
-use Rattle.vector_unit.specs.Vector.{bits_of, count, active_in, element_from}
+use Rattle.memory.specs.Access.{in_data, in_text, covers_load, Reads, Writes, bytes_in, fault_of, first_fault, or_else}
+use Rattle.vector_unit.specs.Vector.{Vectors, bits_of, count, active_in, element_from}
 use Rattle.vector_unit.specs.Accesses.{offsets_by, addresses_by, active_numbers, filled_from, loaded}
 use Rattle.vector_unit.specs.declared.accesses.Spacing.{Spacing}
 use Rattle.vector_unit.specs.declared.accesses.Spacing.TheVariants.{UnitStride}

@@ -1,7 +1,6 @@
 -- Numbers that are put at addresses, as far as there are both.
 use Rattle.std.proofs.Common.{◌≡◌, refl, ap, ◌∙◌, ℕ, List, [], ◌∷◌}
-use Rattle.memory.specs.Addresses.{put}
-use Rattle.memory.specs.Access.{Access, spread}
+use Rattle.memory.specs.Access.{put, Access, spread}
 
 spread_none : (accesses : List Access) → spread accesses [] ≡ []
 spread_none [] = refl

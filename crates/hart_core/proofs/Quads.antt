@@ -6,10 +6,8 @@ use Rattle.std.proofs.Math.ListN.{length-set}
 use Rattle.std.proofs.lemmas.Bool.{and_parts, leb-true, not-false}
 use Rattle.rv_insn.specs.declared.vector_operations.ElementWidth.{ElementWidth}
 use Rattle.rv_insn.specs.declared.vector_operations.ElementWidth.TheVariants as widths
-use Rattle.memory.specs.Addresses.{put, put_byte}
-use Rattle.memory.specs.Access.{Access, Size, access_at, bytes_in, bytes_of, places_of, put_number, spread, touched}
-use Rattle.vector_unit.specs.VectorState.{Vectors, is_supported, has_vill, vlmul_of, vsew_of, group_of}
-use Rattle.vector_unit.specs.Vector.{bits_of, count}
+use Rattle.memory.specs.Access.{put, put_byte, Access, Size, access_at, bytes_in, bytes_of, places_of, put_number, spread, touched}
+use Rattle.vector_unit.specs.Vector.{Vectors, is_supported, has_vill, vlmul_of, vsew_of, group_of, bits_of, count}
 use Rattle.vector_unit.specs.Accesses.{filled_from, with_element_from}
 use Rattle.hart_core.specs.VectorRows.{accesses_at, size_of}
 use Rattle.hart_core.specs.HartState.{HartState, vectors_of, with_vectors}

@@ -5,7 +5,7 @@ use Rattle.std.specs.Prelude.{ℕ, zero, suc, Bool, true, false, List, slice_ind
 use Rattle.hart_core.specs.declared.harts.Status.{Status}
 use Rattle.hart_core.specs.declared.harts.Status.TheVariants.{Running, Finished, Trapped}
 use Rattle.lanes.specs.Words as word
-use Rattle.vector_unit.specs.VectorState.{Vectors, opening_vector_state}
+use Rattle.vector_unit.specs.Vector.{Vectors, opening_vector_state}
 
 pub record HartState : Type 0 where
   pub pc : ℕ

@@ -1,4 +1,3 @@
-pub mod Alu
 pub mod HartState
 pub mod Meanings
 pub mod Scalar

@@ -9,8 +9,7 @@ use Rattle.rv_insn.specs.declared.instructions.Insn.{Insn}
 use Rattle.rv_encoding.specs.Decoding.{decoded}
 use Rattle.hart_core.specs.declared.harts.Status.{Status}
 use Rattle.hart_core.specs.declared.harts.Status.TheVariants.{Running, Finished, Trapped as HasTrapped}
-use Rattle.memory.specs.Addresses.{fetched, put}
-use Rattle.memory.specs.Access.{touched, number_at, spread, read_by, written_by, first_fault, or_else}
+use Rattle.memory.specs.Access.{fetched, put, touched, number_at, spread, read_by, written_by, first_fault, or_else}
 use Rattle.hart_core.specs.HartState.{HartState, with_status}
 use Rattle.hart_core.specs.Scalar.{kind_of, accesses, jump_of, illegal_fault, jump_fault, own_fault, after, stored, outcome_of}
 

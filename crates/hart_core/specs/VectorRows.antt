@@ -9,10 +9,9 @@ use Rattle.rv_insn.specs.declared.vector_instructions.VectorInsn.TheVariants as 
 use Rattle.rv_insn.specs.declared.vector_operations.ElementWidth.{ElementWidth}
 use Rattle.rv_insn.specs.declared.vector_operations.ElementWidth.TheVariants as widths
 use Rattle.memory.specs.Access.{Size, Byte, Half, Word, Kind, NoAccess, Reads, Writes, Access, access_at}
-use Rattle.vector_unit.specs.VectorState.{asked_by, configured}
+use Rattle.vector_unit.specs.Vector.{asked_by, configured, vector_after, scalar_given}
 use Rattle.vector_unit.specs.declared.configuration.Asked.{Asked}
 use Rattle.vector_unit.specs.declared.configuration.Asked.TheVariants.{AtMost}
-use Rattle.vector_unit.specs.Vector.{vector_after, scalar_given}
 use Rattle.vector_unit.specs.Accesses.{addresses, loaded_by, width_in}
 use Rattle.hart_core.specs.HartState.{HartState, vectors_of, with_vectors, register, with_register, advanced, given}
 

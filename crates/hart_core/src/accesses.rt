@@ -2,7 +2,7 @@
 
 ghost use Rattle.std.specs.Prelude.{◌≡◌, IfOk, IfErr, OnErr, OnOk, Some, None, length};
 ghost use Rattle.memory.specs.Access.{fault_of, bytes_in, Reads, Writes, number_in, put_number};
-ghost use Rattle.hart_core.specs.Alu.{load_size, loaded, store_size, kept};
+ghost use Rattle.hart_core.specs.Scalar.{load_size, loaded, store_size, kept};
 
 use memory::{Bytes, read_u8, read_u16, read_u32, write_u8, write_u16, write_u32};
 use rv_insn::{LoadOp, StoreOp, Trap};

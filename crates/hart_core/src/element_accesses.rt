@@ -1,7 +1,7 @@
 //! Loads and stores of vector elements.
 
 ghost use Rattle.std.specs.Prelude.{◌≡◌, ◌≤◌, ◌+◌, ◌++◌, IfOk, IfErr, OnErr, OnOk, Some, None, length, map};
-ghost use Rattle.memory.specs.Addresses.{put};
+ghost use Rattle.memory.specs.Access.{put};
 ghost use Rattle.memory.specs.Access.{fault_of, first_fault, bytes_in, Reads, Writes, number_at, number_in, put_number};
 ghost use Rattle.memory.specs.Access.{spread, touched};
 ghost use Rattle.hart_core.specs.VectorRows.{accesses_at, size_of};

@@ -2,8 +2,8 @@
 
 ghost use Rattle.std.specs.Prelude.{◌≡◌, false, None, Some, List, ℕ, length, IfOk, OnOk, IfErr, OnErr};
 ghost use Rattle.rv_insn.specs.declared.instructions.Insn.TheVariants as insns;
-ghost use Rattle.hart_core.specs.Alu.{plus, extended, computed as computed_of};
-ghost use Rattle.hart_core.specs.Alu.{computed_with_immediate as computed_with_immediate_of, shifted as shifted_of};
+ghost use Rattle.hart_core.specs.Scalar.{plus, extended, computed as computed_of};
+ghost use Rattle.hart_core.specs.Scalar.{computed_with_immediate as computed_with_immediate_of, shifted as shifted_of};
 ghost use Rattle.hart_core.specs.Scalar.{jump_fault, jump_of, jumped, linked};
 ghost use Rattle.hart_core.specs.HartState.{register, at_pc, given};
 ghost use Rattle.hart_core.specs.Meanings.{insn_of};

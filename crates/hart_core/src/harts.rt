@@ -2,7 +2,7 @@
 
 ghost use Rattle.std.specs.Prelude.{◌≡◌, ◌<◌, ◌≤◌, ◌^◌, ◌&&◌, not, ℕ, None, true, false, slice_index, OnOk, OnErr};
 ghost use Rattle.std.specs.Prelude.{IfOk, IfErr};
-ghost use Rattle.vector_unit.specs.VectorState.{configured, has_vill, is_illegal_configuration};
+ghost use Rattle.vector_unit.specs.Vector.{configured, has_vill, is_illegal_configuration};
 ghost use Rattle.vector_unit.specs.Vector.{bits_of, is_own, is_refused, vector_after, scalar_given, number_of};
 ghost use Rattle.vector_unit.specs.Accesses.{loaded, with_element_from};
 ghost use Rattle.hart_core.specs.HartState.{register, vector, has_finished, with_register, at_pc, advanced};

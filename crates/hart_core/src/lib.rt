@@ -2,8 +2,8 @@
 //!
 //! The contract that crates above use is that of [`Hart::step`]: the hart, the data, the text and the
 //! outcome after a call are those of one turn as `specs/Turn.antt` defines it, over the instruction
-//! table. `specs/Scalar.antt` has what each instruction does, `specs/Alu.antt` what it computes,
-//! `specs/VectorRows.antt` what vector instructions touch and leave (over `vector_unit`'s definitions of what
+//! table. `specs/Scalar.antt` has what each scalar instruction computes and does, `specs/VectorRows.antt` what vector
+//! instructions touch and leave (over `vector_unit`'s definitions of what
 //! they make of registers), `specs/HartState.antt` has the state of a hart, and `specs/Meanings.antt` what turns take
 //! of a word.
 #![tactic(auto)]

@@ -3,9 +3,9 @@
 
 ghost use Rattle.std.specs.Prelude.{◌≡◌, ◌<◌, ◌≤◌, ◌+◌, ◌*◌, ◌%◌, ◌^◌, true, false, IsTrue, length, map, replicate};
 ghost use Rattle.std.specs.List.{range_with_len};
-ghost use Rattle.memory.specs.Addresses.{covers_load, in_data, put};
+ghost use Rattle.memory.specs.Access.{covers_load, in_data, put};
 ghost use Rattle.memory.specs.Access.{bytes_in, number_at, number_in, put_number, spread, touched};
-ghost use Rattle.vector_unit.specs.VectorState.{has_vill};
+ghost use Rattle.vector_unit.specs.Vector.{has_vill};
 ghost use Rattle.vector_unit.specs.Vector.{bits_of, count, element_from};
 ghost use Rattle.vector_unit.specs.Accesses.{filled_from, with_element_from};
 ghost use Rattle.hart_core.specs.VectorRows.{accesses_at, size_of};

@@ -2,9 +2,9 @@
 
 ghost use Rattle.std.specs.Prelude.{◌≡◌, ◌&&◌, not, None, Some, length, map, IfOk, OnOk, IfErr, OnErr, true, false};
 ghost use Rattle.rv_insn.specs.declared.instructions.Insn.TheVariants as insns;
-ghost use Rattle.memory.specs.Addresses.{put};
+ghost use Rattle.memory.specs.Access.{put};
 ghost use Rattle.memory.specs.Access.{first_fault, number_at, Reads, Writes, spread, touched};
-ghost use Rattle.vector_unit.specs.VectorState.{has_vill, is_illegal_configuration};
+ghost use Rattle.vector_unit.specs.Vector.{has_vill, is_illegal_configuration};
 ghost use Rattle.vector_unit.specs.Vector.{asked_of, is_own, is_refused, vector_after};
 ghost use Rattle.vector_unit.specs.Accesses.{active_numbers, addresses_by, loaded, spacing_of};
 ghost use Rattle.hart_core.specs.VectorRows.{computed_by, configured_by};

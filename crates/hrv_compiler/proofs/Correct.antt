@@ -1,16 +1,16 @@
 -- An image does what it should on every list of turns: its harts share the work of the phases.
-use Rattle.std.proofs.Common.{◌≡◌, ℕ, suc, ◌-◌, ◌*◌, ◌<◌, ◌≤◌, ◌⊎◌, true, List, ◌++◌, length, Some, None, sym, ap, subst, ◌∙◌, arith}
+use Rattle.std.proofs.Common.{◌+◌, ◌≡◌, ℕ, suc, ◌-◌, ◌*◌, ◌<◌, ◌≤◌, ◌⊎◌, true, List, ◌++◌, length, Some, None, sym, ap, subst, ◌∙◌, arith}
 use Rattle.std.specs.Prelude.{◌&&◌, nat_le, slice_get}
 use Rattle.std.proofs.lemmas.Bool.{and_parts, leb-true}
 use Rattle.std.proofs.lemmas.Option.{slice_get_within}
-use Rattle.memory.specs.Addresses.{text_start, byte_at}
+use Rattle.memory.specs.Access.{text_start, byte_at}
 use Rattle.hart_core.specs.declared.harts.Status.TheVariants.{Finished}
 use Rattle.hart_core.specs.HartState.{HartState}
-use Rattle.multi_hart.specs.Finished.{all_finished}
-use Rattle.multi_hart.specs.Run.{State, run}
+use Rattle.multi_hart.specs.Run.{all_finished, State, run}
 use Rattle.multi_hart.proofs.TurnByTurn.{shape-run}
 use Rattle.multi_hart_logic.specs.Paths.{Stand}
 use Rattle.multi_hart_logic.specs.Uses.{Fixed, Owned}
+use Rattle.halide_pipeline.specs.declared.expressions.Source.TheVariants as sources
 use Rattle.halide_pipeline.specs.WellFormed.{is_width, is_height}
 use Rattle.halide_pipeline.specs.Contents.{PictureContents}
 use Rattle.halide_pipeline.specs.Pixel.{Planes, input_planes, reads_of, pixels}
@@ -23,7 +23,7 @@ use Rattle.vector_codegen_sharing.specs.Phases.{Phase as SharedPhase}
 use Rattle.vector_codegen_sharing.specs.Programs.{Program, Opens}
 use Rattle.vector_codegen_sharing.specs.Fairness.{enough_rounds}
 use Rattle.vector_codegen_sharing.specs.Promises.{WrittenAs as SharedWrittenAs}
-use Rattle.vector_codegen_sharing.specs.Turns.{OnlyBy, Waits, Race, control_words}
+use Rattle.vector_codegen_sharing.specs.Turns.{OnlyBy, Waits, Race, control_words, last_writer}
 use Rattle.vector_codegen_sharing.specs.Solo.{TaskWrites}
 use Rattle.vector_codegen_sharing.proofs.Assignments.{every-assignment}
 use Rattle.vector_codegen_sharing.proofs.Gates.{gate-once}
@@ -37,18 +37,19 @@ use Rattle.vector_codegen.proofs.Sharing.{programs-share}
 use Rattle.vector_codegen.specs.Programs.{ArePartsOf}
 use Rattle.vector_codegen.proofs.ProgramStanding.{programs-stand}
 use Rattle.vector_codegen_laws.specs.Places.{places_of}
+use Rattle.vector_codegen_laws.specs.Points.{address_at}
 use Rattle.vector_codegen_laws.specs.Settings.{places, size}
 use Rattle.vector_codegen_laws.specs.Sharing.{HoldsPixels, AreShared}
 use Rattle.vector_codegen_laws.proofs.Sharing.{phases-are-shared}
-use Rattle.vector_codegen_laws.specs.Stages.{StagePlace, stages}
-use Rattle.hrv_compiler.specs.Assigned.{byte_of_point, WrittenAs, IsReached, IsAssigned}
+use Rattle.bounds.specs.Stages.{StagePlace, stages}
+use Rattle.hrv_compiler.specs.Assigned.{WrittenAs, IsReached, IsAssigned}
 use Rattle.hrv_compiler.specs.Compiled.{CompiledContents}
 use Rattle.hrv_compiler.specs.inner.Held.{IsHeld}
 use Rattle.hrv_compiler.specs.Correct.{opening, ShowsOutput, IsCorrect, Correct}
-use Rattle.hrv_compiler.specs.Data.{image_data}
-use Rattle.hrv_compiler.specs.Images.{ArePictures, image_of}
+use Rattle.hrv_compiler.specs.Images.{image_data, ArePictures, image_of}
 use Rattle.hrv_compiler.proofs.Asked.{answer-words}
 use Rattle.hrv_compiler.proofs.Low.{layout_is}
+use Rattle.hrv_compiler.proofs.Lying.{lies}
 use Rattle.hrv_compiler.proofs.Nonempty.{some_phases}
 use Rattle.hrv_compiler.proofs.Counted.{phases-counted}
 use Rattle.hrv_compiler.proofs.Opening.{phases_are, opens}
@@ -194,8 +195,10 @@ module _ (own : CompiledContents) (rules : IsHeld own) (pictures : List PictureC
             → WrittenAs own.pipeline own.schedule own.boxes pictures stage (assigned number) (opening image harts) turns
         stage_written number stage e turns written iteration x y byte l writes small =
             let bytes_own = is.own_bytes number stage e iteration l x y byte writes small in
-            written iteration (byte_of_point own.pipeline own.schedule own.boxes stage.func x y byte) (subst (λ (n : ℕ). iteration < n) (sym (is.tasks_are number stage e)) l)
-            bytes_own.0 bytes_own.1
+            let lying = lies own rules stage.func (is.roots_are number stage e) x y in
+            ap (λ (a : ℕ). last_writer (a + byte) None (opening image harts) turns) (sym lying)
+            ∙ written iteration (address_at own.pipeline own.schedule own.boxes.funcs 0 (sources.Func stage.func) x y + byte)
+            (subst (λ (n : ℕ). iteration < n) (sym (is.tasks_are number stage e)) l) bytes_own.0 bytes_own.1
 
         reached : IsReached own.pipeline own.schedule own.boxes pictures image harts assigned
         reached =

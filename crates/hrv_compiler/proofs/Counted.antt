@@ -19,7 +19,7 @@ use Rattle.bounds_laws.proofs.BoxFacts.{has_box}
 use Rattle.bounds_laws.proofs.PutIn.{pair_there}
 use Rattle.loop_ir.specs.declared.statements.Phase.{Phase}
 use Rattle.lowering.specs.Lowered.{ArePhasesOf, None_yet, One_more, IsNotAtRoot, AreLowered, No_func, Passed, Computed}
-use Rattle.lowering.specs.PurePhases.{IsAtRoot}
+use Rattle.bounds.specs.Stages.{IsAtRoot}
 
 -- ---- sums
 

@@ -16,9 +16,8 @@ use Rattle.bounds.specs.Layout.{input_bytes, total}
 use Rattle.picture.specs.Evaluated.{is_size, are_sizes}
 use Rattle.bounds.specs.Parts.{Found, find, further}
 use Rattle.vector_codegen_laws.specs.Uses.{byte_of, input_byte}
-use Rattle.hrv_compiler.specs.Images.{ArePictures}
+use Rattle.hrv_compiler.specs.Images.{ArePictures, whole, word_bytes, input_data, inputs_data}
 use Rattle.loader.specs.Spelling.{padded}
-use Rattle.hrv_compiler.specs.Data.{whole, word_bytes, input_data, inputs_data}
 
 -- ---- lists
 

@@ -8,10 +8,10 @@ use Rattle.std.proofs.lemmas.Option.{get_or_from_slice_get}
 use Rattle.std.proofs.lemmas.List.{length-append, length-replicate}
 use Rattle.halide_pipeline.specs.declared.definitions.Input.{Input}
 use Rattle.halide_pipeline.specs.Contents.{PictureContents}
-use Rattle.memory.specs.Addresses.{data_start, text_start, most_words, most_bytes}
-use Rattle.bounds_ranges.specs.Ranges.{origin}
+use Rattle.memory.specs.Access.{data_start, text_start, most_words, most_bytes}
+use Rattle.bounds_ranges.specs.Numbers.{origin}
 use Rattle.bounds.specs.declared.boxes.SourceBox.{SourceBox}
-use Rattle.bounds.specs.Boxes.{box_in, extent, points}
+use Rattle.bounds.specs.Extents.{box_in, extent, points}
 use Rattle.bounds.specs.Layout.{input_bytes, total}
 use Rattle.picture.specs.Evaluated.{are_sizes, hold_bytes, judged}
 use Rattle.picture.specs.declared.faults.EvalError.TheVariants as errors
@@ -19,10 +19,10 @@ use Rattle.loader.specs.declared.faults.LoadFault.{LoadFault}
 use Rattle.loader.specs.declared.outputs.Output.{Output}
 use Rattle.loader.specs.Image.{ImageContents, is_within_limits, is_entry, is_output_or_none, most_pixels, judged as judged_image}
 use Rattle.loader.specs.Spelling.{padded}
-use Rattle.hrv_compiler.specs.Data.{inputs_data, image_data}
-use Rattle.hrv_compiler.specs.Compiled.{CompiledContents, IsCompiled, output_in, output_of}
+use Rattle.hrv_compiler.specs.Images.{inputs_data, image_data, ArePictures, image_of}
+use Rattle.hrv_compiler.specs.Compiled.{CompiledContents, output_in, output_of}
+use Rattle.hrv_compiler.specs.Verdict.{IsCompiled}
 use Rattle.hrv_compiler.specs.inner.Held.{IsHeld}
-use Rattle.hrv_compiler.specs.Images.{ArePictures, image_of}
 use Rattle.hrv_compiler.specs.Outputs.{Holds}
 use Rattle.hrv_compiler.proofs.DataBytes.{length-inputs}
 use Rattle.hrv_compiler.proofs.Low.{inputs_fit, lies_low}

@@ -10,5 +10,6 @@ pub mod Opening
 pub mod Shown
 pub mod Correct
 pub mod Counted
+pub mod Lying
 pub mod Runs
 pub mod Map

@@ -5,18 +5,16 @@ use Rattle.std.proofs.lemmas.Bool.{and_parts, leb-true}
 use Rattle.halide_pipeline.specs.Pipelines.{Pipeline}
 use Rattle.halide_pipeline.specs.WellFormed.{most_points}
 use Rattle.schedule.specs.declared.schedules.Schedule.{Schedule}
-use Rattle.bounds_weights.specs.Need.{needs, has_frames}
-use Rattle.bounds_weights.specs.Weight.{flags_of}
+use Rattle.bounds_weights.specs.Weight.{needs, has_frames, flags_of}
 use Rattle.bounds.specs.declared.boxes.SourceBox.{SourceBox}
 use Rattle.bounds.specs.declared.faults.BoundsFault.{BoundsFault}
 use Rattle.bounds.specs.declared.faults.BoundsFault.TheVariants as faults
 use Rattle.bounds.specs.declared.verdict.Boxes.{Boxes}
-use Rattle.bounds.specs.Boxes.{points}
+use Rattle.bounds.specs.Extents.{points}
 use Rattle.bounds.specs.Inference.{boxes_from, inputs_from}
-use Rattle.bounds.specs.Judging.{inputs_hold, shifts_hold, have_few_points}
+use Rattle.bounds.specs.Verdict.{inputs_hold, shifts_hold, have_few_points, sized, boxes_of, judged, with_inputs, with_funcs, inferred}
 use Rattle.bounds.specs.declared.layout.Layout.{Layout}
 use Rattle.bounds.specs.Layout.{data_start, placed, total, laid_in, laid_out, phases, input_bytes, root_sizes, private_sizes}
-use Rattle.bounds.specs.Verdict.{sized, boxes_of, judged, with_inputs, with_funcs, inferred}
 use Rattle.bounds_laws.proofs.BoxFacts.{is_judged}
 use Rattle.hrv_compiler.specs.Addresses.{AreAddresses, HaveFewPoints, LiesLow}
 

@@ -11,7 +11,7 @@ use Rattle.bounds.specs.declared.boxes.SourceBox.{SourceBox}
 use Rattle.bounds.specs.declared.verdict.Boxes.{Boxes}
 use Rattle.loop_ir.specs.declared.statements.Phase.{Phase}
 use Rattle.lowering.specs.Lowered.{ArePhasesOf, One_more, AreLowered, No_func, Passed, Computed}
-use Rattle.lowering.specs.PurePhases.{IsAtRoot}
+use Rattle.bounds.specs.Stages.{IsAtRoot}
 use Rattle.task_code_scalar.proofs.Spelling.{emits-length}
 use Rattle.vector_codegen.specs.PhaseCode.{Part, program}
 use Rattle.vector_codegen.proofs.ProgramStanding.{parts-length}

@@ -4,7 +4,7 @@ use Rattle.std.specs.Prelude.{slice_index, slice_get}
 use Rattle.std.proofs.lemmas.Bool.{cases_lt, lt-ltb, le-ltb}
 use Rattle.std.proofs.Math.Seq.{get_or-append_right}
 use Rattle.std.proofs.lemmas.List.{append_assoc, get_or_append_left, length-replicate}
-use Rattle.memory.specs.Addresses.{text_start, data_start, byte_at}
+use Rattle.memory.specs.Access.{text_start, data_start, byte_at}
 use Rattle.halide_pipeline.specs.declared.definitions.Input.{Input}
 use Rattle.halide_pipeline.specs.Contents.{PictureContents}
 use Rattle.halide_pipeline.specs.Pixel.{Planes, input_planes, reads_of, pixels}
@@ -17,9 +17,9 @@ use Rattle.bounds.specs.Parts.{Part, Control, Input as InputPart, Root, Copies, 
 use Rattle.vector_codegen_laws.specs.Points.{part}
 use Rattle.vector_codegen_laws.specs.Uses.{byte_of, input_byte, byte_in}
 use Rattle.vector_codegen_laws.specs.Sharing.{OpensWith}
-use Rattle.hrv_compiler.specs.Compiled.{CompiledContents, IsCompiled}
-use Rattle.hrv_compiler.specs.Data.{inputs_data, image_data}
-use Rattle.hrv_compiler.specs.Images.{ArePictures}
+use Rattle.hrv_compiler.specs.Compiled.{CompiledContents}
+use Rattle.hrv_compiler.specs.Verdict.{IsCompiled}
+use Rattle.hrv_compiler.specs.Images.{inputs_data, image_data, ArePictures}
 use Rattle.hrv_compiler.proofs.DataBytes.{zeros, found_byte, inputs-found}
 use Rattle.hrv_compiler.proofs.Images.{asked_for, long}
 use Rattle.hrv_compiler.proofs.Low.{layout_is}

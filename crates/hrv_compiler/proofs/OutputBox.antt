@@ -20,21 +20,22 @@ use Rattle.schedule.specs.Standing as standing
 use Rattle.schedule.specs.Standing.{standings_from}
 use Rattle.schedule.proofs.Uses.{IsSome, output_standing, standing_some}
 use Rattle.bounds_ranges.specs.Laws.{Lies, AnswerWords}
-use Rattle.bounds_ranges.specs.Ranges.{origin}
+use Rattle.bounds_ranges.specs.Numbers.{origin}
 use Rattle.bounds.specs.declared.boxes.SourceBox.{SourceBox}
 use Rattle.bounds.specs.declared.layout.Layout.{Layout}
 use Rattle.bounds.specs.declared.verdict.Boxes.{Boxes}
-use Rattle.bounds.specs.Boxes.{IsBox, no_loops, lasts_of, points}
+use Rattle.bounds.specs.Boxes.{IsBox, no_loops, lasts_of}
+use Rattle.bounds.specs.Extents.{points}
 use Rattle.bounds.specs.Layout.{data_start, input_bytes, root_bytes, root_sizes, phases, placed, total, laid_in, laid_out}
 use Rattle.bounds.specs.Verdict.{inferred}
 use Rattle.bounds_laws.specs.Closure.{is_put_in, is_boxed}
-use Rattle.bounds_laws.specs.Laws.{LiesIn, IsBoxed, IsComputed, host_in}
+use Rattle.bounds_laws.specs.Laws.{LiesIn, IsBoxed, IsComputed, consumer_in}
 use Rattle.bounds_laws.proofs.BoxFacts.{has_box}
-use Rattle.bounds_laws.proofs.BoxesHosted.{boxes_are_hosted}
+use Rattle.bounds_laws.proofs.BoxesProduced.{boxes_are_produced}
 use Rattle.bounds_laws.proofs.Closure.{all_reads_are_held}
 use Rattle.bounds_laws.proofs.OwnReads.{output_lies}
 use Rattle.bounds_laws.proofs.PutIn.{pair_there}
-use Rattle.lowering.specs.PurePhases.{IsAtRoot}
+use Rattle.bounds.specs.Stages.{IsAtRoot}
 use Rattle.lowering.proofs.Facts.{few_at}
 use Rattle.lowering.proofs.Offsets.{more_none, less_none}
 use Rattle.hrv_compiler.specs.Outputs.{Holds}
@@ -197,11 +198,11 @@ module _ (pipeline : Pipeline) (schedule : Schedule) (boxes : Boxes) (rules : Is
   lasts_none =
       let b = has_box pipeline schedule boxes accepted is output box_found.own box_found.is in
       let same : b.standing ≡ own_standing.value = let p = b.there.standing in let q = own_standing.is in cc in
-      b.lasts ∙ (ap (λ (t : Standing). lasts_of (host_in schedule boxes.funcs t.place)) same ∙ ap (λ (p : Place). lasts_of (host_in schedule boxes.funcs p)) known.1)
+      b.lasts ∙ (ap (λ (t : Standing). lasts_of (consumer_in schedule boxes.funcs t.place)) same ∙ ap (λ (p : Place). lasts_of (consumer_in schedule boxes.funcs p)) known.1)
 
   rules_of : IsBox box_found.own
   rules_of =
-      (boxes_are_hosted pipeline schedule boxes is output own_standing.value own_standing.is known.0 (subst (λ (p : Place). IsComputed output p) (sym known.1) tt) box_found.own box_found.is).box
+      (boxes_are_produced pipeline schedule boxes is output own_standing.value own_standing.is known.0 (subst (λ (p : Place). IsComputed output p) (sym known.1) tt) box_found.own box_found.is).box
 
   module _ (x y : ℕ) (inside_x : x < pipeline.output.width) (inside_y : y < pipeline.output.height) where
     lies : LiesIn no_loops box_found.own x y

@@ -5,9 +5,10 @@ use Rattle.std.specs.Option.{IsSome, option_copied}
 use Rattle.std.proofs.lemmas.Option.{get_or_from_slice_get}
 use Rattle.halide_pipeline.specs.declared.definitions.Output.{Output}
 use Rattle.bounds.specs.declared.boxes.SourceBox.{SourceBox}
-use Rattle.bounds.specs.Boxes.{box_in}
+use Rattle.bounds.specs.Extents.{box_in}
 use Rattle.loader.specs.declared.outputs.Output.{Output as Placed}
-use Rattle.hrv_compiler.specs.Compiled.{CompiledContents, IsCompiled, output_in, output_of}
+use Rattle.hrv_compiler.specs.Compiled.{CompiledContents, output_in, output_of}
+use Rattle.hrv_compiler.specs.Verdict.{IsCompiled}
 use Rattle.hrv_compiler.specs.Outputs.{Holds}
 use Rattle.hrv_compiler.proofs.OutputBox.{OutputBox, output_box}
 

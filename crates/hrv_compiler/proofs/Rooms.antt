@@ -5,7 +5,7 @@ use Rattle.std.specs.List.{AllByRecursion}
 use Rattle.std.proofs.lemmas.Bool.{leb-true, ltb-false}
 use Rattle.halide_pipeline.specs.Pipelines.{Pipeline}
 use Rattle.schedule.specs.declared.schedules.Schedule.{Schedule}
-use Rattle.bounds_weights.specs.Need.{needs, has_frames, is_too_deep}
+use Rattle.bounds_weights.specs.Weight.{needs, has_frames, is_too_deep, most_weight, weight}
 use Rattle.bounds.specs.declared.layout.Layout.{Layout}
 use Rattle.bounds.specs.declared.verdict.Boxes.{Boxes}
 use Rattle.bounds.specs.Layout.{laid_in, phases as phase_count, input_bytes, root_sizes, private_sizes}
@@ -15,9 +15,8 @@ use Rattle.lowering.specs.Registers.{TakeFew, most_need}
 use Rattle.vector_codegen_laws.specs.Places.{places_of}
 use Rattle.task_code_scalar.specs.Faults.{HasRoom, LieLow}
 use Rattle.lowering.specs.Sizes.{words_of}
-use Rattle.memory.specs.Addresses.{most_words}
+use Rattle.memory.specs.Access.{most_words}
 use Rattle.vector_codegen.specs.Programs.{HasFewTasks, HasRegisters, IsTooLong, words_asked}
-use Rattle.bounds_weights.specs.Weight.{most_weight, weight}
 use Rattle.hrv_compiler.proofs.Low.{layout_is, own_few}
 
 frames_at : (count : ℕ) (inputs roots privates : List ℕ) (framed : Bool) → (laid_in count inputs roots privates framed).size ≤ 33554432 → (laid_in count inputs roots privates framed).frames ≤ 4294901760

@@ -1,27 +1,27 @@
 -- A turn that writes a point of a vectorized Func writes one run.
-use Rattle.std.proofs.Common.{◌≡◌, ℕ, ◌<◌, ◌≤◌, true, List, length, Some, None, ap, ◌∙◌, arith, inl, inr}
+use Rattle.std.proofs.Common.{◌+◌, ◌≡◌, ℕ, ◌<◌, ◌≤◌, true, List, length, Some, None, ap, ◌∙◌, arith, inl, inr}
 use Rattle.std.specs.Prelude.{slice_get}
-use Rattle.memory.specs.Addresses.{text_start}
-use Rattle.multi_hart.specs.Run.{run}
-use Rattle.multi_hart.specs.Frame.{is_in}
+use Rattle.memory.specs.Access.{text_start}
+use Rattle.multi_hart.specs.Run.{run, is_in}
 use Rattle.halide_pipeline.specs.declared.definitions.Update.{Update}
+use Rattle.halide_pipeline.specs.declared.expressions.Source.TheVariants as sources
 use Rattle.halide_pipeline.specs.Contents.{PictureContents}
-use Rattle.bounds.specs.Boxes.{extent}
-use Rattle.bounds.specs.Views.{extents_of}
+use Rattle.bounds.specs.Extents.{extent, extents_of, point_address}
 use Rattle.picture.specs.Evaluated.{judged}
 use Rattle.vector_codegen_sharing.specs.Promises.{RuleKept}
 use Rattle.vector_codegen_sharing.specs.Turns.{written_next}
 use Rattle.vector_codegen_sharing.proofs.Races.{rules-kept}
-use Rattle.vector_codegen_laws.specs.Points.{RootPoint}
+use Rattle.vector_codegen_laws.specs.Points.{RootFunc, RootPoint, address_at}
 use Rattle.vector_codegen_laws.specs.Runs.{IsOneRun}
 use Rattle.vector_codegen_laws.specs.Sharing.{IsOwnedIn}
-use Rattle.vector_codegen_laws.specs.Stages.{StagePlace, stages}
+use Rattle.bounds.specs.Stages.{StagePlace, stages}
 use Rattle.hrv_compiler.specs.Assigned.{byte_of_point}
 use Rattle.hrv_compiler.specs.Compiled.{CompiledContents}
 use Rattle.hrv_compiler.specs.inner.Held.{IsHeld}
 use Rattle.hrv_compiler.specs.Correct.{opening}
 use Rattle.hrv_compiler.specs.Images.{ArePictures, image_of}
 use Rattle.hrv_compiler.specs.Runs.{IsInVectors, WritesWholeRuns}
+use Rattle.hrv_compiler.proofs.Lying.{lies, same-run}
 use Rattle.hrv_compiler.proofs.Correct.{last, bytes, IsSharedSo, shared, steps, goes, begins}
 
 module _ (own : CompiledContents) (rules : IsHeld own) (pictures : List PictureContents) (none : judged own.pipeline.inputs pictures ≡ None)
@@ -48,7 +48,22 @@ module _ (own : CompiledContents) (rules : IsHeld own) (pictures : List PictureC
       e ∙ ap (λ (p : ℕ). Some (record { func = p; number = stage.number })) f ∙ ap (λ (m : ℕ). Some (record { func = place; number = m })) n
 
   module _ (x y byte : ℕ) (column : x < extent is.box.x) (row : y < extent is.box.y) (small : byte < 4)
-      (hit : is_in (byte_of_point own.pipeline own.schedule own.boxes place x y byte) written ≡ true) where
+      (hit : is_in (byte_of_point own.boxes place x y byte) written ≡ true) where
+    root : RootFunc own.pipeline own.schedule own.boxes.funcs place
+    root = record {
+      standing = is.at_root.standing;
+      standing_is = is.at_root.there.standing;
+      at_root = is.at_root.placed_is;
+      own = is.box;
+      box_is = is.at_root.box_is;
+    }
+
+    abbrev byte_address : ℕ
+    byte_address = address_at own.pipeline own.schedule own.boxes.funcs 0 (sources.Func place) x y + byte
+
+    hit_there : is_in byte_address written ≡ true
+    hit_there = ap (λ (a : ℕ). is_in (a + byte) written) (lies own rules place root x y) ∙ hit
+
     point : RootPoint own.pipeline own.schedule own.boxes.funcs place x y
     point = record {
       standing = is.at_root.standing;
@@ -60,16 +75,16 @@ module _ (own : CompiledContents) (rules : IsHeld own) (pictures : List PictureC
       row = row;
     }
 
-    by_owner : IsOwnedIn own.pipeline own.schedule own.boxes all_shared.matter kept.k place (byte_of_point own.pipeline own.schedule own.boxes place x y byte)
-        → IsOneRun own.pipeline own.schedule own.boxes place (extents_of is.box) is.plan.pure written
+    by_owner : IsOwnedIn own.pipeline own.schedule own.boxes all_shared.matter kept.k place byte_address
+        → IsOneRun (address_at own.pipeline own.schedule own.boxes.funcs 0 (sources.Func place)) (extents_of is.box) is.plan.pure written
     by_owner owner =
         all_shared.runs_are kept.k place is.func is.plan is.box 0 is.at_root (first_stage owner.stage owner.stage_is owner.func_is) is.vectorized owner.task written
-        (kept.rule (byte_of_point own.pipeline own.schedule own.boxes place x y byte) owner.task hit owner.owned)
+        (kept.rule byte_address owner.task hit_there owner.owned)
 
-    one_run : IsOneRun own.pipeline own.schedule own.boxes place (extents_of is.box) is.plan.pure written
+    one_run : IsOneRun (point_address own.boxes place) (extents_of is.box) is.plan.pure written
     one_run = elim (all_shared.root_bytes kept.k place x y byte kept.within point small) [
-      | inl fixed ↦ absurd (kept.no_fixed (byte_of_point own.pipeline own.schedule own.boxes place x y byte) hit fixed)
-      | inr owner ↦ by_owner owner
+      | inl fixed ↦ absurd (kept.no_fixed byte_address hit_there fixed)
+      | inr owner ↦ same-run own rules place root (extents_of is.box) is.plan.pure written (by_owner owner)
     ]
 
 pub writes-whole-runs : (own : CompiledContents) → IsHeld own → (pictures : List PictureContents) → judged own.pipeline.inputs pictures ≡ None

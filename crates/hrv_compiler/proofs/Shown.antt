@@ -9,20 +9,21 @@ use Rattle.halide_pipeline.specs.declared.expressions.Source.TheVariants as sour
 use Rattle.halide_pipeline.specs.Words as word
 use Rattle.halide_pipeline.specs.Contents.{PictureContents}
 use Rattle.halide_pipeline.specs.Pixel.{input_planes, pixels, output_pixel}
-use Rattle.bounds_ranges.specs.Ranges.{origin, least}
+use Rattle.bounds_ranges.specs.Numbers.{origin, least}
 use Rattle.bounds.specs.declared.layout.Layout.{Layout}
-use Rattle.bounds.specs.Boxes.{box_in, extent}
+use Rattle.bounds.specs.Extents.{box_in, extent, corner_of, word_at as corner_word}
 use Rattle.bounds.specs.Layout.{placed, laid_in}
 use Rattle.bounds.specs.Finding.{roots_at}
 use Rattle.bounds.specs.Parts.{Sizes, sizes_of}
 use Rattle.loader.specs.declared.outputs.Output.{Output}
-use Rattle.lowering.specs.Planes.{corner_of, held, word_at as corner_word}
+use Rattle.lowering.specs.Planes.{held}
 use Rattle.picture.specs.Evaluated.{judged}
 use Rattle.task_code_scalar.specs.Code.{address}
 use Rattle.vector_codegen_laws.specs.Points.{RootPoint, address_at}
 use Rattle.vector_codegen_laws.proofs.There.{root-place}
 use Rattle.vector_codegen_laws.specs.Sharing.{HoldsPixels}
-use Rattle.hrv_compiler.specs.Compiled.{CompiledContents, IsCompiled, output_of}
+use Rattle.hrv_compiler.specs.Compiled.{CompiledContents, output_of}
+use Rattle.hrv_compiler.specs.Verdict.{IsCompiled}
 use Rattle.hrv_compiler.specs.Correct.{ShowsPixels, ShowsOutput}
 use Rattle.hrv_compiler.specs.Images.{ArePictures}
 use Rattle.hrv_compiler.proofs.Images.{box_here, output_is}

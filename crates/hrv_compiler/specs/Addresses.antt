@@ -5,7 +5,7 @@ use Rattle.std.specs.List.{AllByRecursion}
 use Rattle.halide_pipeline.specs.WellFormed.{most_points}
 use Rattle.bounds.specs.declared.boxes.SourceBox.{SourceBox}
 use Rattle.bounds.specs.declared.layout.Layout.{Layout}
-use Rattle.bounds.specs.Boxes.{points}
+use Rattle.bounds.specs.Extents.{points}
 
 abbrev pub IsAddress : ℕ → Type 0
 IsAddress at = at < 2 ^ 32

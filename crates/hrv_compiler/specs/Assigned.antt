@@ -1,13 +1,11 @@
 -- Every assignment of the iterations of all phases to harts is reached by some list of turns.
 --
 -- A phase computes a stage; the stages, their iterations and the points that these write are the schedule's
--- (`vector_codegen_laws/specs/Stages.antt`), and a point's bytes lie where the layout has its Func.
+-- (`bounds/specs/Stages.antt`), and a point's bytes lie where the layout has its Func.
 -- This project's own.
 use Rattle.std.specs.Prelude.{◌≡◌, ◌<◌, ◌≤◌, ℕ, suc, ◌+◌, true, List, ◌∷◌, ◌++◌, length, slice_get, Some, None}
 use Rattle.memory.specs.Access.{word_at}
-use Rattle.multi_hart.specs.Finished.{all_finished}
-use Rattle.multi_hart.specs.Run.{State, run}
-use Rattle.halide_pipeline.specs.declared.expressions.Source.TheVariants as sources
+use Rattle.multi_hart.specs.Run.{all_finished, State, run}
 use Rattle.halide_pipeline.specs.Pipelines.{Pipeline}
 use Rattle.halide_pipeline.specs.Contents.{PictureContents}
 use Rattle.halide_pipeline.specs.Pixel.{input_planes}
@@ -15,14 +13,13 @@ use Rattle.schedule.specs.declared.schedules.Schedule.{Schedule}
 use Rattle.bounds.specs.declared.verdict.Boxes.{Boxes}
 use Rattle.loader.specs.Image.{ImageContents}
 use Rattle.vector_codegen_sharing.specs.Turns.{gate_word, Name, last_writer}
-use Rattle.vector_codegen_laws.specs.Points.{address_at}
-use Rattle.vector_codegen_laws.specs.Stages.{StagePlace, stages, iterations, writes}
+use Rattle.bounds.specs.Stages.{StagePlace, stages, iterations, writes}
+use Rattle.bounds.specs.Extents.{point_address}
 use Rattle.hrv_compiler.specs.Correct.{opening}
 
-module _ (pipeline : Pipeline) (schedule : Schedule) (boxes : Boxes) where
-  -- the address of a byte of a point of a Func at root, counted from the corner of its box
-  abbrev pub byte_of_point : ℕ → ℕ → ℕ → ℕ → ℕ
-  byte_of_point func x y byte = address_at pipeline schedule boxes.funcs 0 (sources.Func func) x y + byte
+-- the address of a byte of a point of a Func at root, counted from the corner of its box
+abbrev pub byte_of_point : Boxes → ℕ → ℕ → ℕ → ℕ → ℕ
+byte_of_point boxes func x y byte = point_address boxes func x y + byte
 
 module _ (pipeline : Pipeline) (schedule : Schedule) (boxes : Boxes) (pictures : List PictureContents) where
   -- In these turns each byte of the points that an iteration of the stage writes was last written by the hart that the iteration is assigned
@@ -30,7 +27,7 @@ module _ (pipeline : Pipeline) (schedule : Schedule) (boxes : Boxes) (pictures :
   abbrev pub WrittenAs : StagePlace → (ℕ → ℕ) → State → List ℕ → Type 0
   WrittenAs stage assigned begin turns =
       (iteration x y byte : ℕ) → iteration < iterations pipeline schedule boxes stage → writes pipeline schedule boxes (input_planes pictures) stage iteration x y ≡ true → byte < 4
-      → last_writer (byte_of_point pipeline schedule boxes stage.func x y byte) None begin turns ≡ Some (assigned iteration)
+      → last_writer (byte_of_point boxes stage.func x y byte) None begin turns ≡ Some (assigned iteration)
 
   -- That holds up to the first place where the phase's gate word is full: `before` are the turns up to there.
   pub record DoneBy (stage : StagePlace) (phase : ℕ) (assigned : ℕ → ℕ) (begin : State) (turns : List ℕ) : Type 0 where

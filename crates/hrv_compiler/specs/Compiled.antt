@@ -1,18 +1,12 @@
 -- What was compiled: a pipeline under a schedule that was accepted for it, the boxes of both, and words. What images of these words do is said
 -- of each image that is made (Correct.antt, Assigned.antt, Runs.antt). This project's own.
-use Rattle.std.specs.Prelude.{◌≡◌, ℕ, ◌+◌, ◌*◌, ◌-◌, List, slice_get, slice_index, Option, Some, None, Ok}
-use Rattle.std.specs.declared.alloc.Global.{Global}
+use Rattle.std.specs.Prelude.{ℕ, ◌+◌, ◌*◌, ◌-◌, List, slice_get, slice_index, Option, Some, None}
 use Rattle.halide_pipeline.specs.Pipelines.{Pipeline}
-use Rattle.halide_pipeline.specs.WellFormed.{IsWellFormed}
-use Rattle.halide_parser.specs.Parsing.{parsed}
 use Rattle.schedule.specs.declared.schedules.Schedule.{Schedule}
-use Rattle.schedule.specs.Accepted.{IsAccepted}
-use Rattle.schedule.specs.Schedules.{read}
 use Rattle.bounds.specs.declared.boxes.SourceBox.{SourceBox}
 use Rattle.bounds.specs.declared.verdict.Boxes.{Boxes}
-use Rattle.bounds.specs.Boxes.{box_in, extent}
-use Rattle.bounds.specs.Verdict.{inferred}
-use Rattle.bounds_ranges.specs.Ranges.{origin}
+use Rattle.bounds.specs.Extents.{box_in, extent}
+use Rattle.bounds_ranges.specs.Numbers.{origin}
 use Rattle.loader.specs.declared.outputs.Output.{Output}
 use Rattle.task_code_statements.specs.declared.stages.CodeStage.{CodeStage}
 
@@ -26,17 +20,6 @@ pub record CompiledContents : Type 0 where
   pub ends : List ℕ
   -- which words are the code of stages inside of phases, in the order of their code
   pub stages : List CodeStage
-
--- The schedule was accepted for the pipeline, and the boxes were inferred for both.
-pub record IsCompiled (own : CompiledContents) : Type 0 where
-  pub well_formed : IsWellFormed own.pipeline
-  pub accepted : IsAccepted own.pipeline own.schedule
-  pub inferred_is : inferred own.pipeline own.schedule ≡ Ok own.boxes
-
--- It is what these texts mean.
-pub record Means (alloc : Global) (algorithm schedule : List ℕ) (own : CompiledContents) : Type 0 where
-  pub algorithm_is : parsed alloc algorithm ≡ Ok own.pipeline
-  pub schedule_is : read own.pipeline schedule ≡ Ok own.schedule
 
 -- ---- the output
 

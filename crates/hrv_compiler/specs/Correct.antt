@@ -9,8 +9,7 @@ use Rattle.std.specs.List.{concat}
 use Rattle.memory.specs.Access.{word_at}
 use Rattle.hart_core.specs.declared.harts.Status.TheVariants.{Finished}
 use Rattle.hart_core.specs.HartState.{HartState}
-use Rattle.multi_hart.specs.Finished.{all_finished}
-use Rattle.multi_hart.specs.Run.{State, opened, run}
+use Rattle.multi_hart.specs.Run.{all_finished, State, opened, run}
 use Rattle.vector_codegen_sharing.specs.Turns.{arrived, gate_word, NoTrap, Name, OnlyBy, Waits, are_rounds, times_written, control_words, Race}
 use Rattle.halide_pipeline.specs.Pipelines.{Pipeline}
 use Rattle.halide_pipeline.specs.Contents.{PictureContents}

@@ -1,15 +1,43 @@
 -- The images of a compiled program, one for all input pictures that it asks for.
 -- This project's own.
-use Rattle.std.specs.Prelude.{◌≡◌, ◌⊎◌, List, Option, Some}
-use Rattle.std.specs.List.{AllByRecursion}
-use Rattle.memory.specs.Addresses.{text_start}
+use Rattle.std.specs.Prelude.{◌≡◌, ◌⊎◌, List, Option, Some, ℕ, ◌+◌, ◌*◌, ◌/◌, [], ◌∷◌, ◌++◌, length, replicate, if◌then◌else◌}
+use Rattle.std.specs.List.{AllByRecursion, flat_map}
+use Rattle.std.specs.Int.{w32, to_le_bytes}
+use Rattle.memory.specs.Access.{text_start}
 use Rattle.halide_pipeline.specs.Picture.{IsPicture}
 use Rattle.halide_pipeline.specs.Contents.{PictureContents}
+use Rattle.halide_pipeline.specs.declared.definitions.Input.{Input}
 use Rattle.loader.specs.Image.{ImageContents}
+use Rattle.loader.specs.Spelling.{padded}
 use Rattle.picture.specs.declared.faults.EvalError.{EvalError}
 use Rattle.picture.specs.declared.faults.EvalError.TheVariants as errors
 use Rattle.hrv_compiler.specs.Compiled.{CompiledContents, output_of}
-use Rattle.hrv_compiler.specs.Data.{image_data}
+use Rattle.bounds.specs.declared.layout.Layout.{Layout}
+
+-- ---- The data of a compiled image: zeros in the words by which harts share their work, the inputs' pixels where the layout has them, and
+-- zeros in all else.
+
+-- up to a multiple of 4
+abbrev pub whole : ℕ → ℕ
+whole bytes = (bytes + 3) / 4 * 4
+
+-- a pixel's bytes, the lowest first
+abbrev pub word_bytes : List ℕ → List ℕ
+word_bytes pixels = flat_map (to_le_bytes w32) pixels
+
+-- one byte a pixel, up to a whole number of words; or four
+abbrev pub input_data : Input → PictureContents → List ℕ
+input_data input picture = if input.is_bytes then padded (whole (length picture.pixels)) picture.pixels else word_bytes picture.pixels
+
+abbrev pub inputs_data : List Input → List PictureContents → List ℕ
+inputs_data [] pictures = []
+inputs_data (input ∷ inputs) [] = []
+inputs_data (input ∷ inputs) (picture ∷ pictures) = input_data input picture ++ inputs_data inputs pictures
+
+abbrev pub image_data : Layout → List Input → List PictureContents → List ℕ
+image_data layout inputs pictures = padded layout.size (replicate (8 * layout.phases) 0 ++ inputs_data inputs pictures)
+
+-- ---- images
 
 -- Text and entry depend on the program alone.
 abbrev pub image_of : CompiledContents → List PictureContents → ImageContents

@@ -2,7 +2,6 @@ pub mod Addresses
 pub mod Assigned
 pub mod Compiled
 pub mod Correct
-pub mod Data
 pub mod Faults
 pub mod Images
 pub mod Map

@@ -2,8 +2,9 @@
 -- This project's own.
 use Rattle.std.specs.Prelude.{◌<◌, ◌≤◌, ℕ, ◌+◌, ◌*◌, ◌^◌}
 use Rattle.bounds.specs.declared.boxes.SourceBox.{SourceBox}
-use Rattle.bounds.specs.Boxes.{IsBox, points}
-use Rattle.bounds_ranges.specs.Ranges.{origin}
+use Rattle.bounds.specs.Boxes.{IsBox}
+use Rattle.bounds.specs.Extents.{points}
+use Rattle.bounds_ranges.specs.Numbers.{origin}
 
 pub record Holds (at : ℕ) (own : SourceBox) (width height : ℕ) : Type 0 where
   pub rules : IsBox own

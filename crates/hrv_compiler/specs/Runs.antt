@@ -8,13 +8,11 @@ use Rattle.std.specs.Prelude.{◌≡◌, ◌<◌, ◌≤◌, ℕ, true, List, []
 use Rattle.halide_pipeline.specs.declared.definitions.Func.{Func}
 use Rattle.schedule.specs.declared.plans.FuncPlan.{FuncPlan}
 use Rattle.bounds.specs.declared.boxes.SourceBox.{SourceBox}
-use Rattle.bounds.specs.Boxes.{extent}
-use Rattle.bounds.specs.Views.{extents_of}
+use Rattle.bounds.specs.Extents.{extent, extents_of, point_address}
 use Rattle.loader.specs.Image.{ImageContents}
-use Rattle.multi_hart.specs.Frame.{is_in}
-use Rattle.lowering.specs.PurePhases.{IsAtRoot}
-use Rattle.lowering.specs.Runs.{is_vectorized_first}
-use Rattle.multi_hart.specs.Run.{run}
+use Rattle.multi_hart.specs.Run.{is_in, run}
+use Rattle.bounds.specs.Stages.{IsAtRoot}
+use Rattle.schedule_loops.specs.Runs.{is_vectorized_first}
 use Rattle.vector_codegen_laws.specs.Runs.{IsOneRun}
 use Rattle.vector_codegen_sharing.specs.Turns.{written_next}
 use Rattle.hrv_compiler.specs.Assigned.{byte_of_point}
@@ -37,5 +35,5 @@ module _ (own : CompiledContents) where
   WritesWholeRuns image =
       (place : ℕ) (is : IsInVectors place) (harts : ℕ)
       → 0 < harts → harts ≤ 8 → (turns : List ℕ) (hart x y byte : ℕ) → x < extent is.box.x → y < extent is.box.y → byte < 4
-      → is_in (byte_of_point own.pipeline own.schedule own.boxes place x y byte) (written_next (run (opening image harts) turns) hart) ≡ true
-      → IsOneRun own.pipeline own.schedule own.boxes place (extents_of is.box) is.plan.pure (written_next (run (opening image harts) turns) hart)
+      → is_in (byte_of_point own.boxes place x y byte) (written_next (run (opening image harts) turns) hart) ≡ true
+      → IsOneRun (point_address own.boxes place) (extents_of is.box) is.plan.pure (written_next (run (opening image harts) turns) hart)

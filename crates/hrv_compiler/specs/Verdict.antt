@@ -4,20 +4,22 @@
 use Rattle.std.specs.Prelude.{◌≡◌, ◌⊎◌, ℕ, nat_lt, if◌then◌else◌, List, Option, Some, None, Result, Ok, Err}
 use Rattle.std.specs.declared.alloc.Global.{Global}
 use Rattle.halide_pipeline.specs.Pipelines.{Pipeline}
+use Rattle.halide_pipeline.specs.WellFormed.{IsWellFormed}
 use Rattle.halide_parser_syntax.specs.declared.faults.ParseFault.{ParseFault}
 use Rattle.halide_parser.specs.Parsing.{parsed}
 use Rattle.schedule_lines.specs.declared.faults.ScheduleFault.{ScheduleFault}
 use Rattle.schedule.specs.declared.schedules.Schedule.{Schedule}
-use Rattle.schedule.specs.Schedules.{read}
+use Rattle.schedule.specs.Reading.{read}
+use Rattle.schedule.specs.Accepted.{IsAccepted}
 use Rattle.bounds_weights.specs.declared.faults.WeightError.TheVariants as weights
 use Rattle.bounds_weights.specs.declared.stage_needs.StageNeeds.{StageNeeds}
-use Rattle.bounds_weights.specs.Need.{needs, is_too_deep}
-use Rattle.bounds_weights.specs.Weight.{weight, most_weight}
+use Rattle.bounds_weights.specs.Weight.{needs, is_too_deep, weight, most_weight}
 use Rattle.bounds.specs.declared.faults.BoundsFault.{BoundsFault}
 use Rattle.bounds.specs.declared.verdict.Boxes.{Boxes}
 use Rattle.bounds.specs.Verdict.{inferred}
 use Rattle.hrv_compiler.specs.declared.faults.CompileFault.{CompileFault}
 use Rattle.hrv_compiler.specs.declared.faults.CompileFault.TheVariants as faults
+use Rattle.hrv_compiler.specs.Compiled.{CompiledContents}
 
 abbrev pub by_needs : StageNeeds → Option CompileFault
 by_needs own = if is_too_deep own then Some faults.TooDeep else None
@@ -44,3 +46,16 @@ refusal_of alloc algorithm schedule = by_algorithm schedule (parsed alloc algori
 -- The fault stands first, or memory ran out.
 abbrev pub IsFirst : Option CompileFault → CompileFault → Type 0
 IsFirst wanted fault = (wanted ≡ Some fault) ⊎ (fault ≡ faults.Memory)
+
+-- ---- What two texts mean: a pipeline, and a schedule that is accepted for it, for which boxes are inferred.
+
+-- The schedule was accepted for the pipeline, and the boxes were inferred for both.
+pub record IsCompiled (own : CompiledContents) : Type 0 where
+  pub well_formed : IsWellFormed own.pipeline
+  pub accepted : IsAccepted own.pipeline own.schedule
+  pub inferred_is : inferred own.pipeline own.schedule ≡ Ok own.boxes
+
+-- It is what these texts mean.
+pub record Means (alloc : Global) (algorithm schedule : List ℕ) (own : CompiledContents) : Type 0 where
+  pub algorithm_is : parsed alloc algorithm ≡ Ok own.pipeline
+  pub schedule_is : read own.pipeline schedule ≡ Ok own.schedule

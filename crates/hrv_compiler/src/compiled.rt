@@ -2,11 +2,11 @@
 
 ghost use Rattle.std.specs.Prelude.{◌≡◌, ◌*◌, ◌<◌, ◌≤◌, IfErr, IfOk, None, Ok, Some, length, slice_get};
 ghost use Rattle.std.specs.Option.{option_copied};
-ghost use Rattle.bounds.specs.Boxes.{box_in};
+ghost use Rattle.bounds.specs.Extents.{box_in};
 ghost use Rattle.bounds.specs.Verdict.{inferred};
 ghost use Rattle.halide_pipeline.specs.WellFormed.{IsWellFormed};
 ghost use Rattle.loader.specs.Image as images;
-ghost use Rattle.memory.specs.Addresses.{text_start};
+ghost use Rattle.memory.specs.Access.{text_start};
 ghost use Rattle.picture.specs.Evaluated.{judged};
 ghost use Rattle.schedule.specs.Accepted.{IsAccepted};
 ghost use Rattle.hrv_compiler.specs.Assigned.{IsAssigned};
@@ -18,7 +18,7 @@ ghost use Rattle.hrv_map.specs.Maps.{map_text};
 ghost use Rattle.hrv_compiler.specs.Images.{ArePictures, IsRefusedInput, image_of};
 ghost use Rattle.hrv_compiler.specs.Outputs.{Holds};
 ghost use Rattle.hrv_compiler.specs.Runs.{WritesWholeRuns};
-ghost use Rattle.vector_codegen_laws.specs.Stages.{stages};
+ghost use Rattle.bounds.specs.Stages.{stages};
 
 use crate::data::image_data;
 use bounds::boxes::extents_of;
@@ -26,7 +26,7 @@ use bounds::{Boxes, Plan, SourceBox};
 use bounds_ranges::ranges::ORIGIN;
 use halide_pipeline::Pipeline;
 use loader::{Image, Output};
-use lowering::hosting::box_at;
+use lowering::consuming::box_at;
 use memory::{DATA_START, TEXT_START};
 use picture::{EvalError, Picture, judge};
 use schedule::Schedule;

@@ -3,15 +3,15 @@
 ghost use Rattle.std.specs.Prelude.{◌≡◌, ◌≤◌, IfErr, IfOk, None, Ok, false};
 ghost use Rattle.std.specs.List.{AllByRecursion};
 ghost use Rattle.schedule.specs.Accepted.{IsAccepted};
-ghost use Rattle.bounds_weights.specs.Need.{is_too_deep, needs as needed};
+ghost use Rattle.bounds_weights.specs.Weight.{is_too_deep, needs as needed};
 ghost use Rattle.bounds_weights.specs.Weight.{most_weight, weight};
 ghost use Rattle.bounds.specs.Plans.{IsPlan};
 ghost use Rattle.bounds.specs.Verdict.{inferred};
-ghost use Rattle.memory.specs.Addresses.{most_words};
+ghost use Rattle.memory.specs.Access.{most_words};
 ghost use Rattle.task_code_scalar.specs.Faults.{LieLow};
 ghost use Rattle.vector_codegen.specs.Programs.{HasFewTasks, HasRegisters, IsProgramTo, words_asked};
 ghost use Rattle.hrv_compiler.specs.declared.faults.CompileFault.TheVariants as faults;
-ghost use Rattle.hrv_compiler.specs.Compiled.{IsCompiled, Means};
+ghost use Rattle.hrv_compiler.specs.Verdict.{IsCompiled, Means};
 ghost use Rattle.hrv_compiler.specs.inner.Held.{AreWordsOf};
 ghost use Rattle.hrv_compiler.specs.Verdict as spec;
 

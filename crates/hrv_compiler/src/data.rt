@@ -7,7 +7,7 @@ ghost use Rattle.bounds.specs.Layout as layouts;
 ghost use Rattle.picture.specs.Evaluated.{hold_bytes, holds_bytes, judged};
 ghost use Rattle.loader.specs.Spelling.{padded};
 ghost use Rattle.hrv_compiler.specs.Addresses.{LiesLow};
-ghost use Rattle.hrv_compiler.specs.Data as spec;
+ghost use Rattle.hrv_compiler.specs.Images as spec;
 ghost use Rattle.hrv_compiler.specs.Images.{ArePictures};
 
 use bounds::Layout;

@@ -2,7 +2,7 @@
 //!
 //! - [`compile`]: the program of two texts, or the first fault that stands (`specs/Verdict.antt`,
 //!   `specs/Compiled.antt`).
-//! - [`Compiled::image`]: an image of it with these input pictures (`specs/Data.antt`), which does what
+//! - [`Compiled::image`]: an image of it with these input pictures (`specs/Images.antt`), which does what
 //!   `specs/Correct.antt`, `specs/Assigned.antt` and `specs/Runs.antt` say.
 //! - [`faults`]: why nothing is compiled.
 //! - [`places`]: where buffers lie.

@@ -2,7 +2,8 @@
 
 ghost use Rattle.std.specs.Prelude.{◌≡◌, ◌≤◌, ◌*◌, IfOk};
 ghost use Rattle.halide_pipeline.specs.WellFormed.{most_points};
-ghost use Rattle.bounds.specs.Boxes.{AreBoxes, IsBox, IsBoxOrNone, extent, points};
+ghost use Rattle.bounds.specs.Boxes.{AreBoxes, IsBox, IsBoxOrNone};
+ghost use Rattle.bounds.specs.Extents.{extent, points};
 ghost use Rattle.bounds.specs.Plans.{IsPlan};
 ghost use Rattle.task_code_scalar.specs.Code as code;
 ghost use Rattle.vector_codegen_laws.specs.Places as spec;

@@ -4,9 +4,7 @@ use Rattle.std.specs.Prelude.{◌==◌, ◌≢◌}
 use Rattle.std.specs.declared.alloc.Global.{Global}
 use Rattle.std.proofs.lemmas.Bool.{eqb-true, lt-ltb}
 use Rattle.std.proofs.lemmas.List.{length-append}
-use Rattle.line_text.specs.Reading.{◌>>=◌}
-use Rattle.line_text.specs.Lines.{IsLine, joined, lines_of}
-use Rattle.line_text.specs.LineReading.{located, taken_from}
+use Rattle.line_text.specs.Lines.{◌>>=◌, located, taken_from, IsLine, joined, lines_of}
 use Rattle.halide_pipeline.specs.Pipelines.{Pipeline}
 use Rattle.halide_parser_syntax.specs.declared.faults.ParseFault.{ParseFault}
 use Rattle.halide_parser_syntax.specs.declared.faults.ParseFault.TheVariants as fault
@@ -17,9 +15,8 @@ use Rattle.halide_parser_syntax.specs.Tokens.{tokens_of}
 use Rattle.halide_parser_syntax.specs.inner.LineReading.{line_of}
 use Rattle.halide_parser.specs.declared.readers.Reader.{Reader}
 use Rattle.halide_parser.specs.Parsing.{finished, is_oversized, most_text, parsed, parsed_by, settled, settled_as, settled_if, start, taken_by}
-use Rattle.halide_parser.specs.Expressions.{exceeds, is_bad_divisor_at}
+use Rattle.halide_parser.specs.Expressions.{exceeds, is_bad_divisor_at, scope_of}
 use Rattle.halide_parser.specs.Rules.{fault_of, has_large, is_behind_output, is_misshapen, is_over_limit, is_taken, is_unknown, is_wrong_count, line_has}
-use Rattle.halide_parser.specs.Scopes.{scope_of}
 
 -- ---- each line of a text that is too long is faulty
 

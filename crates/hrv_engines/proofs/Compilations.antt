@@ -10,7 +10,8 @@ use Rattle.loader.specs.Image.{ImageContents, IsImage}
 use Rattle.loader.specs.Spelling.{spelled}
 use Rattle.loader.specs.declared.formats.Format.TheVariants.{Hrv2}
 use Rattle.hrv_compiler.specs.Assigned.{IsAssigned}
-use Rattle.hrv_compiler.specs.Compiled.{CompiledContents, IsCompiled, Means}
+use Rattle.hrv_compiler.specs.Compiled.{CompiledContents}
+use Rattle.hrv_compiler.specs.Verdict.{IsCompiled, Means}
 use Rattle.hrv_compiler.specs.Correct.{Correct}
 use Rattle.hrv_compiler.specs.Images.{image_of, IsRefusedInput}
 use Rattle.hrv_compiler.specs.Runs.{WritesWholeRuns}

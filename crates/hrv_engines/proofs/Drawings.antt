@@ -2,7 +2,7 @@
 use Rattle.std.proofs.Common.{◌≡◌, ◌∙◌, ℕ, refl, sym, ap, append_assoc, List, [], ◌∷◌, ◌++◌}
 use Rattle.std.specs.Prelude.{IsErrAnd, Result, Ok, Err, Some}
 use Rattle.std.specs.declared.alloc.Global.{Global}
-use Rattle.line_text.specs.Reading.{◌>>=◌}
+use Rattle.line_text.specs.Lines.{◌>>=◌}
 use Rattle.halide_pipeline.specs.Pipelines.{Pipeline}
 use Rattle.halide_parser.specs.Parsing.{parsed}
 use Rattle.picture.specs.declared.faults.PictureFault.{PictureFault}

@@ -3,7 +3,7 @@ use Rattle.std.proofs.Common.{◌≡◌, ℕ, ◌+◌, ◌*◌, ◌<◌, ◌≤�
 use Rattle.std.specs.Prelude.{nat_lt, ◌||◌}
 use Rattle.std.proofs.lemmas.Bool.{ltb-false, le-ltb, lt-ltb, or_parts}
 use Rattle.std.proofs.lemmas.List.{take-append-le, drop-append-le, length-drop, length-append}
-use Rattle.memory.specs.Addresses.{most_words, most_bytes}
+use Rattle.memory.specs.Access.{most_words, most_bytes}
 use Rattle.loader.specs.declared.formats.Format.{Format}
 use Rattle.loader.specs.declared.formats.Format.TheVariants.{Hrv1, Hrv2}
 use Rattle.loader.specs.declared.faults.LoadFault.{LoadFault}

@@ -6,11 +6,11 @@ use Rattle.std.proofs.lemmas.Bool.Decides.{nat_tests}
 use Rattle.std.proofs.lemmas.List.{map-append}
 use Rattle.std.specs.List.{join_with_byte}
 use Rattle.std.specs.Prelude.{IsTrue, map, codes, ◌==◌, if◌then◌else◌, Some, None, Option}
-use Rattle.memory.specs.Addresses.{data_start, most_bytes}
+use Rattle.memory.specs.Access.{data_start, most_bytes}
 use Rattle.loader.specs.Image.{ImageContents, IsImage, is_output, is_output_or_none, is_within_limits}
 use Rattle.loader.specs.declared.outputs.Output.{Output}
 use Rattle.multi_hart.specs.Run.{State}
-use Rattle.picture.specs.Spelling.{heading, number_text, row_text}
+use Rattle.picture.specs.Reading.{heading, number_text, row_text}
 use Rattle.debugger_blame.specs.Marks.{AreMarks, mark_at}
 use Rattle.debugger_blame.specs.declared.marks.Marking.{Marking}
 use Rattle.hrv_engines.specs.Blame.{marks_row, marks_rows, marks_text}

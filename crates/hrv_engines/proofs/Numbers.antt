@@ -5,8 +5,7 @@ use Rattle.std.specs.List.{list_all, prefix_len}
 use Rattle.std.proofs.lemmas.Bool.{le-ltb}
 use Rattle.std.proofs.lemmas.Bool.Decides.{nat_tests}
 use Rattle.std.proofs.lemmas.List.Sums.{fold-append}
-use Rattle.line_text.specs.Classes.{is_digit, is_hexadecimal}
-use Rattle.line_text.specs.Numbers.{decimal_number, hexadecimal_number, hexadecimal_value}
+use Rattle.line_text.specs.Lines.{is_digit, is_hexadecimal, decimal_number, hexadecimal_number, hexadecimal_value}
 use Rattle.hrv_engines.specs.Commands.{below_most, spelled_by}
 
 -- ---- the digits are all of a class where they are as many as the front of the class

@@ -11,9 +11,7 @@ use lib.Seq.{take-append-add}
 use Rattle.std.proofs.lemmas.List.{drop-append-le, length-append, length-drop, length-take-le, take-append-le, take_all}
 use Rattle.std.proofs.lemmas.List.Sums.{prefix_len-le-length}
 use Rattle.std.proofs.lemmas.List.Folds.{prefix_len-append}
-use Rattle.line_text.specs.Classes.{is_digit}
-use Rattle.line_text.specs.Numbers.{decimal_number}
-use Rattle.line_text.specs.Reading.{◌>>=◌}
+use Rattle.line_text.specs.Lines.{is_digit, decimal_number, ◌>>=◌}
 use Rattle.halide_pipeline.specs.Contents.{PictureContents}
 use Rattle.halide_pipeline.specs.WellFormed.{is_height, is_width, most_extent, most_points}
 use Rattle.picture.specs.declared.faults.PictureFault.{PictureFault}

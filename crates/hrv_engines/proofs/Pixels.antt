@@ -3,8 +3,7 @@ use Rattle.std.proofs.Common.{◌≡◌, ℕ, ◌+◌, ◌-◌, ◌*◌, ◌/◌
 use Rattle.std.specs.Prelude.{IsTrue}
 use Rattle.std.proofs.Math.Nat.{mul-le-mul_left}
 use Rattle.std.proofs.lemmas.Bool.Decides.{nat_tests}
-use Rattle.memory.specs.Addresses.{data_start}
-use Rattle.memory.specs.Access.{Reads, fault_of, word_at}
+use Rattle.memory.specs.Access.{data_start, Reads, fault_of, word_at}
 use Rattle.loader.specs.declared.outputs.Output.{Output}
 use Rattle.loader.specs.Image.{is_output, end_of}
 use Rattle.multi_hart.specs.Run.{State, if_no_fault, word_in}

@@ -11,7 +11,7 @@ use Rattle.loader.specs.declared.outputs.Output.{Output}
 use Rattle.multi_hart.specs.Run.{State, hart_at}
 use Rattle.turn_log.specs.TurnLog.{count_of}
 use Rattle.hrv_engines.specs.Talk.{hart_line, hart_lines}
-use Rattle.picture.specs.Spelling.{number_text, row_text}
+use Rattle.picture.specs.Reading.{number_text, row_text}
 use Rattle.hrv_engines.specs.Dump.{pixel, row, rows, hart_text, hart_texts, hex_digit, hex_of, register_line, register_lines, vector_line, vector_lines}
 
 pub hex_of-append : (xs ys : List ℕ) → hex_of (xs ++ ys) ≡ hex_of xs ++ hex_of ys

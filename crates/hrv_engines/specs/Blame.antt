@@ -2,7 +2,7 @@
 -- This project's own.
 use Rattle.std.specs.Prelude.{◌≡◌, ℕ, zero, suc, List, [], ◌∷◌, ◌++◌, codes, option_map, slice_get, take, unwrap_or, Option, Some, None, Result, Ok, Err}
 use Rattle.std.specs.Fmt.{decimal}
-use Rattle.memory.specs.Addresses.{fetched}
+use Rattle.memory.specs.Access.{fetched}
 use Rattle.multi_hart.specs.Run.{State, hart_at, run, turn}
 use Rattle.turn_log.specs.TurnLog.{LogState}
 use Rattle.turn_log.specs.LogSpelling.{log_of}
@@ -13,7 +13,7 @@ use Rattle.loader.specs.Loading.{machine_of}
 use Rattle.loader.specs.declared.faults.LoadFault.{LoadFault}
 use Rattle.loader.specs.declared.outputs.Output.{Output}
 use Rattle.disassembler.specs.Listing.{listed}
-use Rattle.picture.specs.Spelling as spelling
+use Rattle.picture.specs.Reading as spelling
 use Rattle.debugger_blame.specs.LastWrites.{held, last_turn_of_word}
 use Rattle.debugger_blame.specs.Marks.{mark_at}
 use Rattle.debugger_blame.specs.declared.marks.Marking.{Marking}

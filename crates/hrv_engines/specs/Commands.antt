@@ -4,9 +4,7 @@ use Rattle.std.specs.Prelude.{ℕ, ◌^◌, ◌==◌, ◌&&◌, Bool, nat_lt, if
 use Rattle.std.specs.Prelude.{option_and_then}
 use Rattle.std.specs.List.{list_all}
 use Rattle.std.specs.Str.{bytes_eq}
-use Rattle.line_text.specs.Classes.{is_digit, is_hexadecimal}
-use Rattle.line_text.specs.Lines.{joined}
-use Rattle.line_text.specs.Numbers.{decimal_number, hexadecimal_number}
+use Rattle.line_text.specs.Lines.{is_digit, is_hexadecimal, joined, decimal_number, hexadecimal_number}
 use Rattle.hrv_engines.specs.declared.commands.Command.{Command}
 use Rattle.hrv_engines.specs.declared.commands.Command.TheVariants.{Goto, Next, Back, Forward, Reverse, Break, Watch, Register, Vector, Word, Status, Quit}
 

@@ -11,11 +11,11 @@ use Rattle.loader.specs.Spelling.{spelled}
 use Rattle.loader.specs.declared.formats.Format.TheVariants.{Hrv2}
 use Rattle.hrv_compiler.specs.declared.faults.CompileFault.{CompileFault}
 use Rattle.hrv_compiler.specs.Assigned.{IsAssigned}
-use Rattle.hrv_compiler.specs.Compiled.{CompiledContents, IsCompiled, Means}
+use Rattle.hrv_compiler.specs.Compiled.{CompiledContents}
+use Rattle.hrv_compiler.specs.Verdict.{IsCompiled, Means, refusal_of}
 use Rattle.hrv_compiler.specs.Correct.{Correct}
 use Rattle.hrv_compiler.specs.Images.{image_of}
 use Rattle.hrv_compiler.specs.Runs.{WritesWholeRuns}
-use Rattle.hrv_compiler.specs.Verdict.{refusal_of}
 use Rattle.hrv_engines.specs.declared.faults.Refusal.{Refusal}
 use Rattle.hrv_engines.specs.declared.faults.Refusal.TheVariants.{Compile}
 use Rattle.hrv_engines.specs.Drawing.{pictures_of, with_pictures}

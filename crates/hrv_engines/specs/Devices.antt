@@ -2,7 +2,7 @@
 -- This project's own.
 use Rattle.std.specs.Prelude.{◌≡◌, ◌⊎◌, ℕ, ◌+◌, ◌*◌, ◌<◌, List, ◌++◌, length, slice_get, Some}
 use Rattle.std.specs.Str.{IsUtf8}
-use Rattle.memory.specs.Addresses.{most_bytes, most_words}
+use Rattle.memory.specs.Access.{most_bytes, most_words}
 use Rattle.loader.specs.Spelling.{header_length}
 use Rattle.loader.specs.declared.formats.Format.TheVariants.{Hrv2}
 

@@ -4,7 +4,7 @@ use Rattle.std.specs.Prelude.{◌≡◌, ℕ, List, Option, Some, None, Result, 
 use Rattle.loader.specs.Image.{ImageContents}
 use Rattle.loader.specs.Spelling.{Spells, image_of}
 use Rattle.loader.specs.declared.faults.LoadFault.{LoadFault}
-use Rattle.memory.specs.Addresses.{text_start}
+use Rattle.memory.specs.Access.{text_start}
 use Rattle.disassembler.specs.Listing.{addressed_listing, listing}
 use Rattle.hrv_engines.specs.declared.faults.Refusal.{Refusal}
 use Rattle.hrv_engines.specs.declared.faults.Refusal.TheVariants.{Load}

@@ -2,14 +2,13 @@
 -- This project's own.
 use Rattle.std.specs.Prelude.{◌≡◌, ℕ, List, [], ◌∷◌, Option, Some, None, option_map, Result, Ok, Err}
 use Rattle.std.specs.declared.alloc.Global.{Global}
-use Rattle.line_text.specs.Reading.{◌>>=◌}
+use Rattle.line_text.specs.Lines.{◌>>=◌}
 use Rattle.halide_pipeline.specs.Pipelines.{Pipeline}
 use Rattle.halide_parser_syntax.specs.declared.faults.ParseFault.{ParseFault}
 use Rattle.halide_parser.specs.Parsing.{parsed}
 use Rattle.picture.specs.declared.faults.PictureFault.{PictureFault}
 use Rattle.halide_pipeline.specs.Contents.{PictureContents}
-use Rattle.picture.specs.Reading.{picture_of}
-use Rattle.picture.specs.Spelling.{spelled}
+use Rattle.picture.specs.Reading.{picture_of, spelled}
 use Rattle.picture.specs.Evaluated.{IsOutput, judged}
 use Rattle.hrv_engines.specs.declared.faults.Refusal.{Refusal}
 use Rattle.hrv_engines.specs.declared.faults.Refusal.TheVariants.{Parse, Picture, Input}

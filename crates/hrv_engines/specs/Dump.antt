@@ -9,11 +9,10 @@ use Rattle.hart_core.specs.declared.harts.Status.{Status}
 use Rattle.hart_core.specs.declared.harts.Status.TheVariants.{Running, Finished, Trapped}
 use Rattle.memory.specs.Access.{word_at}
 use Rattle.hart_core.specs.HartState.{HartState, register, vector}
-use Rattle.multi_hart.specs.Run.{State, hart_at}
-use Rattle.multi_hart.specs.Finished.{all_finished}
+use Rattle.multi_hart.specs.Run.{State, hart_at, all_finished}
 use Rattle.turn_log.specs.TurnLog.{count_of}
 use Rattle.loader.specs.declared.outputs.Output.{Output}
-use Rattle.picture.specs.Spelling as spelling
+use Rattle.picture.specs.Reading as spelling
 
 -- ---- numbers
 

@@ -3,9 +3,9 @@
 use Rattle.std.specs.Prelude.{◌≡◌, ℕ, List, Some, None}
 use Rattle.std.specs.declared.alloc.Global.{Global}
 use Rattle.hrv_compiler.specs.declared.faults.CompileFault.{CompileFault}
-use Rattle.hrv_compiler.specs.Compiled.{CompiledContents, IsCompiled, Means}
+use Rattle.hrv_compiler.specs.Compiled.{CompiledContents}
+use Rattle.hrv_compiler.specs.Verdict.{IsCompiled, Means, refusal_of}
 use Rattle.hrv_compiler.specs.Map.{AreAllRight, ArePhases}
-use Rattle.hrv_compiler.specs.Verdict.{refusal_of}
 use Rattle.hrv_map.specs.Maps.{map_text}
 use Rattle.hrv_engines.specs.declared.faults.Refusal.{Refusal}
 use Rattle.hrv_engines.specs.declared.faults.Refusal.TheVariants.{Compile}

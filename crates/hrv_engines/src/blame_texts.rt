@@ -3,8 +3,8 @@
 ghost use Rattle.std.specs.Prelude.{◌≡◌, ◌+◌, ◌-◌, ◌*◌, ◌/◌, ◌<◌, ◌≤◌, ◌++◌, codes, length, unwrap_or, OnOk, IfOk};
 ghost use Rattle.std.specs.Fmt.{decimal};
 ghost use Rattle.std.specs.String.{string_bytes};
-ghost use Rattle.memory.specs.Addresses.{fetched, most_words};
-ghost use Rattle.picture.specs.Spelling.{heading, number_text, row_text};
+ghost use Rattle.memory.specs.Access.{fetched, most_words};
+ghost use Rattle.picture.specs.Reading.{heading, number_text, row_text};
 ghost use Rattle.hrv_engines.specs.Blame.{last_text, write_text};
 ghost use Rattle.hrv_engines.specs.BlameQuestions.{LiesInData};
 ghost use Rattle.hrv_engines.specs.Dump.{hex_word, newline};

@@ -2,7 +2,7 @@
 
 ghost use Rattle.std.specs.Prelude.{◌≡◌, ◌+◌, ◌*◌, [], ◌∷◌, MatchOption};
 ghost use Rattle.std.specs.Str.{bytes_eq};
-ghost use Rattle.line_text.specs.Numbers.{hexadecimal_value};
+ghost use Rattle.line_text.specs.Lines.{hexadecimal_value};
 ghost use Rattle.hrv_engines.specs.Commands as spec;
 
 use crate::cuts::cut_at;

@@ -3,7 +3,7 @@
 ghost use Rattle.std.specs.Prelude.{◌≡◌, ◌<◌, ◌≤◌, ◌+◌, ◌++◌, ◌==◌, List, length, OnOk, IfOk, IsTrue};
 ghost use Rattle.std.specs.List.{list_all};
 ghost use Rattle.std.specs.String.{string_bytes};
-ghost use Rattle.memory.specs.Addresses.{most_bytes};
+ghost use Rattle.memory.specs.Access.{most_bytes};
 ghost use Rattle.loader.specs.Image.{is_output_or_none};
 ghost use Rattle.multi_hart.specs.Run.{hart_at};
 ghost use Rattle.hrv_engines.specs.Dump.{hex_of, hex_word, status_text, heading, register_line, register_lines};

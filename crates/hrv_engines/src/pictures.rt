@@ -3,9 +3,9 @@
 ghost use Rattle.std.specs.Prelude.{◌≡◌, ◌<◌, ◌≤◌, ◌+◌, ◌*◌, ◌++◌, ◌^◌, ◌==◌, [], if◌then◌else◌, codes, length, OnOk};
 ghost use Rattle.std.specs.Prelude.{IsTrue};
 ghost use Rattle.std.specs.String.{string_bytes};
-ghost use Rattle.memory.specs.Addresses.{most_bytes};
+ghost use Rattle.memory.specs.Access.{most_bytes};
 ghost use Rattle.loader.specs.Image.{is_output};
-ghost use Rattle.picture.specs.Spelling.{heading, number_text, row_text};
+ghost use Rattle.picture.specs.Reading.{heading, number_text, row_text};
 ghost use Rattle.hrv_engines.specs.Dump.{pixel, row, picture_text};
 
 use loader::Output;
@@ -27,7 +27,7 @@ pub fn push_picture(text: &mut String, machine: &Machine, output: Output) -> Res
 }
 
 /// `picture W H`
-#[tactic(auto, unfolding(picture::specs::Spelling::heading))]
+#[tactic(auto, unfolding(picture::specs::Reading::heading))]
 pub(crate) fn push_picture_heading(
     text: &mut String,
     width: u32,
@@ -67,7 +67,7 @@ pub(crate) fn push_separated(text: &mut String, x: u32, pixel: u32) -> Result<()
 }
 
 /// The signed number that a word stands for.
-#[tactic(auto, unfolding(picture::specs::Spelling::number_text))]
+#[tactic(auto, unfolding(picture::specs::Reading::number_text))]
 pub(crate) fn push_number(text: &mut String, pixel: u32) -> Result<(), AllocError>
     ensures { OnOk result (string_bytes text.new ≡ string_bytes text.old ++ number_text pixel) }
 {

@@ -1,7 +1,7 @@
 //! What words ask about who wrote data.
 
 ghost use Rattle.std.specs.Prelude.{◌≡◌, ◌<◌, ◌≤◌, length, IfOk};
-ghost use Rattle.memory.specs.Addresses.{most_bytes};
+ghost use Rattle.memory.specs.Access.{most_bytes};
 ghost use Rattle.hrv_engines.specs.BlameQuestions as spec;
 ghost use Rattle.hrv_engines.specs.Commands.{number_of};
 ghost use Rattle.hrv_engines.specs.Dump.{pixel_address};

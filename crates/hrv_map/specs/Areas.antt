@@ -3,9 +3,9 @@ use Rattle.std.specs.Prelude.{ℕ, ◌-◌, ◌*◌, nat_le, if◌then◌else◌
 use Rattle.std.specs.Fmt.{decimal}
 use Rattle.disassembler.specs.Listing.{hexadecimal_text}
 use Rattle.halide_pipeline.specs.declared.definitions.Input.{Input}
-use Rattle.bounds_ranges.specs.Ranges.{origin}
+use Rattle.bounds_ranges.specs.Numbers.{origin}
 use Rattle.bounds.specs.declared.boxes.SourceBox.{SourceBox}
-use Rattle.bounds.specs.Boxes.{extent}
+use Rattle.bounds.specs.Extents.{extent}
 use Rattle.hrv_map.specs.declared.areas.Area.{Area}
 
 -- an input begins at point 0, 0

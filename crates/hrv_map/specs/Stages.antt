@@ -3,7 +3,7 @@
 -- Stages are given in the order of their code, each with words of the text. A line is printed of those alone whose words are inside their phase's.
 use Rattle.std.specs.Prelude.{ℕ, ◌+◌, ◌*◌, Bool, false, ◌&&◌, if◌then◌else◌, nat_le, nat_lt, List, [], ◌∷◌, ◌++◌, codes}
 use Rattle.std.specs.Fmt.{decimal}
-use Rattle.memory.specs.Addresses.{text_start}
+use Rattle.memory.specs.Access.{text_start}
 use Rattle.disassembler.specs.Listing.{hexadecimal_text}
 use Rattle.task_code_statements.specs.declared.stages.CodeStage.{CodeStage}
 use Rattle.hrv_map.specs.declared.phases.CodePhase.{CodePhase}

@@ -2,7 +2,8 @@
 
 ghost use Rattle.std.specs.Prelude.{◌≡◌, ◌+◌, ◌*◌, ◌<◌, ◌≤◌, ◌^◌, ◌++◌, IfOk, IfSome, OnOk, length, slice_get};
 ghost use Rattle.std.specs.String.{string_bytes};
-ghost use Rattle.bounds.specs.Boxes.{AreBoxes, IsBox, box_in};
+ghost use Rattle.bounds.specs.Boxes.{AreBoxes, IsBox};
+ghost use Rattle.bounds.specs.Extents.{box_in};
 ghost use Rattle.hrv_map.specs.Lines as spec;
 
 use crate::areas::{area_text, func_area, input_area};

@@ -4,9 +4,9 @@ ghost use Rattle.std.specs.Prelude.{◌≡◌, ◌+◌, ◌*◌, ◌<◌, ◌^�
 ghost use Rattle.std.specs.Fmt.{decimal};
 ghost use Rattle.std.specs.String.{string_bytes};
 ghost use Rattle.disassembler.specs.Listing.{hexadecimal_text};
-ghost use Rattle.memory.specs.Addresses.{text_start};
+ghost use Rattle.memory.specs.Access.{text_start};
 ghost use Rattle.schedule.specs.Accepted.{IsAccepted};
-ghost use Rattle.bounds.specs.Boxes.{box_in};
+ghost use Rattle.bounds.specs.Extents.{box_in};
 ghost use Rattle.bounds.specs.Tasks as counts;
 ghost use Rattle.hrv_map.specs.Lines.{newline};
 ghost use Rattle.hrv_map.specs.Phases as spec;

@@ -5,8 +5,7 @@ use Rattle.std.proofs.Math.Seq.{take-append_seam}
 use Rattle.std.proofs.lemmas.List.{take_more, take_all}
 use Rattle.std.proofs.lemmas.Grind.{flat_map-append}
 use Rattle.std.specs.List.{flat_map}
-use Rattle.lanes.specs.Words.{IsWidth}
-use Rattle.lanes.specs.Registers.{lowest_bytes, with_element, register_of}
+use Rattle.lanes.specs.Words.{IsWidth, lowest_bytes, with_element, register_of}
 
 -- so many elements fill the register
 pub count_is : (n w : ℕ) → IsWidth w → n * w ≡ 128 → 128 / w ≡ n

@@ -4,8 +4,7 @@ use Rattle.std.proofs.Math.ListN.{set, replicate}
 use Rattle.std.proofs.lemmas.List.{take_all, map-set}
 use Rattle.std.proofs.lemmas.Bool.Decides.{nat_tests}
 use Rattle.std.specs.List.{range_with_len, fold}
-use Rattle.lanes.specs.Masks.{active, is_active}
-use Rattle.lanes.specs.Elementwise.{zip_with, merged, chosen_of, reduced, EachPair, EachFrom, LeadsTo}
+use Rattle.lanes.specs.Words.{active, is_active, zip_with, merged, chosen_of, reduced, EachPair, EachFrom, LeadsTo}
 
 -- ---- pairs
 

@@ -1,6 +1,6 @@
 -- Bits of a mask register that are written one after the other, from a first one on.
 use Rattle.std.proofs.Common.{◌≡◌, ℕ, suc, ◌+◌, ◌<◌, Bool, true, false, if◌then◌else◌, List, drop, length, get_or, drop-cons, add-one, refl, sym, ◌∙◌, ap, arith}
-use Rattle.lanes.specs.Masks.{with_mask_bit, with_mask_bits_from}
+use Rattle.lanes.specs.Words.{with_mask_bit, with_mask_bits_from}
 
 -- the bit of one element
 front : (f i : ℕ) (active bits : List Bool) (bytes : List ℕ) (a b : Bool) → i < length active → i < length bits

@@ -5,7 +5,7 @@ use Rattle.std.proofs.lemmas.Bool.{cases_eq, ne_eqb}
 use Rattle.std.proofs.lemmas.Nat.{pow_below}
 use Rattle.std.proofs.lemmas.Nat.Bits.{bit_at_or, bit_at_and, bit_at-pow_same, bit_at-pow_other, bit_at_not, bit_at-lt}
 use Rattle.std.specs.Int.{bit_at, w8}
-use Rattle.lanes.specs.Masks.{mask_bit, with_bit, with_mask_bit, with_mask_bits_from, with_mask_bits}
+use Rattle.lanes.specs.Words.{mask_bit, with_bit, with_mask_bit, with_mask_bits_from, with_mask_bits}
 
 -- ---- one byte
 

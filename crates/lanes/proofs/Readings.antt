@@ -6,8 +6,7 @@ use Rattle.std.proofs.lemmas.Nat.{div_below}
 use Rattle.std.proofs.lemmas.List.{take-append-drop, drop-drop, drop_all}
 use Rattle.std.proofs.lemmas.List.FromFn.{fill_by_all}
 use Rattle.std.specs.List.{flat_map, range_with_len, AllByRecursion}
-use Rattle.lanes.specs.Words.{IsWidth}
-use Rattle.lanes.specs.Registers.{little_endian, lowest_bytes, element, elements, register_of}
+use Rattle.lanes.specs.Words.{IsWidth, little_endian, lowest_bytes, element, elements, register_of}
 use Rattle.lanes.proofs.Bytes.{count_is, length-lowest_bytes, seam}
 
 -- ---- one number

@@ -4,7 +4,7 @@ use Rattle.std.proofs.Math.Nat.{mod-eq_of_lt, mod-lt, div-le_self}
 use Rattle.std.proofs.Math.ListN.{set}
 use Rattle.std.proofs.lemmas.List.{take_all}
 use lib.Lanes.{zip2, sel_l, top, Each2}
-use Rattle.lanes.specs.Elementwise.{zip_with, merged}
+use Rattle.lanes.specs.Words.{zip_with, merged}
 use Rattle.lanes.specs.Words as word
 
 abbrev id : ℕ → ℕ

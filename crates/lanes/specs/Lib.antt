@@ -1,4 +1,1 @@
 pub mod Words
-pub mod Registers
-pub mod Masks
-pub mod Elementwise

@@ -5,8 +5,9 @@
 -- Subtract", 11.5 "Vector Bitwise Logical Instructions", 11.6 "Vector Single-Width Shift Instructions", 11.8
 -- "Vector Integer Compare Instructions", 11.9 "Vector Integer Min/Max Instructions", 11.10 "Vector Single-Width
 -- Integer Multiply Instructions", 11.11 "Vector Integer Divide Instructions".
-use Rattle.std.specs.Prelude.{◌≡◌, ◌⊎◌, ℕ, suc, ◌+◌, ◌-◌, ◌*◌, ◌/◌, ◌%◌, ◌^◌, ◌==◌, nat_lt, Bool, not, if◌then◌else◌, ℤ, pos, negsuc, ◌*ℤ◌, int_lt, int_div, int_rem, bit_and, bit_or, bit_xor}
-use Rattle.std.specs.Int.{int_shr}
+use Rattle.std.specs.Prelude.{◌≡◌, ◌⊎◌, ℕ, suc, ◌+◌, ◌-◌, ◌*◌, ◌/◌, ◌%◌, ◌^◌, ◌==◌, nat_lt, Bool, not, if◌then◌else◌, ℤ, pos, negsuc, ◌*ℤ◌, int_lt, int_div, int_rem, bit_and, bit_or, bit_xor, true, false, List, [], ◌∷◌, fold, zero, ◌++◌, map, take, drop, ◌&&◌, ◌||◌, slice_index, slice_set}
+use Rattle.std.specs.Int.{int_shr, bit_at}
+use Rattle.std.specs.List.{flat_map, range_with_len}
 
 -- the widths of elements
 abbrev pub IsWidth : ℕ → Type 0
@@ -122,3 +123,121 @@ divide_signed w a b = if b == 0 then 2 ^ w - 1 else wrapped w (int_div (signed w
 
 abbrev pub remainder_signed : ℕ → ℕ → ℕ → ℕ
 remainder_signed w a b = if b == 0 then a else wrapped w (int_rem (signed w a) (signed w b))
+
+-- ---- What an instruction does with each element: results of pairs, merges under a mask, reductions.
+-- Vector Extension 1.0: chapter 11 "Vector Integer Arithmetic Instructions", with section 11.15 "Vector Integer Merge
+-- Instructions"; section 14.1 "Vector Single-Width Integer Reduction Instructions".
+
+-- the results of an operation on each pair
+abbrev pub zip_with : {A B C : Type 0} → (A → B → C) → List A → List B → List C
+zip_with f [] ys = []
+zip_with f (x ∷ xs) [] = []
+zip_with f (x ∷ xs) (y ∷ ys) = f x y ∷ zip_with f xs ys
+
+-- the new element where it is chosen, else the old one
+abbrev pub merged : {A : Type 0} → List Bool → List A → List A → List A
+merged [] xs ys = []
+merged (b ∷ bs) [] ys = []
+merged (b ∷ bs) (x ∷ xs) [] = []
+merged (b ∷ bs) (x ∷ xs) (y ∷ ys) = (if b then x else y) ∷ merged bs xs ys
+
+-- the elements that are chosen, in order
+abbrev pub chosen_of : {A : Type 0} → List Bool → List A → List A
+chosen_of [] xs = []
+chosen_of (b ∷ bs) [] = []
+chosen_of (true ∷ bs) (x ∷ xs) = x ∷ chosen_of bs xs
+chosen_of (false ∷ bs) (x ∷ xs) = chosen_of bs xs
+
+-- a first value folded with the active elements, in order
+abbrev pub reduced : {A : Type 0} → (A → A → A) → List Bool → A → List A → A
+reduced f active start xs = fold f start (chosen_of active xs)
+
+-- ---- the same as relations, for an operation that is known by what it may answer
+
+-- each pair is related to the result in its place
+abbrev pub EachPair : {A B C : Type 0} → (A → B → C → Type 0) → List A → List B → List C → Type 0
+EachPair R [] [] [] = Unit {0}
+EachPair R [] [] (z ∷ zs) = ⊥
+EachPair R [] (y ∷ ys) zs = ⊥
+EachPair R (x ∷ xs) [] zs = ⊥
+EachPair R (x ∷ xs) (y ∷ ys) [] = ⊥
+EachPair R (x ∷ xs) (y ∷ ys) (z ∷ zs) = R x y z × EachPair R xs ys zs
+
+-- each number from a first one on is related to the result in its place
+abbrev pub EachFrom : {A : Type 0} → (ℕ → A → Type 0) → ℕ → List A → Type 0
+EachFrom R i [] = Unit {0}
+EachFrom R i (x ∷ xs) = R i x × EachFrom R (i + 1) xs
+
+-- steps over the elements lead from the first value to the last
+abbrev pub LeadsTo : {A : Type 0} → (A → A → A → Type 0) → A → List A → A → Type 0
+LeadsTo R start [] end = start ≡ end
+LeadsTo {A} R start (x ∷ xs) end = (next : A) × R start x next × LeadsTo R next xs end
+
+-- ---- The 16 bytes of a vector register as a list of elements, and back.
+-- Vector Extension 1.0: section 4.1 "Mapping for LMUL = 1". That a register has 16 bytes is this project's own choice.
+
+-- the number that bytes spell, the lowest byte first
+abbrev pub little_endian : List ℕ → ℕ
+little_endian [] = 0
+little_endian (byte ∷ bytes) = byte + 256 * little_endian bytes
+
+-- so many of the lowest bytes of a number, the lowest first
+abbrev pub lowest_bytes : ℕ → ℕ → List ℕ
+lowest_bytes zero n = []
+lowest_bytes (suc count) n = n % 256 ∷ lowest_bytes count (n / 256)
+
+-- element i of width w: the number at the bytes from i * (w / 8) on
+abbrev pub element : ℕ → List ℕ → ℕ → ℕ
+element w bytes i = little_endian (take (w / 8) (drop (i * (w / 8)) bytes))
+
+-- bytes after a number is written as element i
+abbrev pub with_element : ℕ → List ℕ → ℕ → ℕ → List ℕ
+with_element w bytes i n = take (i * (w / 8)) bytes ++ lowest_bytes (w / 8) n ++ drop (i * (w / 8) + w / 8) bytes
+
+-- all elements of width w, element 0 first
+unfoldable pub elements : ℕ → List ℕ → List ℕ
+elements w bytes = map (element w bytes) (range_with_len 0 (128 / w))
+
+-- the bytes of elements of width w, element 0 first
+abbrev pub register_of : ℕ → List ℕ → List ℕ
+register_of w numbers = flat_map (lowest_bytes (w / 8)) numbers
+
+-- ---- Masks: which elements an instruction works on, and results that are written as bits.
+-- Vector Extension 1.0: sections 4.5 "Mask Register Layout", 5.3 "Vector Masking", 5.4 "Prestart, Active, Inactive,
+-- Body, and Tail Element Definitions". That what is not active keeps its old value is this project's own choice among
+-- those that section 3.4.3 "Vector Tail Agnostic and Vector Mask Agnostic vta and vma" leaves.
+
+-- bit i of a mask register: bit i % 8 of byte i / 8
+abbrev pub mask_bit : List ℕ → ℕ → Bool
+mask_bit bytes i = bit_at (slice_index bytes (i / 8)) (i % 8) == 1
+
+-- so many bits of a mask register, from one on
+unfoldable pub mask_bits : ℕ → ℕ → List ℕ → List Bool
+mask_bits first count bytes = map (λ i. mask_bit bytes (first + i)) (range_with_len 0 count)
+
+-- element i is active below vl, where the instruction is unmasked or bit i of the mask is 1
+abbrev pub is_active : ℕ → Bool → List ℕ → ℕ → Bool
+is_active vl unmasked mask i = nat_lt i vl && (unmasked || mask_bit mask i)
+
+-- so many elements, from one on
+unfoldable pub active : ℕ → ℕ → ℕ → Bool → List ℕ → List Bool
+active first count vl unmasked mask = map (λ i. is_active vl unmasked mask (first + i)) (range_with_len 0 count)
+
+-- a byte whose bit k becomes 1 or 0
+abbrev pub with_bit : ℕ → ℕ → Bool → ℕ
+with_bit byte k true = bit_or byte (2 ^ k)
+with_bit byte k false = bit_and byte (255 - 2 ^ k)
+
+-- a mask register whose bit i is written
+abbrev pub with_mask_bit : List ℕ → ℕ → Bool → List ℕ
+with_mask_bit bytes i bit = slice_set bytes (i / 8) (with_bit (slice_index bytes (i / 8)) (i % 8) bit)
+
+-- a mask register whose bits from i on are written where the elements are active; every other bit is kept
+abbrev pub with_mask_bits_from : ℕ → List Bool → List Bool → List ℕ → List ℕ
+with_mask_bits_from i [] bits bytes = bytes
+with_mask_bits_from i (a ∷ others) [] bytes = bytes
+with_mask_bits_from i (a ∷ others) (b ∷ bits) bytes =
+    with_mask_bits_from (i + 1) others bits (if a then with_mask_bit bytes i b else bytes)
+
+abbrev pub with_mask_bits : List Bool → List Bool → List ℕ → List ℕ
+with_mask_bits active bits bytes = with_mask_bits_from 0 active bits bytes

@@ -2,7 +2,7 @@
 
 ghost use Rattle.std.specs.Prelude.{◌≡◌};
 ghost use Rattle.lanes.specs.Words as word;
-ghost use Rattle.lanes.specs.Elementwise.{zip_with, reduced};
+ghost use Rattle.lanes.specs.Words.{zip_with, reduced};
 
 use crate::kernels::reduce;
 use crate::kinds::LaneKind;

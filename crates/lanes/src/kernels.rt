@@ -2,8 +2,8 @@
 //! stand in which place.
 
 ghost use Rattle.std.specs.Prelude.{◌≡◌, ◌==◌, ◌+◌, ◌<◌, ◌≤◌, ℕ, if◌then◌else◌, length, map};
-ghost use Rattle.lanes.specs.Masks.{active};
-ghost use Rattle.lanes.specs.Elementwise.{EachPair, EachFrom, LeadsTo, chosen_of, merged};
+ghost use Rattle.lanes.specs.Words.{active};
+ghost use Rattle.lanes.specs.Words.{EachPair, EachFrom, LeadsTo, chosen_of, merged};
 
 use crate::kinds::LaneKind;
 use crate::masks::active;

@@ -4,7 +4,7 @@ ghost use Rattle.std.specs.Prelude.{◌≡◌, ◌<◌, ◌/◌, ◌%◌, ◌^�
 ghost use Rattle.std.specs.Int.{w32, cast_unsigned};
 ghost use Rattle.lanes.specs.Words as word;
 ghost use Rattle.lanes.specs.Words.{IsWidth};
-ghost use Rattle.lanes.specs.Registers.{element, with_element};
+ghost use Rattle.lanes.specs.Words.{element, with_element};
 
 mod bytes;
 mod halves;

@@ -5,8 +5,8 @@ ghost use Rattle.std.specs.Prelude.{if◌then◌else◌, slice_index_or};
 ghost use Rattle.std.specs.List.{AllByRecursion};
 ghost use Rattle.lanes.specs.Words as word;
 ghost use Rattle.lanes.specs.Words.{IsWidth, signed, wrapped};
-ghost use Rattle.lanes.specs.Registers.{elements, register_of};
-ghost use Rattle.lanes.specs.Masks.{mask_bit, with_mask_bits};
+ghost use Rattle.lanes.specs.Words.{elements, register_of};
+ghost use Rattle.lanes.specs.Words.{mask_bit, with_mask_bits};
 
 /// A register's elements give its bytes back.
 pub fn bytes_are_read_back()

@@ -7,8 +7,8 @@
 //! reductions are one loop for each shape, whatever the kind. [`masks`] says which elements are active, and
 //! writes results as bits of a register. Nothing here allocates.
 //!
-//! `specs/Words.antt` defines each operation on two words, over the width; `specs/Registers.antt` the
-//! elements of a register; `specs/Masks.antt` masks; `specs/Elementwise.antt` what is done with each element.
+//! `specs/Words.antt` defines each operation on two words, over the width, the elements of a register, masks, and
+//! what is done with each element.
 #![tactic(auto)]
 
 mod comparisons;

@@ -1,7 +1,7 @@
 //! Masks: which elements are active, and results that are written as bits of a register.
 
 ghost use Rattle.std.specs.Prelude.{◌≡◌, ◌+◌, ◌<◌, ◌≤◌};
-ghost use Rattle.lanes.specs.Masks.{mask_bit, mask_bits, active, with_bit, with_mask_bit, with_mask_bits_from};
+ghost use Rattle.lanes.specs.Words.{mask_bit, mask_bits, active, with_bit, with_mask_bit, with_mask_bits_from};
 
 use crate::kernels::each_index;
 
@@ -14,7 +14,7 @@ pub fn mask_bit(register: &[u8; 16], index: usize) -> bool
 }
 
 /// N bits of a mask register, from `first` on.
-#[tactic(auto, using(crate::proofs::Elements::tests_from_indices), unfolding(crate::specs::Masks::mask_bits))]
+#[tactic(auto, using(crate::proofs::Elements::tests_from_indices), unfolding(crate::specs::Words::mask_bits))]
 pub fn mask_bits<const N: usize>(first: usize, register: &[u8; 16]) -> [bool; N]
     requires { first + N ≤ 128 }
     ensures { result ≡ mask_bits first N register.now }
@@ -24,7 +24,7 @@ pub fn mask_bits<const N: usize>(first: usize, register: &[u8; 16]) -> [bool; N]
 
 /// Which of N elements from `first` on an instruction works on: those below `vl`, and of them, where it is not
 /// `unmasked`, those whose bit in the mask register is 1.
-#[tactic(auto, using(crate::proofs::Elements::tests_from_indices), unfolding(crate::specs::Masks::active))]
+#[tactic(auto, using(crate::proofs::Elements::tests_from_indices), unfolding(crate::specs::Words::active))]
 pub fn active<const N: usize>(first: usize, vl: usize, unmasked: bool, mask: &[u8; 16]) -> [bool; N]
     requires { first + N ≤ 128 }
     ensures { result ≡ active first N vl unmasked mask.now }

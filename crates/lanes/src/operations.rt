@@ -2,7 +2,7 @@
 
 ghost use Rattle.std.specs.Prelude.{◌≡◌};
 ghost use Rattle.lanes.specs.Words as word;
-ghost use Rattle.lanes.specs.Elementwise.{zip_with};
+ghost use Rattle.lanes.specs.Words.{zip_with};
 
 use crate::kernels::each_pair;
 use crate::kinds::LaneKind;

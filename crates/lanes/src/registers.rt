@@ -2,9 +2,9 @@
 
 ghost use Rattle.std.specs.Prelude.{◌≡◌, ◌+◌, ◌*◌, ◌<◌, ◌≤◌, ◌%◌, ◌^◌, map, slice_index, slice_set, replicate};
 ghost use Rattle.std.specs.List.{range_with_len};
-ghost use Rattle.lanes.specs.Registers.{elements, register_of};
-ghost use Rattle.lanes.specs.Elementwise.{merged};
-ghost use Rattle.lanes.specs.Masks.{active};
+ghost use Rattle.lanes.specs.Words.{elements, register_of};
+ghost use Rattle.lanes.specs.Words.{merged};
+ghost use Rattle.lanes.specs.Words.{active};
 
 use crate::kernels;
 use crate::kinds::LaneKind;
@@ -53,7 +53,7 @@ impl<K: LaneKind, const N: usize> Lanes<K, N> {
     }
 
     /// A register's elements.
-    #[tactic(auto, using(crate::proofs::Elements::map_from_indices), unfolding(crate::specs::Registers::elements))]
+    #[tactic(auto, using(crate::proofs::Elements::map_from_indices), unfolding(crate::specs::Words::elements))]
     pub fn from_register(register: &[u8; 16]) -> Lanes<K, N>
         requires { N * K.width ≡ 128 }
         ensures { result ≡ elements K.width register.now }

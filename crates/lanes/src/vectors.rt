@@ -2,7 +2,7 @@
 
 ghost use Rattle.std.specs.Prelude.{◌≡◌, map};
 ghost use Rattle.lanes.specs.Words as word;
-ghost use Rattle.lanes.specs.Elementwise.{zip_with, merged};
+ghost use Rattle.lanes.specs.Words.{zip_with, merged};
 
 use crate::kinds::LaneKind;
 

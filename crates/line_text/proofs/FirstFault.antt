@@ -1,6 +1,6 @@
 -- The line that is named is the first that is refused.
 use Rattle.std.proofs.Common.{◌≡◌, ℕ, ◌+◌, List, [], ◌∷◌, Result, Ok, Err, refl, sym, ap, ◌∙◌, arith}
-use Rattle.line_text.specs.LineReading.{IsFirstFault, located, taken_from}
+use Rattle.line_text.specs.Lines.{IsFirstFault, located, taken_from}
 
 module _ {S F : Type 0} (takes : S → List ℕ → Result S F) where
   -- by what the first line gives

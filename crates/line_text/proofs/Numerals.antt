@@ -4,8 +4,7 @@ use Rattle.std.specs.Fmt.{decimal}
 use Rattle.std.specs.List.{list_all}
 use Rattle.std.proofs.lemmas.Fmt.{digits_decimal, digits_value-decimal}
 use Rattle.std.proofs.lemmas.Str.Parse.{IsNumeralModel, numerals_by_fold}
-use Rattle.line_text.specs.Classes.{is_digit}
-use Rattle.line_text.specs.Numbers.{decimal_number}
+use Rattle.line_text.specs.Lines.{is_digit, decimal_number}
 
 abbrev from : ℕ → List ℕ → ℕ
 from number digits = fold (λ n byte. n * 10 + (byte - 48)) number digits

@@ -2,9 +2,7 @@
 use Rattle.std.proofs.Common.{◌≡◌, ℕ, ◌+◌, ◌≤◌, ◌<◌, List, [], ◌∷◌, ◌++◌, length, Result, Ok, Err, refl, sym, ap, ◌∙◌, arith}
 use Rattle.line_text.specs.declared.read_errors.ReadError.{ReadError}
 use Rattle.line_text.specs.declared.read_errors.ReadError.TheVariants as errors
-use Rattle.line_text.specs.Lines.{lines_of}
-use Rattle.line_text.specs.LineReading.{located, taken_from, Reads, TakesInTurn}
-use Rattle.line_text.specs.Reading.{◌>>=◌, Fails, at_line}
+use Rattle.line_text.specs.Lines.{lines_of, located, taken_from, Reads, TakesInTurn, ◌>>=◌, Fails, at_line}
 use Rattle.line_text.proofs.LineLaws.{no_lines}
 
 -- one more line

@@ -4,9 +4,9 @@ ghost use Rattle.std.specs.Fmt.{decimal};
 ghost use Rattle.std.specs.Prelude.{◌≡◌, ◌≢◌, ◌<◌, ◌^◌, ℕ, Bool, true, length, List, [], ◌∷◌, ◌++◌, Err};
 ghost use Rattle.std.specs.List.{AllByRecursion, list_all, prefix_len};
 ghost use Rattle.line_text.specs.Lines.{IsLine, lines_of, text_of};
-ghost use Rattle.line_text.specs.Classes.{is_digit};
-ghost use Rattle.line_text.specs.Numbers.{decimal_number};
-ghost use Rattle.line_text.specs.LineReading.{IsFirstFault, TakesInTurn, taken_from};
+ghost use Rattle.line_text.specs.Lines.{is_digit};
+ghost use Rattle.line_text.specs.Lines.{decimal_number};
+ghost use Rattle.line_text.specs.Lines.{IsFirstFault, TakesInTurn, taken_from};
 
 use crate::line_readers::LineReader;
 

@@ -2,13 +2,13 @@
 //! and the first faulty line.
 //!
 //! - [`spans`]: how many bytes at the front are blanks, digits or parts of a name; where the text of
-//!   a line ends and a comment begins (`specs/Classes.antt`).
-//! - [`numbers`]: the number that digits spell, cut off at a bound (`specs/Numbers.antt`).
+//!   a line ends and a comment begins (`specs/Lines.antt`).
+//! - [`numbers`]: the number that digits spell, cut off at a bound (`specs/Lines.antt`).
 //! - [`lines`]: the first line of a text, and how many lines there are (`specs/Lines.antt`).
 //! - [`line_readers`]: a reader that takes a text line by line ([`LineReader`]), and the loop up to
-//!   the first line that it refuses (`specs/LineReading.antt`).
+//!   the first line that it refuses (`specs/Lines.antt`).
 //! - [`read_errors`]: a fault of the text, or memory that ran out ([`ReadError`]), and the same with
-//!   the number of the line ([`LocatedError`]). `specs/Reading.antt` has the words for contracts of
+//!   the number of the line ([`LocatedError`]). `specs/Lines.antt` has the words for contracts of
 //!   functions that return them.
 //! - [`laws`]: what the definitions of lines and of the first faulty line come to.
 #![tactic(auto)]

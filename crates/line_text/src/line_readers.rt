@@ -2,7 +2,7 @@
 
 ghost use Rattle.std.specs.Prelude.{◌≡◌, ℕ, List, length, Result, IfOk};
 ghost use Rattle.line_text.specs.Lines.{lines_of};
-ghost use Rattle.line_text.specs.LineReading.{Takes, Reads, taken_from};
+ghost use Rattle.line_text.specs.Lines.{Takes, Reads, taken_from};
 
 use crate::lines::first_line;
 use crate::read_errors::{LocatedError, ReadError};

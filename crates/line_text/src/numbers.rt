@@ -1,7 +1,7 @@
 //! The numbers that digits spell, cut off at a bound so that there may be any number of digits.
 
 ghost use Rattle.std.specs.Prelude.{◌≡◌, ◌+◌, ◌*◌, ◌-◌, ◌<◌, ◌^◌, min};
-ghost use Rattle.line_text.specs.Numbers.{decimal_number, hexadecimal_number, hexadecimal_value};
+ghost use Rattle.line_text.specs.Lines.{decimal_number, hexadecimal_number, hexadecimal_value};
 
 /// A digit behind a number, or `most + 1` where that is more than `most`.
 fn with_digit(number: u64, base: u64, digit: u64, most: u64) -> u64

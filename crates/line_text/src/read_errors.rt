@@ -25,7 +25,7 @@ pub enum LocatedError<F> {
 }
 
 impl<F> ReadError<F> {
-    ghost use Rattle.line_text.specs.Reading.{at_line};
+    ghost use Rattle.line_text.specs.Lines.{at_line};
 
     /// The same error, of the line with this number.
     pub fn at_line(self, line: u64) -> LocatedError<F>

@@ -2,7 +2,7 @@
 
 ghost use Rattle.std.specs.Prelude.{◌≡◌, ◌≤◌, length};
 ghost use Rattle.std.specs.List.{prefix_len};
-ghost use Rattle.line_text.specs.Classes as spec;
+ghost use Rattle.line_text.specs.Lines as spec;
 
 /// Whether a byte is a space or a tab.
 pub fn is_blank(byte: u8) -> bool

@@ -6,7 +6,7 @@ use Rattle.std.proofs.lemmas.Bool.{and_parts, and_left, and_right, leb-true, ltb
 use Rattle.std.proofs.lemmas.List.{drop-drop, drop_at, take_at, length-append}
 use Rattle.std.proofs.lemmas.List.Elements.{recursion_from_All}
 use Rattle.std.proofs.lemmas.Nat.{from_le_bytes-to_le_bytes_4}
-use Rattle.memory.specs.Addresses.{most_words, most_bytes, text_start, data_start}
+use Rattle.memory.specs.Access.{most_words, most_bytes, text_start, data_start}
 use Rattle.loader.specs.declared.formats.Format.{Format}
 use Rattle.loader.specs.declared.formats.Format.TheVariants.{Hrv1, Hrv2}
 use Rattle.loader.specs.declared.outputs.Output.{Output}

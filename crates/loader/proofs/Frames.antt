@@ -5,7 +5,7 @@ use Rattle.std.specs.List.{starts_with}
 use Rattle.std.specs.Cmp.Lexicographic.{bytes_decides}
 use Rattle.std.proofs.lemmas.Bool.{ltb-false, le-ltb, or_parts}
 use Rattle.std.proofs.lemmas.List.{take_all, take_rest, length-drop}
-use Rattle.memory.specs.Addresses.{most_words, most_bytes}
+use Rattle.memory.specs.Access.{most_words, most_bytes}
 use Rattle.loader.specs.declared.formats.Format.{Format}
 use Rattle.loader.specs.declared.formats.Format.TheVariants.{Hrv1, Hrv2}
 use Rattle.loader.specs.declared.faults.LoadFault.{LoadFault}

@@ -2,7 +2,7 @@
 -- part of the data, if any, is a picture. The rules are this project's own.
 use Rattle.std.specs.Prelude.{ℕ, ◌+◌, ◌-◌, ◌*◌, ◌%◌, ◌^◌, ◌<◌, ◌==◌, ◌&&◌, Bool, true, not, nat_le, if◌then◌else◌, IsTrue, List, length, Option, Some, None, IfSome, Result, Ok, Err}
 use Rattle.std.specs.List.{All}
-use Rattle.memory.specs.Addresses.{is_text_word, data_start, most_words, most_bytes}
+use Rattle.memory.specs.Access.{is_text_word, data_start, most_words, most_bytes}
 use Rattle.loader.specs.declared.outputs.Output.{Output}
 use Rattle.loader.specs.declared.faults.LoadFault.{LoadFault}
 use Rattle.loader.specs.declared.faults.LoadFault.TheVariants.{OverLimit, Entry, OutputRange}

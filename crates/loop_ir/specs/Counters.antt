@@ -1,7 +1,7 @@
 -- What counters stand at.
 -- This project's own.
 use Rattle.std.specs.Prelude.{ℕ, ◌==◌, ◌&&◌, Bool, if◌then◌else◌}
-use Rattle.schedule_lines.specs.Loops.{same_id}
+use Rattle.schedule_lines.specs.Directives.{same_id}
 use Rattle.loop_ir.specs.declared.expressions.Counter.{Counter}
 use Rattle.loop_ir.specs.declared.running.Bindings.{Bindings, fold-Bindings}
 use Rattle.loop_ir.specs.declared.running.Bindings.TheOpen.{Bindings-F}

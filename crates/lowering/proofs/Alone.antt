@@ -5,14 +5,14 @@ use Rattle.std.proofs.lemmas.Bool.{ne_eqb}
 use Rattle.halide_pipeline.specs.declared.definitions.Func.{Func}
 use Rattle.halide_pipeline.specs.declared.definitions.Update.{Update}
 use Rattle.halide_pipeline.specs.Pixel.{Planes}
-use Rattle.schedule_loops.specs.Counts as loops
+use Rattle.schedule_loops.specs.Visits as loops
 use Rattle.loop_ir.specs.declared.statements.Stmt.{Stmt}
 use Rattle.loop_ir.specs.Buffers.{Points}
 use Rattle.loop_ir.specs.Counters.{Values}
 use Rattle.loop_ir.specs.Stores.{Trace, trace}
 use Rattle.lowering_nests.specs.Nests.{loops_of, put_loops, Repeats}
 use Rattle.lowering_expressions.specs.declared.calls.Corner.{Corner}
-use Rattle.lowering.specs.Hosting.{StoresInIt, DoesFirst}
+use Rattle.lowering.specs.Consuming.{StoresInIt, DoesFirst}
 use Rattle.lowering.specs.PurePhases.{HitsPure}
 use Rattle.lowering.specs.Updates.{HitsUpdate}
 use Rattle.lowering.proofs.Marks.{or_none, none_told}

@@ -3,7 +3,7 @@ use Rattle.std.proofs.Common.{◌≡◌, ℕ, ◌+◌, ◌<◌, ◌≤◌, Bool,
 use Rattle.std.specs.Prelude.{◌==◌, ◌||◌}
 use Rattle.std.proofs.lemmas.Bool.{cases_eq, cases_lt, eq-eqb, ne_eqb, or_parts}
 use Rattle.halide_pipeline.specs.Pixel.{Planes}
-use Rattle.schedule_loops.specs.Iterations.{IsOrder, times}
+use Rattle.schedule_loops.specs.Visits.{IsOrder, times}
 use Rattle.loop_ir.specs.Buffers.{Points}
 use Rattle.lowering.specs.Phases.{Hold, DoesTask, DoesPhase, Done, Nothing, Task, TasksInAnyOrder}
 

@@ -9,9 +9,8 @@ use Rattle.halide_pipeline.specs.declared.definitions.Update.{Update}
 use Rattle.halide_pipeline.specs.declared.expressions.Source.TheVariants as sources
 use Rattle.halide_pipeline.specs.declared.expressions.Variable.{Variable}
 use Rattle.halide_pipeline.specs.declared.expressions.Variable.TheVariants as variables
-use Rattle.halide_pipeline.specs.Definitions.{is_first_in_place, is_second_in_place}
+use Rattle.halide_pipeline.specs.WellFormed.{is_first_in_place, is_second_in_place, IsWellFormed, is_box}
 use Rattle.halide_pipeline.specs.Pipelines.{Pipeline}
-use Rattle.halide_pipeline.specs.WellFormed.{IsWellFormed, is_box}
 use Rattle.halide_pipeline.specs.Words as word
 use Rattle.halide_pipeline.specs.declared.environments.Environment.{Environment}
 use Rattle.halide_pipeline.specs.Pixel.{variable, points, second_extent, second_value, at_reduction}
@@ -20,24 +19,25 @@ use Rattle.schedule.specs.declared.schedules.Schedule.{Schedule}
 use Rattle.schedule.specs.declared.standings.Standing.{Standing}
 use Rattle.schedule.specs.Uses.{IsReached}
 use Rattle.schedule_loops.specs.declared.extents.Extents.{Extents}
-use Rattle.schedule_loops.specs.Counts as loops
+use Rattle.schedule_loops.specs.Visits as loops
 use Rattle.schedule_loops.specs.Stages.{IsVisitOf, extent_in, first_loops, has_variable}
 use Rattle.schedule_loops.specs.Visits.{Visit, visit_of}
 use Rattle.bounds_ranges.specs.Laws.{Below}
 use Rattle.bounds.specs.declared.boxes.SourceBox.{SourceBox}
 use Rattle.bounds.specs.declared.verdict.Boxes.{Boxes}
-use Rattle.bounds.specs.Boxes.{extent, lasts_of}
+use Rattle.bounds.specs.Boxes.{lasts_of}
+use Rattle.bounds.specs.Extents.{extent, update_extents, BoxCorner}
 use Rattle.bounds.specs.Verdict.{inferred}
-use Rattle.bounds_laws.specs.HostLaws.{IsHosted, IsInPlace}
+use Rattle.bounds_laws.specs.ConsumerLaws.{IsProduced, IsInPlace}
 use Rattle.bounds_laws.specs.Laws.{LiesIn, IsNear, IsComputed}
-use Rattle.bounds_laws.proofs.BoxesHosted.{boxes_are_hosted, points_are_near, visits_lie}
+use Rattle.bounds_laws.proofs.BoxesProduced.{boxes_are_produced, points_are_near, visits_lie}
 use Rattle.loop_ir.specs.Counters.{Values}
 use Rattle.loop_ir.specs.Expressions.{linear_value}
 use Rattle.lowering_nests.specs.Nests.{put_loops}
 use Rattle.lowering_expressions.specs.declared.calls.Corner.{Corner}
-use Rattle.lowering.specs.Planes.{BoxCorner, has_point}
+use Rattle.lowering.specs.Planes.{has_point}
 use Rattle.lowering.specs.PurePhases.{whole_at}
-use Rattle.lowering.specs.Updates.{visited_point, second_reduced, update_extents, in_place, is_visited, IsCornerAt, IsBegin, host_at, hosted_turns}
+use Rattle.lowering.specs.Updates.{visited_point, second_reduced, in_place, is_visited, IsCornerAt, IsBegin, consumer_at, produced_turns}
 use Rattle.lowering.proofs.Begins.{on_from, offset_in, on_back}
 use Rattle.lowering.proofs.Offsets.{add_turned}
 use Rattle.lowering.proofs.UpdateFacts.{has_first, no_second, points_are, first_extent, second_few, remainder_is, quotient_is}
@@ -61,20 +61,20 @@ module _ (pipeline : Pipeline) (schedule : Schedule) (boxes : Boxes) (rules : Is
     (place : ℕ) (func : Func) (own : SourceBox) (func_is : slice_get pipeline.funcs place ≡ Some func) (box_is : slice_get boxes.funcs place ≡ Some (Some own))
     (standing : Standing) (there : IsReached schedule.standings place standing) (computed : IsComputed place standing.place)
     (at : ℕ) (update : Update) (update_is : slice_get func.updates at ≡ Some update)
-    (turns : List ℕ) (below : Below (hosted_turns schedule boxes standing turns) (lasts_of (host_at schedule boxes standing)))
-    (begin : BoxCorner) (begins : IsBegin (hosted_turns schedule boxes standing turns) own begin)
+    (turns : List ℕ) (below : Below (produced_turns schedule boxes standing turns) (lasts_of (consumer_at schedule boxes standing)))
+    (begin : BoxCorner) (begins : IsBegin (produced_turns schedule boxes standing turns) own begin)
     (before : Values) (corner : Corner) (corner_is : IsCornerAt place before corner begin) where
   abbrev values : List ℕ
-  values = hosted_turns schedule boxes standing turns
+  values = produced_turns schedule boxes standing turns
 
   abbrev extents : Extents
   extents = update_extents own update
 
-  pub hosted : IsHosted (host_at schedule boxes standing) own
-  hosted = boxes_are_hosted pipeline schedule boxes is place standing there.standing there.reached computed own box_is
+  pub produced : IsProduced (consumer_at schedule boxes standing) own
+  produced = boxes_are_produced pipeline schedule boxes is place standing there.standing there.reached computed own box_is
 
   pub below_own : Below values own.lasts
-  below_own = subst (λ (l : List ℕ). Below values l) (sym hosted.lasts) below
+  below_own = subst (λ (l : List ℕ). Below values l) (sym produced.lasts) below
 
   abbrev column_in : ℕ → ℕ
   column_in i = in_place (is_first_in_place update) i
@@ -105,10 +105,10 @@ module _ (pipeline : Pipeline) (schedule : Schedule) (boxes : Boxes) (rules : Is
     below_by false n far some e = omega (arith, ltb-true far 1 e, some)
 
     across : visit.x < extent own.x
-    across = below_by (has_variable variables.FirstArgument (first_loops func (Some update))) (extent own.x) visit.x (omega (arith, hosted.box.x.ordered)) parts.0
+    across = below_by (has_variable variables.FirstArgument (first_loops func (Some update))) (extent own.x) visit.x (omega (arith, produced.box.x.ordered)) parts.0
 
     down : visit.y < extent own.y
-    down = below_by (has_variable variables.SecondArgument (first_loops func (Some update))) (extent own.y) visit.y (omega (arith, hosted.box.y.ordered)) parts.1
+    down = below_by (has_variable variables.SecondArgument (first_loops func (Some update))) (extent own.y) visit.y (omega (arith, produced.box.y.ordered)) parts.1
 
     -- what isn't in place stays 0
     no_column : is_first_in_place update ≡ false → visit.x ≡ 0
@@ -122,16 +122,16 @@ module _ (pipeline : Pipeline) (schedule : Schedule) (boxes : Boxes) (rules : Is
         omega (arith, ltb-true visit.y 1 l)
 
     pub wide : extent own.x ≤ 2 ^ 32
-    wide = omega (arith, hosted.box.x.low, hosted.box.x.high)
+    wide = omega (arith, produced.box.x.low, produced.box.x.high)
 
     pub high : extent own.y ≤ 2 ^ 32
-    high = omega (arith, hosted.box.y.low, hosted.box.y.high)
+    high = omega (arith, produced.box.y.low, produced.box.y.high)
 
     pub lies : LiesIn values own x y
     lies =
-        visits_lie func (Some update) own hosted.box values below_own extents refl refl visit v x y
-        (on_from own.lasts values below_own own.x hosted.box.x begin.x begins.x visit.x across)
-        (on_from own.lasts values below_own own.y hosted.box.y begin.y begins.y visit.y down)
+        visits_lie func (Some update) own produced.box values below_own extents refl refl visit v x y
+        (on_from own.lasts values below_own own.x produced.box.x begin.x begins.x visit.x across)
+        (on_from own.lasts values below_own own.y produced.box.y begin.y begins.y visit.y down)
 
     pub few_points : visit.number < points update
     few_points = subst (λ (n : ℕ). visit.number < n) (points_are func update own) v.number
@@ -196,8 +196,8 @@ module _ (pipeline : Pipeline) (schedule : Schedule) (boxes : Boxes) (rules : Is
     pub boxed_at : (a b : ℕ) → LiesIn values own a b → has_point (Some own) (word.subtract a begin.x) (word.subtract b begin.y) ≡ true
     boxed_at a b inside_it =
         and_from (nat_lt (word.subtract a begin.x) (extent own.x)) (nat_lt (word.subtract b begin.y) (extent own.y))
-        (lt-ltb (word.subtract a begin.x) (extent own.x) (offset_in own.lasts values below_own own.x hosted.box.x begin.x begins.x a inside_it.first))
-        (lt-ltb (word.subtract b begin.y) (extent own.y) (offset_in own.lasts values below_own own.y hosted.box.y begin.y begins.y b inside_it.second))
+        (lt-ltb (word.subtract a begin.x) (extent own.x) (offset_in own.lasts values below_own own.x produced.box.x begin.x begins.x a inside_it.first))
+        (lt-ltb (word.subtract b begin.y) (extent own.y) (offset_in own.lasts values below_own own.y produced.box.y begin.y begins.y b inside_it.second))
 
     pub near : IsNear x × IsNear y
-    near = points_are_near own hosted.box values below_own x y lies
+    near = points_are_near own produced.box values below_own x y lies

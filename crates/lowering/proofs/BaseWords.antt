@@ -4,14 +4,14 @@ use Rattle.std.proofs.lemmas.Nat.{mul-mod_second}
 use Rattle.std.proofs.Math.Nat.{mul-add, mul_comm}
 use Rattle.halide_pipeline.specs.Words as word
 use Rattle.bounds_ranges.specs.declared.ranges.Range.{Range}
-use Rattle.bounds_ranges.specs.Bases.{more_sum, less_sum}
+use Rattle.bounds_ranges.specs.Ranges.{more_sum, less_sum}
 use Rattle.loop_ir.specs.declared.expressions.Counter.{Counter}
 use Rattle.loop_ir.specs.declared.expressions.Linear.{Linear}
 use Rattle.loop_ir.specs.declared.expressions.Term.{Term}
 use Rattle.loop_ir.specs.Counters.{Values}
 use Rattle.loop_ir.specs.Expressions.{linear_value, sum_of}
 use Rattle.lowering.specs.Corners.{first_of}
-use Rattle.lowering.specs.Planes.{word_at}
+use Rattle.bounds.specs.Extents.{word_at}
 
 pub stride_is : (more less : ℕ) → (word.subtract (more % 2 ^ 32) (less % 2 ^ 32) + less) % 2 ^ 32 ≡ more % 2 ^ 32
 unfolding word.subtract

@@ -1,4 +1,4 @@
--- Words counted from where a box begins, while loops of its host have given values.
+-- Words counted from where a box begins, while loops of its consumer have given values.
 use Rattle.std.proofs.Common.{◌≡◌, ℕ, ◌+◌, ◌-◌, ◌*◌, ◌%◌, ◌^◌, ◌<◌, ◌≤◌, Bool, List, [], ◌∷◌, sym, ap, ◌∙◌, arith, inl, inr}
 use Rattle.std.specs.Prelude.{◌==◌}
 use Rattle.std.proofs.lemmas.Bool.{cases_eq, eq-eqb, ne_eqb}
@@ -6,11 +6,10 @@ use Rattle.std.proofs.Math.Nat.{mul-le-mul}
 use Rattle.halide_pipeline.specs.Words as word
 use Rattle.bounds_ranges.specs.declared.bases.Multiple.{Multiple}
 use Rattle.bounds_ranges.specs.declared.ranges.Range.{Range}
-use Rattle.bounds_ranges.specs.Bases.{more_sum, less_sum}
+use Rattle.bounds_ranges.specs.Ranges.{more_sum, less_sum, IsFit}
 use Rattle.bounds_ranges.specs.Laws.{Below, Lies}
-use Rattle.bounds_ranges.specs.Ranges.{IsFit}
-use Rattle.bounds.specs.Boxes.{extent}
-use Rattle.bounds_laws.specs.HostLaws.{IsFrom}
+use Rattle.bounds.specs.Extents.{extent}
+use Rattle.bounds_laws.specs.ConsumerLaws.{IsFrom}
 
 -- ---- sums of bases
 

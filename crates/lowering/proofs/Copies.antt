@@ -10,24 +10,23 @@ use Rattle.halide_pipeline.specs.declared.definitions.Reduction.{Reduction}
 use Rattle.halide_pipeline.specs.declared.definitions.Update.{Update}
 use Rattle.halide_pipeline.specs.declared.expressions.Variable.{Variable}
 use Rattle.halide_pipeline.specs.declared.expressions.Variable.TheVariants as variables
-use Rattle.halide_pipeline.specs.Definitions.{is_first_in_place, is_second_in_place}
+use Rattle.halide_pipeline.specs.WellFormed.{is_first_in_place, is_second_in_place}
 use Rattle.schedule_lines.specs.declared.stages.Loop.{Loop}
 use Rattle.schedule_lines.specs.declared.stages.LoopId.{LoopId}
 use Rattle.schedule_lines.specs.declared.stages.Mark.TheVariants as marks
 use Rattle.schedule_lines.specs.declared.stages.Split.{Split}
 use Rattle.schedule_lines.specs.declared.stages.Stage.{Stage}
-use Rattle.schedule_lines.specs.Loops.{is_marked, same_id}
+use Rattle.schedule_lines.specs.Directives.{is_marked, same_id}
 use Rattle.schedule_lines.specs.Making.{IsStage, total, is_stray}
 use Rattle.schedule.specs.Plans.{with_loop, with_second, with_reduction}
 use Rattle.schedule_loops.specs.declared.extents.Extents.{Extents}
-use Rattle.schedule_loops.specs.Counts as loops
+use Rattle.schedule_loops.specs.Visits as loops
 use Rattle.schedule_loops.specs.Stages.{IsStageOf, first_loops, has_variable}
 use Rattle.schedule_loops.proofs.Ids.{same_id-self, cases_id}
 use Rattle.schedule_loops.proofs.Making.{Stays, by_making, total_parts, bare_total, total-append}
 use Rattle.schedule_loops.proofs.Nesting.{has_id}
 use Rattle.schedule_loops.proofs.Selecting.{Unique}
-use Rattle.bounds_weights.specs.Copies.{copies, all_copies, copies_from, factor_of}
-use Rattle.bounds_weights.specs.Weight.{stage_weight}
+use Rattle.bounds_weights.specs.Weight.{copies, all_copies, copies_from, factor_of, stage_weight}
 use Rattle.loop_ir.specs.Sizes.{are_copies, loop_room}
 use Rattle.lowering_nests.specs.Sizes.{nest_size}
 use Rattle.lowering.specs.PurePhases.{inside_of}
@@ -246,9 +245,9 @@ same-nest extents splits others own all whole store es el is =
     ∙ ap (λ (ls : List Loop). nest_size (loops.counts extents others) ls (25 * length others + store)) el
 
 -- 64 words for each unit of the weight, with 24 to spare
-pub is-light : (whole copied splits store nodes count hosted : ℕ) → 1 ≤ copied → splits + 1 ≤ count → store + 12 ≤ 64 * nodes → whole ≤ copied * (25 * splits + store + 39 * count) + 64 * hosted
-    → whole + 24 ≤ 64 * ((nodes + count) * copied + hosted)
-is-light whole copied splits store nodes count hosted some more given few =
+pub is-light : (whole copied splits store nodes count produced : ℕ) → 1 ≤ copied → splits + 1 ≤ count → store + 12 ≤ 64 * nodes → whole ≤ copied * (25 * splits + store + 39 * count) + 64 * produced
+    → whole + 24 ≤ 64 * ((nodes + count) * copied + produced)
+is-light whole copied splits store nodes count produced some more given few =
     let t = times-most (25 * splits + store + 39 * count + 24) (64 * (nodes + count)) copied (omega (arith, more, given)) in
     let d = add-mul (25 * splits + store + 39 * count) 24 copied in
     let c = mul_comm copied (25 * splits + store + 39 * count) in

@@ -4,9 +4,8 @@ use Rattle.std.specs.Prelude.{◌&&◌, nat_lt, Ok}
 use Rattle.std.proofs.lemmas.Bool.{and_parts, and_from, lt-ltb, ltb-true}
 use Rattle.halide_pipeline.specs.declared.definitions.Func.{Func}
 use Rattle.halide_pipeline.specs.declared.expressions.Variable.TheVariants as variables
-use Rattle.halide_pipeline.specs.Definitions.{dimensions}
+use Rattle.halide_pipeline.specs.WellFormed.{dimensions, IsWellFormed}
 use Rattle.halide_pipeline.specs.Pipelines.{Pipeline}
-use Rattle.halide_pipeline.specs.WellFormed.{IsWellFormed}
 use Rattle.schedule.specs.declared.plans.FuncPlan.{FuncPlan}
 use Rattle.schedule.specs.declared.schedules.Schedule.{Schedule}
 use Rattle.schedule.specs.declared.standings.Place.{Place}
@@ -17,13 +16,13 @@ use Rattle.schedule_loops.specs.Visits.{Visit}
 use Rattle.bounds_ranges.specs.declared.ranges.Range.{Range}
 use Rattle.bounds.specs.declared.boxes.SourceBox.{SourceBox}
 use Rattle.bounds.specs.declared.verdict.Boxes.{Boxes}
-use Rattle.bounds.specs.Boxes.{IsBox, box_in, extent}
+use Rattle.bounds.specs.Boxes.{IsBox}
+use Rattle.bounds.specs.Extents.{box_in, extent, extents_of}
 use Rattle.bounds.specs.Verdict.{inferred}
-use Rattle.bounds.specs.Views.{extents_of}
 use Rattle.bounds_laws.specs.Laws.{IsComputed}
 use Rattle.bounds_laws.proofs.Flat.{one_row_boxes}
 use Rattle.lowering.specs.Planes.{has_point, box_points}
-use Rattle.lowering.specs.PurePhases.{IsComputedAt}
+use Rattle.bounds.specs.Stages.{IsComputedAt}
 use Rattle.lowering.proofs.Facts.{is_box}
 
 below_extent : (has : Bool) (n x : ℕ) → 1 ≤ n → nat_lt x (cond has n 1) ≡ true → x < n

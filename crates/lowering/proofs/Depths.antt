@@ -1,4 +1,4 @@
--- How many counters stand around the stores of nests and hosts, and how many registers their expressions need.
+-- How many counters stand around the stores of nests and consumers, and how many registers their expressions need.
 use Rattle.std.proofs.Common.{◌≡◌, ℕ, suc, ◌+◌, ◌-◌, ◌≤◌, List, [], ◌∷◌, ◌++◌, length, Option, Some, None, ap, arith, length-append, length-take}
 use Rattle.std.specs.Prelude.{max}
 use Rattle.halide_pipeline.specs.declared.definitions.Func.{Func}
@@ -9,27 +9,27 @@ use Rattle.schedule.specs.declared.plans.FuncPlan.{FuncPlan}
 use Rattle.schedule.specs.declared.schedules.Schedule.{Schedule}
 use Rattle.schedule.specs.declared.standings.LoopPlace.{LoopPlace}
 use Rattle.schedule_loops.specs.declared.extents.Extents.{Extents}
-use Rattle.schedule_loops.specs.Counts as loops
-use Rattle.schedule_loops.specs.Iterations.{parallel}
+use Rattle.schedule_loops.specs.Visits as loops
+use Rattle.schedule_loops.specs.Visits.{parallel}
 use Rattle.bounds.specs.declared.boxes.SourceBox.{SourceBox}
 use Rattle.bounds.specs.declared.verdict.Boxes.{Boxes}
 use Rattle.loop_ir.specs.declared.statements.Phase.{Phase}
 use Rattle.loop_ir.specs.declared.statements.Stmt.{Stmt}
 use Rattle.loop_ir.specs.Depths.{depth, count_of}
 use Rattle.loop_ir.specs.Needs.{greatest_need}
-use Rattle.lowering.specs.Hosting.{IsNestAt, HasNests, None_left, One_more, HasLoops, No_loops, One_outside, HasOutermost, IsBody, depth_first, need_first}
+use Rattle.lowering.specs.Consuming.{IsNestAt, HasNests, None_left, One_more, HasLoops, No_loops, One_outside, HasOutermost, IsBody, depth_first, need_first}
 use Rattle.lowering.specs.Lowered as lowered
 use Rattle.lowering.specs.PurePhases.{inside_of, counter_of}
 use Rattle.lowering.specs.Registers.{TakesFew, TakeFew, most_need}
 
 -- loops inside a parallel one, with its own counter, are no more than all
-inside_few : (host : ℕ) (own : Option Loop) (all : List Loop) → length all ≤ 5 → count_of (counter_of host own) + length (inside_of own all) ≤ 5
-inside_few host None all few = omega (arith, few)
-inside_few host (Some own) all few = let e = length-take (length all - 1) all in omega (arith, few, e)
+inside_few : (consumer : ℕ) (own : Option Loop) (all : List Loop) → length all ≤ 5 → count_of (counter_of consumer own) + length (inside_of own all) ≤ 5
+inside_few consumer None all few = omega (arith, few)
+inside_few consumer (Some own) all few = let e = length-take (length all - 1) all in omega (arith, few, e)
 
-pub update_few : (host : ℕ) (own : Option Loop) (all : List Loop) (splits inner body : ℕ) → length all ≤ 5 → splits ≤ 4 → inner ≡ 0 → body ≡ length (inside_of own all) + (splits + inner)
-    → count_of (counter_of host own) + body ≤ 14
-update_few host own all splits inner body few few_splits none is = let l = inside_few host own all few in omega (arith, l, few_splits, none, is)
+pub update_few : (consumer : ℕ) (own : Option Loop) (all : List Loop) (splits inner body : ℕ) → length all ≤ 5 → splits ≤ 4 → inner ≡ 0 → body ≡ length (inside_of own all) + (splits + inner)
+    → count_of (counter_of consumer own) + body ≤ 14
+update_few consumer own all splits inner body few few_splits none is = let l = inside_few consumer own all few in omega (arith, l, few_splits, none, is)
 
 module _ (pipeline : Pipeline) (schedule : Schedule) (boxes : Boxes) where
   found_few : (at : LoopPlace) (place : ℕ) (found : Option Stmt) → IsNestAt pipeline schedule boxes at place found → depth_first found ≤ 9
@@ -44,27 +44,27 @@ module _ (pipeline : Pipeline) (schedule : Schedule) (boxes : Boxes) where
       let r = nests_few at (suc from) inside rest others in
       omega (arith, e, f, r)
 
-  loops_few : (host : ℕ) (counts : loops.Values) (leaf : Stmt) (own : List Loop) (made : Stmt) → HasLoops pipeline schedule boxes host counts leaf own made
+  loops_few : (consumer : ℕ) (counts : loops.Values) (leaf : Stmt) (own : List Loop) (made : Stmt) → HasLoops pipeline schedule boxes consumer counts leaf own made
       → depth made ≤ length own + max 9 (depth leaf)
-  loops_few host counts leaf _ _ No_loops = omega arith
-  loops_few host counts leaf _ _ (One_outside inside own inner body made has nests does around run_around) =
+  loops_few consumer counts leaf _ _ No_loops = omega arith
+  loops_few consumer counts leaf _ _ (One_outside inside own inner body made has nests does around run_around) =
       let e = does.depth_is in
-      let n = nests_few (record { func = host; inside = own.id }) 0 inner body nests in
-      let i = loops_few host counts leaf inside inner has in
+      let n = nests_few (record { func = consumer; inside = own.id }) 0 inner body nests in
+      let i = loops_few consumer counts leaf inside inner has in
       let l = length-append inside (own ∷ []) in
       omega (arith, e, n, i, l)
 
-  outermost_few : (host : ℕ) (own : Option Loop) (inner body : Stmt) → HasOutermost pipeline schedule boxes host own inner body → depth body ≤ max 9 (depth inner)
-  outermost_few host None inner body same = omega (arith, ap depth same)
-  outermost_few host (Some own) inner body nests = nests_few (record { func = host; inside = own.id }) 0 inner body nests
+  outermost_few : (consumer : ℕ) (own : Option Loop) (inner body : Stmt) → HasOutermost pipeline schedule boxes consumer own inner body → depth body ≤ max 9 (depth inner)
+  outermost_few consumer None inner body same = omega (arith, ap depth same)
+  outermost_few consumer (Some own) inner body nests = nests_few (record { func = consumer; inside = own.id }) 0 inner body nests
 
-  pub body_few : (host : ℕ) (stage : Stage) (extents : Extents) (store body : Stmt) → IsBody pipeline schedule boxes host stage extents store body → depth store ≡ 0
-      → length stage.loops ≤ 5 → length stage.splits ≤ 4 → count_of (counter_of host (parallel stage)) + depth body ≤ 14
-  body_few host stage extents store body is none few few_splits =
+  pub body_few : (consumer : ℕ) (stage : Stage) (extents : Extents) (store body : Stmt) → IsBody pipeline schedule boxes consumer stage extents store body → depth store ≡ 0
+      → length stage.loops ≤ 5 → length stage.splits ≤ 4 → count_of (counter_of consumer (parallel stage)) + depth body ≤ 14
+  body_few consumer stage extents store body is none few few_splits =
       let e = is.depth_is in
-      let i = loops_few host (loops.counts extents stage.splits) is.leaf (inside_of (parallel stage) stage.loops) is.inner is.looped in
-      let o = outermost_few host (parallel stage) is.inner body is.begun in
-      let l = inside_few host (parallel stage) stage.loops few in
+      let i = loops_few consumer (loops.counts extents stage.splits) is.leaf (inside_of (parallel stage) stage.loops) is.inner is.looped in
+      let o = outermost_few consumer (parallel stage) is.inner body is.begun in
+      let l = inside_few consumer (parallel stage) stage.loops few in
       omega (arith, e, none, few_splits, i, o, l)
 
   -- ---- registers
@@ -84,25 +84,25 @@ module _ (pipeline : Pipeline) (schedule : Schedule) (boxes : Boxes) where
       let r = nests_need at (suc from) inside rest others in
       omega (arith, e, f, r)
 
-  loops_need : (host : ℕ) (counts : loops.Values) (leaf : Stmt) (own : List Loop) (made : Stmt) → HasLoops pipeline schedule boxes host counts leaf own made
+  loops_need : (consumer : ℕ) (counts : loops.Values) (leaf : Stmt) (own : List Loop) (made : Stmt) → HasLoops pipeline schedule boxes consumer counts leaf own made
       → greatest_need made ≤ max most (greatest_need leaf)
-  loops_need host counts leaf _ _ No_loops = omega arith
-  loops_need host counts leaf _ _ (One_outside inside own inner body made has nests does around run_around) =
+  loops_need consumer counts leaf _ _ No_loops = omega arith
+  loops_need consumer counts leaf _ _ (One_outside inside own inner body made has nests does around run_around) =
       let e = does.need_is in
-      let n = nests_need (record { func = host; inside = own.id }) 0 inner body nests in
-      let i = loops_need host counts leaf inside inner has in
+      let n = nests_need (record { func = consumer; inside = own.id }) 0 inner body nests in
+      let i = loops_need consumer counts leaf inside inner has in
       omega (arith, e, n, i)
 
-  outermost_need : (host : ℕ) (own : Option Loop) (inner body : Stmt) → HasOutermost pipeline schedule boxes host own inner body → greatest_need body ≤ max most (greatest_need inner)
-  outermost_need host None inner body same = let e : greatest_need body ≡ greatest_need inner = ap greatest_need same in omega (arith, e)
-  outermost_need host (Some own) inner body nests = nests_need (record { func = host; inside = own.id }) 0 inner body nests
+  outermost_need : (consumer : ℕ) (own : Option Loop) (inner body : Stmt) → HasOutermost pipeline schedule boxes consumer own inner body → greatest_need body ≤ max most (greatest_need inner)
+  outermost_need consumer None inner body same = let e : greatest_need body ≡ greatest_need inner = ap greatest_need same in omega (arith, e)
+  outermost_need consumer (Some own) inner body nests = nests_need (record { func = consumer; inside = own.id }) 0 inner body nests
 
-  pub body_need : (host : ℕ) (stage : Stage) (extents : Extents) (store body : Stmt) → IsBody pipeline schedule boxes host stage extents store body → greatest_need store ≤ most
+  pub body_need : (consumer : ℕ) (stage : Stage) (extents : Extents) (store body : Stmt) → IsBody pipeline schedule boxes consumer stage extents store body → greatest_need store ≤ most
       → greatest_need body ≤ most
-  body_need host stage extents store body is few =
+  body_need consumer stage extents store body is few =
       let e = is.need_is in
-      let i = loops_need host (loops.counts extents stage.splits) is.leaf (inside_of (parallel stage) stage.loops) is.inner is.looped in
-      let o = outermost_need host (parallel stage) is.inner body is.begun in
+      let i = loops_need consumer (loops.counts extents stage.splits) is.leaf (inside_of (parallel stage) stage.loops) is.inner is.looped in
+      let o = outermost_need consumer (parallel stage) is.inner body is.begun in
       omega (arith, e, few, i, o)
 
   -- ---- phases

@@ -12,33 +12,32 @@ use Rattle.schedule.specs.declared.standings.Place.{Place}
 use Rattle.schedule.specs.declared.standings.LoopPlace.{LoopPlace}
 use Rattle.schedule.specs.declared.standings.Place.TheVariants as places
 use Rattle.schedule.specs.declared.standings.Standing.{Standing}
-use Rattle.schedule.specs.Accepted.{IsAccepted, IsPlan, IsLegal, IsHosted as HasHost}
+use Rattle.schedule.specs.Accepted.{IsAccepted, IsPlan, IsLegal, IsProduced as HasConsumer}
 use Rattle.schedule.specs.Uses.{IsReached}
 use Rattle.schedule.proofs.Uses.{numbered_at}
-use Rattle.schedule_loops.specs.Counts.{AreSplits, shifts_fit}
+use Rattle.schedule_loops.specs.Visits.{AreSplits, shifts_fit}
 use Rattle.schedule_loops.specs.Stages.{IsStageOf, KeepsRules}
 use Rattle.schedule_loops.proofs.AcceptedStages.{accepted as accepted_stages, pair_at}
 use Rattle.schedule_loops.proofs.Few.{few_splits}
 use Rattle.bounds.specs.declared.boxes.SourceBox.{SourceBox}
 use Rattle.bounds.specs.declared.verdict.Boxes.{Boxes}
-use Rattle.bounds.specs.Boxes.{IsBox, extent, points, lasts_of}
-use Rattle.bounds.specs.Judging.{have_few_points}
-use Rattle.bounds.specs.Verdict.{inferred}
-use Rattle.bounds.specs.Views.{extents_of}
-use Rattle.bounds_laws.specs.HostLaws.{IsHosted}
-use Rattle.bounds_laws.specs.Laws.{IsComputed, host_in}
-use Rattle.bounds_laws.proofs.BoxesHosted.{boxes_are_hosted}
+use Rattle.bounds.specs.Boxes.{IsBox, lasts_of}
+use Rattle.bounds.specs.Extents.{extent, points, extents_of}
+use Rattle.bounds.specs.Verdict.{have_few_points, inferred}
+use Rattle.bounds_laws.specs.ConsumerLaws.{IsProduced}
+use Rattle.bounds_laws.specs.Laws.{IsComputed, consumer_in}
+use Rattle.bounds_laws.proofs.BoxesProduced.{boxes_are_produced}
 use Rattle.bounds_laws.proofs.BoxFacts.{is_judged, shifts_at}
 use Rattle.lowering_nests.specs.Nests.{AreFew}
-use Rattle.lowering.specs.PurePhases.{IsComputedAt}
+use Rattle.bounds.specs.Stages.{IsComputedAt}
 
 -- ---- where it is computed
 
--- a Func at a loop stands before its host
-pub hosted_before : (pipeline : Pipeline) (schedule : Schedule) → IsAccepted pipeline schedule → (place : ℕ) (own : Standing) → IsReached schedule.standings place own
+-- a Func at a loop stands before its consumer
+pub produced_before : (pipeline : Pipeline) (schedule : Schedule) → IsAccepted pipeline schedule → (place : ℕ) (own : Standing) → IsReached schedule.standings place own
     → (at : LoopPlace) → own.place ≡ places.At at → place < at.func
-hosted_before pipeline schedule accepted place own there at placed =
-    omega (arith, (numbered_at (HasHost pipeline schedule.funcs) 0 schedule.standings accepted.hosts place own there.standing at placed).later)
+produced_before pipeline schedule accepted place own there at placed =
+    omega (arith, (numbered_at (HasConsumer pipeline schedule.funcs) 0 schedule.standings accepted.consumers place own there.standing at placed).later)
 
 -- ---- few points
 
@@ -62,14 +61,14 @@ module _ (pipeline : Pipeline) (schedule : Schedule) (boxes : Boxes) (place : �
   computed : IsComputed place at.standing.place
   computed = subst (λ (p : Place). IsComputed place p) (sym at.placed_is) here
 
-  hosted : IsHosted (host_in schedule boxes.funcs at.standing.place) own
-  hosted = boxes_are_hosted pipeline schedule boxes is place at.standing at.there.standing at.there.reached computed own at.box_is
+  produced : IsProduced (consumer_in schedule boxes.funcs at.standing.place) own
+  produced = boxes_are_produced pipeline schedule boxes is place at.standing at.there.standing at.there.reached computed own at.box_is
 
   pub is_box : IsBox own
-  is_box = hosted.box
+  is_box = produced.box
 
-  pub lasts_are : own.lasts ≡ lasts_of (host_in schedule boxes.funcs placed)
-  lasts_are = hosted.lasts ∙ ap (λ (p : Place). lasts_of (host_in schedule boxes.funcs p)) at.placed_is
+  pub lasts_are : own.lasts ≡ lasts_of (consumer_in schedule boxes.funcs placed)
+  lasts_are = produced.lasts ∙ ap (λ (p : Place). lasts_of (consumer_in schedule boxes.funcs p)) at.placed_is
 
   plan_so : IsPlan func plan
   plan_so = pair_at IsPlan pipeline.funcs schedule.funcs place func plan accepted.plans at.func_is at.plan_is

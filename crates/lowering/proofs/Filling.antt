@@ -17,7 +17,7 @@ use Rattle.schedule.specs.declared.standings.LoopPlace.{LoopPlace}
 use Rattle.schedule.specs.declared.standings.Place.TheVariants as places
 use Rattle.schedule.specs.Accepted.{IsAccepted}
 use Rattle.schedule_loops.specs.declared.extents.Extents.{Extents}
-use Rattle.schedule_loops.specs.Counts as loops
+use Rattle.schedule_loops.specs.Visits as loops
 use Rattle.schedule_loops.specs.Reach.{wholes}
 use Rattle.schedule_loops.specs.Stages.{IsStageOf, KeepsRules, IsVisitOf}
 use Rattle.schedule_loops.specs.Visits.{Visit, zeros, visit_of, visits, is_slice}
@@ -28,10 +28,9 @@ use Rattle.schedule_loops.proofs.Wholes.{visits_of_wholes}
 use Rattle.bounds_ranges.specs.Laws.{Below, AnswerWords}
 use Rattle.bounds.specs.declared.boxes.SourceBox.{SourceBox}
 use Rattle.bounds.specs.declared.verdict.Boxes.{Boxes}
-use Rattle.bounds.specs.Boxes.{extent}
+use Rattle.bounds.specs.Extents.{extent, extents_of}
 use Rattle.bounds.specs.Verdict.{inferred}
-use Rattle.bounds.specs.Views.{extents_of}
-use Rattle.bounds_laws.specs.HostLaws.{values_in}
+use Rattle.bounds_laws.specs.ConsumerLaws.{values_in}
 use Rattle.loop_ir.specs.declared.statements.Stmt.{Stmt}
 use Rattle.loop_ir.specs.Buffers.{Points}
 use Rattle.loop_ir.specs.Counters.{Values}
@@ -39,22 +38,23 @@ use Rattle.loop_ir.specs.Running.{run}
 use Rattle.loop_ir.specs.Soundness.{is_sound}
 use Rattle.lowering_nests.specs.Nests.{loops_of, put_loops, all, AreSmall, Repeats}
 use Rattle.lowering.specs.Corners.{turns_for, turns_at}
-use Rattle.lowering.specs.Hosting.{hosting, Keeps, Leaves, IsAnswered, DoesNest, MayTouch, IsSoundNest}
+use Rattle.lowering.specs.Consuming.{consuming, Keeps, Leaves, IsAnswered, DoesNest, MayTouch, IsSoundNest}
 use Rattle.lowering.specs.Planes.{box_points}
-use Rattle.lowering.specs.PurePhases.{IsComputedAt, IsStoreOf}
+use Rattle.lowering.specs.PurePhases.{IsStoreOf}
+use Rattle.bounds.specs.Stages.{IsComputedAt}
 use Rattle.lowering.proofs.Covered.{parts_of, point_there, slice_there}
-use Rattle.lowering.proofs.Facts.{staged, fits, hosted_before}
+use Rattle.lowering.proofs.Facts.{staged, fits, produced_before}
 use Rattle.lowering.proofs.Lists.{any_map, all_map, all_pass, none_passes}
 use Rattle.lowering.proofs.Painting.{Writes, Paints, is_at, paints}
 use Rattle.lowering.proofs.Writing as writing
 
--- ---- the loops of a host, and those of others
+-- ---- the loops of a consumer, and those of others
 
-pub loops_hosting : (host : ℕ) (turned : loops.Values) → loops_of host (hosting host turned) ≡ turned
-loops_hosting host turned = fun_ext (λ id. ap (λ (b : Bool). cond b (turned id) 0) (eq-eqb host host refl))
+pub loops_consuming : (consumer : ℕ) (turned : loops.Values) → loops_of consumer (consuming consumer turned) ≡ turned
+loops_consuming consumer turned = fun_ext (λ id. ap (λ (b : Bool). cond b (turned id) 0) (eq-eqb consumer consumer refl))
 
-pub no_other_loops : (host other : ℕ) (turned : loops.Values) → (other ≡ host → ⊥) → loops_of other (hosting host turned) ≡ zeros
-no_other_loops host other turned d = fun_ext (λ id. ap (λ (b : Bool). cond b (turned id) 0) (ne_eqb other host d))
+pub no_other_loops : (consumer other : ℕ) (turned : loops.Values) → (other ≡ consumer → ⊥) → loops_of other (consuming consumer turned) ≡ zeros
+no_other_loops consumer other turned d = fun_ext (λ id. ap (λ (b : Bool). cond b (turned id) 0) (ne_eqb other consumer d))
 
 -- loops of one Func are put, and those of another stay
 pub loops_put_other : (own other : ℕ) (inner : loops.Values) (values : Values) → (other ≡ own → ⊥) → loops_of other (put_loops own inner values) ≡ loops_of other values
@@ -69,7 +69,7 @@ module _ (pipeline : Pipeline) (schedule : Schedule) (boxes : Boxes) (rules : Is
     (store : Stmt) (store_of : IsStoreOf pipeline schedule boxes (places.At loop) place func own store)
     (made : Stmt) (repeats : Repeats place made store (wholes (extents_of own) plan.pure.splits plan.pure.loops)) where
   pub here : place < loop.func
-  here = hosted_before pipeline schedule accepted place at.standing at.there loop at.placed_is
+  here = produced_before pipeline schedule accepted place at.standing at.there loop at.placed_is
 
   abbrev extents : Extents
   extents = extents_of own
@@ -88,7 +88,7 @@ module _ (pipeline : Pipeline) (schedule : Schedule) (boxes : Boxes) (rules : Is
 
   module _ (inputs : Planes) (turned : loops.Values) where
     abbrev counters : Values
-    counters = hosting loop.func turned
+    counters = consuming loop.func turned
 
     abbrev values : List ℕ
     values = turns_for schedule.funcs (places.At loop) counters
@@ -119,7 +119,7 @@ module _ (pipeline : Pipeline) (schedule : Schedule) (boxes : Boxes) (rules : Is
       writes inner v =
           writing.writes pipeline schedule boxes rules accepted is (places.At loop) place func plan own here at store store_of inputs values below counters turns_same inner v Ready stays
           (λ now ready. answered store_of.corners store_of.are_corners (put_loops place inner counters)
-          (loops_put_other place loop.func inner counters (λ e. omega (arith, e, here)) ∙ loops_hosting loop.func turned) now ready
+          (loops_put_other place loop.func inner counters (λ e. omega (arith, e, here)) ∙ loops_consuming loop.func turned) now ready
           (writing.across pipeline schedule boxes rules accepted is (places.At loop) place func plan own here at store store_of inputs values below counters turns_same inner)
           (writing.down pipeline schedule boxes rules accepted is (places.At loop) place func plan own here at store store_of inputs values below counters turns_same inner)
           (writing.lies pipeline schedule boxes rules accepted is (places.At loop) place func plan own here at store store_of inputs values below counters turns_same inner v))
@@ -166,13 +166,13 @@ module _ (pipeline : Pipeline) (schedule : Schedule) (boxes : Boxes) (rules : Is
   -- ---- what it touches
 
   module _ (reads : Reads) (words : AnswerWords pipeline.inputs reads) (written : Points) (loaded : Point → Bool) (turned : loops.Values)
-      (below : Below (turns_for schedule.funcs (places.At loop) (hosting loop.func turned)) own.lasts)
-      (may : MayTouch pipeline schedule boxes loop.func place func own (turns_for schedule.funcs (places.At loop) (hosting loop.func turned)) reads written loaded turned) where
+      (below : Below (turns_for schedule.funcs (places.At loop) (consuming loop.func turned)) own.lasts)
+      (may : MayTouch pipeline schedule boxes loop.func place func own (turns_for schedule.funcs (places.At loop) (consuming loop.func turned)) reads written loaded turned) where
     dark : Planes
     dark other x y = 0
 
     abbrev now : Values
-    now = hosting loop.func turned
+    now = consuming loop.func turned
 
     abbrev values_now : List ℕ
     values_now = turns_for schedule.funcs (places.At loop) now
@@ -187,7 +187,7 @@ module _ (pipeline : Pipeline) (schedule : Schedule) (boxes : Boxes) (rules : Is
         let p = parts_of pipeline schedule boxes rules accepted is (places.At loop) place func plan own here at (visit_of extents inner) v in
         writing.sound pipeline schedule boxes rules accepted is (places.At loop) place func plan own here at store store_of dark values_now below now (turns_same dark turned) inner v reads written loaded
         (may.writes x y (and_from (nat_lt x (extent own.x)) (nat_lt y (extent own.y)) (lt-ltb x (extent own.x) p.0) (lt-ltb y (extent own.y) p.1)))
-        (may.pure store_of.corners store_of.are_corners (put_loops place inner now) (loops_put_other place loop.func inner now (λ e. omega (arith, e, here)) ∙ loops_hosting loop.func turned)
+        (may.pure store_of.corners store_of.are_corners (put_loops place inner now) (loops_put_other place loop.func inner now (λ e. omega (arith, e, here)) ∙ loops_consuming loop.func turned)
         (writing.across pipeline schedule boxes rules accepted is (places.At loop) place func plan own here at store store_of dark values_now below now (turns_same dark turned) inner)
         (writing.down pipeline schedule boxes rules accepted is (places.At loop) place func plan own here at store store_of dark values_now below now (turns_same dark turned) inner)
         (writing.lies pipeline schedule boxes rules accepted is (places.At loop) place func plan own here at store store_of dark values_now below now (turns_same dark turned) inner v))

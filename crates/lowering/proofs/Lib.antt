@@ -6,7 +6,7 @@ pub mod Covered
 pub mod Depths
 pub mod Facts
 pub mod Filling
-pub mod Hosts
+pub mod Consumers
 pub mod InOrder
 pub mod Lists
 pub mod Lowered
@@ -19,10 +19,10 @@ pub mod Parts
 pub mod PureStage
 pub mod Registers
 pub mod RootFacts
-pub mod SoundHosts
+pub mod SoundConsumers
 pub mod SoundTasks
 pub mod SplitsApart
-pub mod StoredHosts
+pub mod StoredConsumers
 pub mod StoredTasks
 pub mod Storing
 pub mod Tasks
@@ -50,8 +50,8 @@ pub mod UpdateRounds
 pub mod RoundsApart
 pub mod PureRounds
 pub mod TaskRounds
-pub mod HostRounds
-pub mod RunHosts
+pub mod ConsumerRounds
+pub mod RunConsumers
 pub mod RunLists
 pub mod Copies
 pub mod Sizes

@@ -27,20 +27,20 @@ use Rattle.schedule.specs.Legal.{is_inlined, is_nowhere}
 use Rattle.schedule.specs.Uses.{IsReached}
 use Rattle.schedule.proofs.Uses.{IsSome, some_before}
 use Rattle.schedule_loops.proofs.AcceptedStages.{pair_at}
-use Rattle.schedule_loops.specs.Counts as loops
+use Rattle.schedule_loops.specs.Visits as loops
 use Rattle.bounds_inlining.specs.Inlining.{flagged}
 use Rattle.bounds_ranges.specs.Laws.{Below, AnswerWords}
 use Rattle.bounds_weights.specs.Weight.{flags_of}
 use Rattle.bounds.specs.declared.boxes.SourceBox.{SourceBox}
 use Rattle.bounds.specs.declared.verdict.Boxes.{Boxes}
-use Rattle.bounds.specs.Boxes.{no_loops, extent}
-use Rattle.bounds.specs.Sources.{same_source}
+use Rattle.bounds.specs.Boxes.{no_loops, same_source}
+use Rattle.bounds.specs.Extents.{extent}
 use Rattle.bounds.specs.Verdict.{inferred}
 use Rattle.bounds_laws.specs.Callers.{ReadsThrough, IsReadThrough, AreReadThrough, IsReadWithin}
 use Rattle.bounds_laws.specs.Closure.{is_within}
-use Rattle.bounds_laws.specs.HostLaws.{values_in, MayBeArguments}
-use Rattle.bounds_laws.specs.Laws.{LiesIn, IsBoxed, AreBoxed, IsComputed, IsNear, host_in, pure_points, update_points}
-use Rattle.bounds_laws.proofs.BoxesHosted.{boxes_are_hosted, points_are_near}
+use Rattle.bounds_laws.specs.ConsumerLaws.{values_in, MayBeArguments}
+use Rattle.bounds_laws.specs.Laws.{LiesIn, IsBoxed, AreBoxed, IsComputed, IsNear, consumer_in, pure_points, update_points}
+use Rattle.bounds_laws.proofs.BoxesProduced.{boxes_are_produced, points_are_near}
 use Rattle.bounds_laws.proofs.Callers.{pure_points_are_read_through, update_points_are_read_through}
 use Rattle.bounds_laws.proofs.Closure.{input_held}
 use Rattle.bounds_laws.proofs.Found.{no_below, pure_reads_of_inputs_lie}
@@ -55,8 +55,8 @@ use Rattle.lowering_expressions.specs.declared.calls.Corner.{Corner}
 use Rattle.lowering_expressions.specs.Lowering.{placed, answered_at, from_corner, corner_of, place as place_in}
 use Rattle.lowering.specs.Corners.{first_of, turns_for, turns_at, AreCorners}
 use Rattle.lowering.specs.Planes.{box_points}
-use Rattle.lowering.specs.PurePhases.{IsComputedAt, IsAtRoot}
-use Rattle.lowering.proofs.Facts.{is_box, hosted_before}
+use Rattle.bounds.specs.Stages.{IsComputedAt, IsAtRoot}
+use Rattle.lowering.proofs.Facts.{is_box, produced_before}
 use Rattle.lowering.proofs.Offsets.{offset_within}
 use Rattle.lowering.proofs.Values.{corner_at, same_self}
 
@@ -88,18 +88,18 @@ module _ (pipeline : Pipeline) (corners : List Corner) (counters : Values) (read
 
 module _ (pipeline : Pipeline) (schedule : Schedule) (boxes : Boxes) (rules : IsWellFormed pipeline) (accepted : IsAccepted pipeline schedule) (is : inferred pipeline schedule ≡ Ok boxes)
     (placed_at : Place) (reader : ℕ) (func : Func) (plan : FuncPlan) (own : SourceBox) (here : IsComputed reader placed_at) (at : IsComputedAt pipeline schedule boxes placed_at reader func plan own)
-    (host : ℕ) (host_func : Func) (host_plan : FuncPlan) (hosting : SourceBox) (host_at : IsAtRoot pipeline schedule boxes host host_func host_plan hosting) (turned : loops.Values)
-    (of_host : (k : ℕ) (w : IsReadWithin schedule reader k) (loop : LoopPlace) → w.own.place ≡ places.At loop → loop.func ≡ host)
-    (counters : Values) (counters_are : (id : LoopId) → values_in host_plan id (loops_of host counters) ≡ values_in host_plan id turned)
+    (consumer : ℕ) (consumer_func : Func) (consumer_plan : FuncPlan) (consuming : SourceBox) (consumer_at : IsAtRoot pipeline schedule boxes consumer consumer_func consumer_plan consuming) (turned : loops.Values)
+    (of_consumer : (k : ℕ) (w : IsReadWithin schedule reader k) (loop : LoopPlace) → w.own.place ≡ places.At loop → loop.func ≡ consumer)
+    (counters : Values) (counters_are : (id : LoopId) → values_in consumer_plan id (loops_of consumer counters) ≡ values_in consumer_plan id turned)
     (corners : List Corner) (are : AreCorners schedule.funcs boxes.funcs schedule.standings corners)
     (reads : Reads) (words : AnswerWords pipeline.inputs reads) (loaded : Point → Bool)
     (inputs_load : (k x y : ℕ) → is_within (slice_get pipeline.inputs k) x y ≡ true → loaded (record { source = sources.Input k; x = x; y = y }) ≡ true)
     (roots_load : (k : ℕ) (standing : Standing) → k < reader → IsReached schedule.standings k standing → standing.place ≡ places.Root
     → (x y : ℕ) → box_points boxes.funcs k x y ≡ true → loaded (record { source = sources.Func k; x = x; y = y }) ≡ true)
-    (hosted_load : (k : ℕ) (w : IsReadWithin schedule reader k) (loop : LoopPlace) → w.own.place ≡ places.At loop
+    (produced_load : (k : ℕ) (w : IsReadWithin schedule reader k) (loop : LoopPlace) → w.own.place ≡ places.At loop
     → (x y : ℕ) → box_points boxes.funcs k x y ≡ true → loaded (record { source = sources.Func k; x = x; y = y }) ≡ true)
     (values : List ℕ) (below : Below values own.lasts) (x y : ℕ) (lies : LiesIn values own x y)
-    (may_be : (k : ℕ) (w : IsReadWithin schedule reader k) (loop : LoopPlace) → w.own.place ≡ places.At loop → MayBeArguments host_func host_plan hosting loop.inside turned placed_at own x y) where
+    (may_be : (k : ℕ) (w : IsReadWithin schedule reader k) (loop : LoopPlace) → w.own.place ≡ places.At loop → MayBeArguments consumer_func consumer_plan consuming loop.inside turned placed_at own x y) where
   abbrev found : Reads
   found = placed corners counters reads
 
@@ -132,7 +132,7 @@ module _ (pipeline : Pipeline) (schedule : Schedule) (boxes : Boxes) (rules : Is
       let c = corner_at schedule.funcs boxes.funcs schedule.standings corners k (Some box) standing are box_is there.standing in
       let i = word.subtract a (first_of box.x turns) in
       let j = word.subtract b (first_of box.y turns) in
-      let o = (boxes_are_hosted pipeline schedule boxes is k standing there.standing there.reached computed box box_is).box in
+      let o = (boxes_are_produced pipeline schedule boxes is k standing there.standing there.reached computed box box_is).box in
       let x_is = (c.is counters).0 ∙ ap (first_of box.x) turns_are in
       let y_is = (c.is counters).1 ∙ ap (first_of box.y) turns_are in
       let lies_at : place_in corners counters (point_at (sources.Func k) a b) ≡ point_at (sources.Func k) i j = rw (c.there, x_is, y_is) refl in
@@ -140,18 +140,18 @@ module _ (pipeline : Pipeline) (schedule : Schedule) (boxes : Boxes) (rules : Is
       rw box_is (and_from (nat_lt i (extent box.x)) (nat_lt j (extent box.y)) (lt-ltb i (extent box.x) (offset_within box.lasts turns box.x a inside.first o.x.ordered)) (lt-ltb j (extent box.y) (offset_within box.lasts turns box.y b inside.second o.y.ordered))) in
       ap loaded lies_at ∙ all_load i j there_so
 
-  turns_are : (p : Place) (loop : LoopPlace) → p ≡ places.At loop → loop.func ≡ host → turns_for schedule.funcs p counters ≡ values_in host_plan loop.inside turned
+  turns_are : (p : Place) (loop : LoopPlace) → p ≡ places.At loop → loop.func ≡ consumer → turns_for schedule.funcs p counters ≡ values_in consumer_plan loop.inside turned
   turns_are p loop e same =
       ap (λ (q : Place). turns_for schedule.funcs q counters) e
-      ∙ ap (λ (q : Option FuncPlan). turns_at loop q counters) (ap (λ (n : ℕ). slice_get schedule.funcs n) same ∙ host_at.plan_is)
-      ∙ ap (λ (n : ℕ). values_in host_plan loop.inside (loops_of n counters)) same
+      ∙ ap (λ (q : Option FuncPlan). turns_at loop q counters) (ap (λ (n : ℕ). slice_get schedule.funcs n) same ∙ consumer_at.plan_is)
+      ∙ ap (λ (n : ℕ). values_in consumer_plan loop.inside (loops_of n counters)) same
       ∙ counters_are loop.inside
 
   -- what is known of points that are read
   record AreRead (count : ℕ) (list : List Point) : Type 0 where
     inputs : (k : ℕ) → AreBoxed no_loops (sources.Input k) (slice_get boxes.inputs k) list
     roots : (k : ℕ) (standing : Standing) → k < reader → IsReached schedule.standings k standing → standing.place ≡ places.Root → AreBoxed no_loops (sources.Func k) (slice_get boxes.funcs k) list
-    hosted : (k : ℕ) (w : IsReadWithin schedule reader k) (loop : LoopPlace) → w.own.place ≡ places.At loop → AreBoxed (values_in host_plan loop.inside turned) (sources.Func k) (slice_get boxes.funcs k) list
+    produced : (k : ℕ) (w : IsReadWithin schedule reader k) (loop : LoopPlace) → w.own.place ≡ places.At loop → AreBoxed (values_in consumer_plan loop.inside turned) (sources.Func k) (slice_get boxes.funcs k) list
     through : AreReadThrough pipeline schedule.standings reader count list
 
   func_loads : (k a b count : ℕ) (list : List Point) → AreRead count (point_at (sources.Func k) a b ∷ list) → flagged (flags_of schedule.standings) k ≡ false → ReadsThrough pipeline schedule.standings reader k
@@ -172,8 +172,8 @@ module _ (pipeline : Pipeline) (schedule : Schedule) (boxes : Boxes) (rules : Is
           by_box w (subst (λ (p : Place). IsComputed k p) (sym e) tt) no_loops (ap (λ (p : Place). turns_for schedule.funcs p counters) e) (roots_load k w.own w.before w.there e)
           (slice_get boxes.funcs k) refl (some_before boxes.funcs reader k (Some own) at.box_is w.before) ((r.roots k w.own w.before w.there e).0 (same_self k))
       by_place w (places.At loop) e =
-          by_box w (subst (λ (p : Place). IsComputed k p) (sym e) (hosted_before pipeline schedule accepted k w.own w.there loop e)) (values_in host_plan loop.inside turned) (turns_are w.own.place loop e (of_host k w loop e)) (hosted_load k w loop e)
-          (slice_get boxes.funcs k) refl (some_before boxes.funcs reader k (Some own) at.box_is w.before) ((r.hosted k w loop e).0 (same_self k))
+          by_box w (subst (λ (p : Place). IsComputed k p) (sym e) (produced_before pipeline schedule accepted k w.own w.there loop e)) (values_in consumer_plan loop.inside turned) (turns_are w.own.place loop e (of_consumer k w loop e)) (produced_load k w loop e)
+          (slice_get boxes.funcs k) refl (some_before boxes.funcs reader k (Some own) at.box_is w.before) ((r.produced k w loop e).0 (same_self k))
       by_place w places.Inlined e = absurd (true≢false (sym (flag_is schedule.standings k w.own w.there.standing ∙ ap is_inlined e) ∙ plain))
       by_place w places.Nowhere e = absurd (true≢false (sym (ap is_nowhere e) ∙ somewhere k w.before w.own w.there))
 
@@ -191,7 +191,7 @@ module _ (pipeline : Pipeline) (schedule : Schedule) (boxes : Boxes) (rules : Is
     all_load count list (record {
       inputs = λ k. (r.inputs k).1;
       roots = λ k standing before there root. (r.roots k standing before there root).1;
-      hosted = λ k w loop e. (r.hosted k w loop e).1;
+      produced = λ k w loop e. (r.produced k w loop e).1;
       through = r.through.1;
     }),
   )
@@ -212,13 +212,13 @@ module _ (pipeline : Pipeline) (schedule : Schedule) (boxes : Boxes) (rules : Is
     inputs = λ k. pure_reads_of_inputs_lie pipeline schedule boxes rules is reader func own at.func_is at.box_is found answers values below x y lies k;
     roots = λ k standing before there root.
         pure_reads_of_funcs_lie pipeline schedule boxes rules is reader func own at.func_is at.box_is k standing before there.standing there.reached (subst (λ (p : Place). IsComputed k p) (sym root) tt)
-        None (ap (λ (p : Place). host_in schedule boxes.funcs p) root) own refl found answers values below no_below x y lies;
-    hosted = λ k w loop e.
-        let same = of_host k w loop e in
-        pure_reads_in_loops_lie pipeline schedule boxes rules accepted is k w.own loop w.there.standing w.there.reached e host_func host_plan hosting
-        (ap (λ (n : ℕ). slice_get pipeline.funcs n) same ∙ host_at.func_is) (ap (λ (n : ℕ). slice_get schedule.funcs n) same ∙ host_at.plan_is) (ap (λ (n : ℕ). slice_get boxes.funcs n) same ∙ host_at.box_is)
+        None (ap (λ (p : Place). consumer_in schedule boxes.funcs p) root) own refl found answers values below no_below x y lies;
+    produced = λ k w loop e.
+        let same = of_consumer k w loop e in
+        pure_reads_in_loops_lie pipeline schedule boxes rules accepted is k w.own loop w.there.standing w.there.reached e consumer_func consumer_plan consuming
+        (ap (λ (n : ℕ). slice_get pipeline.funcs n) same ∙ consumer_at.func_is) (ap (λ (n : ℕ). slice_get schedule.funcs n) same ∙ consumer_at.plan_is) (ap (λ (n : ℕ). slice_get boxes.funcs n) same ∙ consumer_at.box_is)
         reader func at.standing own w.before at.func_is at.there.standing at.there.reached at.box_is found answers turned x y
-        (subst (λ (p : Place). MayBeArguments host_func host_plan hosting loop.inside turned p own x y) (sym at.placed_is) (may_be k w loop e));
+        (subst (λ (p : Place). MayBeArguments consumer_func consumer_plan consuming loop.inside turned p own x y) (sym at.placed_is) (may_be k w loop e));
     through = pure_points_are_read_through pipeline schedule rules reader func at.func_is found x y;
   }
 
@@ -247,13 +247,13 @@ module _ (pipeline : Pipeline) (schedule : Schedule) (boxes : Boxes) (rules : Is
       inputs = λ k. update_reads_of_inputs_lie pipeline schedule boxes rules is reader func own at.func_is at.box_is number_at update update_is found answers values below x y lies near.0 near.1 number few k;
       roots = λ k standing before there root.
           update_reads_of_funcs_lie pipeline schedule boxes rules is reader func own at.func_is at.box_is number_at update update_is k standing before there.standing there.reached
-          (subst (λ (p : Place). IsComputed k p) (sym root) tt) None (ap (λ (p : Place). host_in schedule boxes.funcs p) root) own refl found answers values below no_below x y lies near.0 near.1 number few;
-      hosted = λ k w loop e.
-          let same = of_host k w loop e in
-          update_reads_in_loops_lie pipeline schedule boxes rules accepted is k w.own loop w.there.standing w.there.reached e host_func host_plan hosting
-          (ap (λ (n : ℕ). slice_get pipeline.funcs n) same ∙ host_at.func_is) (ap (λ (n : ℕ). slice_get schedule.funcs n) same ∙ host_at.plan_is) (ap (λ (n : ℕ). slice_get boxes.funcs n) same ∙ host_at.box_is)
+          (subst (λ (p : Place). IsComputed k p) (sym root) tt) None (ap (λ (p : Place). consumer_in schedule boxes.funcs p) root) own refl found answers values below no_below x y lies near.0 near.1 number few;
+      produced = λ k w loop e.
+          let same = of_consumer k w loop e in
+          update_reads_in_loops_lie pipeline schedule boxes rules accepted is k w.own loop w.there.standing w.there.reached e consumer_func consumer_plan consuming
+          (ap (λ (n : ℕ). slice_get pipeline.funcs n) same ∙ consumer_at.func_is) (ap (λ (n : ℕ). slice_get schedule.funcs n) same ∙ consumer_at.plan_is) (ap (λ (n : ℕ). slice_get boxes.funcs n) same ∙ consumer_at.box_is)
           reader func at.standing own w.before at.func_is at.there.standing at.there.reached at.box_is number_at update update_is found answers turned x y
-          (subst (λ (p : Place). MayBeArguments host_func host_plan hosting loop.inside turned p own x y) (sym at.placed_is) (may_be k w loop e)) near.0 near.1 number few;
+          (subst (λ (p : Place). MayBeArguments consumer_func consumer_plan consuming loop.inside turned p own x y) (sym at.placed_is) (may_be k w loop e)) near.0 near.1 number few;
       through = update_points_are_read_through pipeline schedule rules reader func at.func_is unflagged number_at update update_is found number x y;
     }
 

@@ -1,4 +1,4 @@
--- Loops of a host: how many stand inside one, and what changes where one is in another turn.
+-- Loops of a consumer: how many stand inside one, and what changes where one is in another turn.
 use Rattle.std.proofs.Common.{◌≡◌, ℕ, zero, suc, ◌^◌, ◌<◌, ◌≤◌, Bool, true, false, cond, List, [], ◌∷◌, ◌++◌, length, take, drop, Option, Some, None, refl, sym, ap, subst, ◌∙◌, arith, inl, inr}
 use Rattle.std.specs.Prelude.{◌==◌, ◌&&◌, nat_lt, slice_get, bytes_eq, Contains}
 use Rattle.std.specs.List.{AllByRecursion}
@@ -7,22 +7,21 @@ use Rattle.std.proofs.lemmas.List.Elements.{Contains-append_left, Contains-appen
 use mathlib.Core.Path.{fun_ext}
 use Rattle.schedule_lines.specs.declared.stages.Loop.{Loop}
 use Rattle.schedule_lines.specs.declared.stages.LoopId.{LoopId}
-use Rattle.schedule_lines.specs.Loops.{find, same_id}
+use Rattle.schedule_lines.specs.Directives.{find, same_id}
 use Rattle.schedule_lines.specs.Making.{total}
 use Rattle.schedule.specs.Standing.{comes_first}
-use Rattle.schedule_loops.specs.Counts.{Values, with}
-use Rattle.schedule_loops.specs.Reach.{AreTurns}
-use Rattle.schedule_loops.specs.Visits.{upto, nest}
+use Rattle.schedule_loops.specs.Visits.{Values, with, upto, nest}
+use Rattle.schedule_loops.specs.Runs.{AreTurns}
 use Rattle.schedule_loops.proofs.Ids.{cases_id, same_id-true, same_id-self, with_same, with_other}
 use Rattle.schedule_loops.proofs.Making.{total-append}
 use Rattle.schedule_loops.proofs.Nesting.{has_id, has_same}
 use Rattle.schedule_loops.proofs.Selecting.{Unique}
 use Rattle.bounds.specs.Views.{inner_count}
-use Rattle.bounds_laws.specs.HostLaws.{turn_of, turn_at, turns_from}
+use Rattle.bounds_laws.specs.ConsumerLaws.{turn_of, turn_at, turns_from}
 use Rattle.loop_ir.specs.declared.expressions.Counter.{Counter}
 use Rattle.loop_ir.specs.Counters as counters
 use Rattle.lowering_nests.specs.Nests.{AreSmall}
-use Rattle.lowering.specs.Hosting.{hosting}
+use Rattle.lowering.specs.Consuming.{consuming}
 
 -- ---- loops inside one
 
@@ -144,15 +143,15 @@ module _ (inside : List Loop) (own : Loop) (outside : List Loop) (unique : Uniqu
 
 -- ---- values of counters
 
-pub hosting_with : (host : ℕ) (id : LoopId) (turn : ℕ) (turns : Values) → counters.with (record { func = host; id = id }) turn (hosting host turns) ≡ hosting host (with id turn turns)
-hosting_with host id turn turns = fun_ext (λ own. by_test own (own.func == host))
+pub consuming_with : (consumer : ℕ) (id : LoopId) (turn : ℕ) (turns : Values) → counters.with (record { func = consumer; id = id }) turn (consuming consumer turns) ≡ consuming consumer (with id turn turns)
+consuming_with consumer id turn turns = fun_ext (λ own. by_test own (own.func == consumer))
   where
     by_test : (own : Counter) (b : Bool) → cond (b && same_id own.id id) turn (cond b (turns own.id) 0) ≡ cond b (cond (same_id own.id id) turn (turns own.id)) 0
     by_test own true = refl
     by_test own false = refl
 
-pub hosting_none : (host : ℕ) → counters.no_values ≡ hosting host (λ id. 0)
-hosting_none host = fun_ext (λ own. by_test (own.func == host))
+pub consuming_none : (consumer : ℕ) → counters.no_values ≡ consuming consumer (λ id. 0)
+consuming_none consumer = fun_ext (λ own. by_test (own.func == consumer))
   where
     by_test : (b : Bool) → ◌≡◌ {A = ℕ} 0 (cond b 0 0)
     by_test true = refl

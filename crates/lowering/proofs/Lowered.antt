@@ -22,11 +22,11 @@ use Rattle.schedule_loops.proofs.AcceptedStages.{pair_at}
 use Rattle.bounds_ranges.specs.Laws.{Lies, AnswerWords}
 use Rattle.bounds.specs.declared.boxes.SourceBox.{SourceBox}
 use Rattle.bounds.specs.declared.verdict.Boxes.{Boxes}
-use Rattle.bounds.specs.Boxes.{box_in, no_loops, lasts_of, extent}
+use Rattle.bounds.specs.Boxes.{no_loops, lasts_of}
+use Rattle.bounds.specs.Extents.{box_in, extent, extents_of, word_at, corner_of}
 use Rattle.bounds.specs.Verdict.{inferred}
-use Rattle.bounds.specs.Views.{extents_of}
 use Rattle.bounds_laws.specs.Closure.{is_put_in, is_boxed}
-use Rattle.bounds_laws.specs.Laws.{LiesIn, IsBoxed, IsComputed, host_in}
+use Rattle.bounds_laws.specs.Laws.{LiesIn, IsBoxed, IsComputed, consumer_in}
 use Rattle.bounds_laws.proofs.BoxFacts.{HasBox, has_box}
 use Rattle.bounds_laws.proofs.Closure.{all_reads_are_held}
 use Rattle.bounds_laws.proofs.OwnReads.{output_lies}
@@ -37,8 +37,10 @@ use Rattle.lowering.specs.Lowered.{IsStagePhase, Pure, Updating, ArePhasesOf, No
 use Rattle.lowering.specs.Lowered as lowered
 use Rattle.lowering.specs.Order.{Tasks, DoPhases, None_left, Same, One_more, AgreeThere}
 use Rattle.lowering.specs.Phases.{DoesPhase}
-use Rattle.lowering.specs.Planes.{word_at, corner_of, held, has_point, box_points, owns}
-use Rattle.lowering.specs.PurePhases.{IsAtRoot, is_at_root}
+use Rattle.lowering.specs.Planes.{held, has_point, box_points}
+use Rattle.schedule_loops.specs.Visits.{owns}
+use Rattle.lowering.specs.PurePhases.{is_at_root}
+use Rattle.bounds.specs.Stages.{IsAtRoot}
 use Rattle.lowering.specs.Stages.{is_at_loop, is_private_in, is_private, after_stages, DoesStage}
 use Rattle.lowering.specs.Updates.{owns_update}
 use Rattle.lowering.proofs.InOrder.{phases_in_order}
@@ -280,7 +282,7 @@ module _ (pipeline : Pipeline) (schedule : Schedule) (boxes : Boxes) (rules : Is
     lasts_none =
         let b = has_box pipeline schedule boxes accepted is output box_found.own box_found.is in
         let same : b.standing ≡ own_standing.value = let p = b.there.standing in let q = own_standing.is in cc in
-        b.lasts ∙ (ap (λ (t : Standing). lasts_of (host_in schedule boxes.funcs t.place)) same ∙ ap (λ (p : Place). lasts_of (host_in schedule boxes.funcs p)) known.1)
+        b.lasts ∙ (ap (λ (t : Standing). lasts_of (consumer_in schedule boxes.funcs t.place)) same ∙ ap (λ (p : Place). lasts_of (consumer_in schedule boxes.funcs p)) known.1)
 
     lies : LiesIn no_loops box_found.own x y
     lies = subst (λ (e : Option (Option SourceBox)). IsBoxed no_loops e x y) box_found.is (output_lies pipeline schedule boxes rules is own_standing.value own_standing.is known.0 known.1 x y inside_x inside_y)

@@ -3,14 +3,14 @@ use Rattle.std.proofs.Common.{◌≡◌, ℕ, ◌+◌, ◌-◌, ◌%◌, ◌^◌
 use Rattle.halide_pipeline.specs.Words as word
 use Rattle.bounds_ranges.specs.declared.bases.Multiple.{Multiple}
 use Rattle.bounds_ranges.specs.declared.ranges.Range.{Range}
-use Rattle.bounds_ranges.specs.Bases.{more_sum, less_sum}
+use Rattle.bounds_ranges.specs.Ranges.{more_sum, less_sum, IsFit}
 use Rattle.bounds_ranges.specs.Laws.{Below, Lies}
 use Rattle.bounds_ranges.proofs.Sums.{more_below, less_below}
-use Rattle.bounds_ranges.specs.Ranges.{least, greatest, IsFit}
-use Rattle.bounds.specs.Boxes.{no_loops, extent}
-use Rattle.bounds_laws.specs.HostLaws.{IsFrom}
+use Rattle.bounds_ranges.specs.Numbers.{least, greatest}
+use Rattle.bounds.specs.Boxes.{no_loops}
+use Rattle.bounds.specs.Extents.{extent, word_at}
+use Rattle.bounds_laws.specs.ConsumerLaws.{IsFrom}
 use Rattle.lowering.specs.Corners.{first_of}
-use Rattle.lowering.specs.Planes.{word_at}
 
 -- ---- a box with no loops
 

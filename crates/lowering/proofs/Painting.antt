@@ -6,7 +6,7 @@ use Rattle.std.proofs.lemmas.Bool.{and_parts, and_from, eqb-true, eq-eqb, or_par
 use Rattle.halide_pipeline.specs.Pixel.{Plane, Planes}
 use Rattle.loop_ir.specs.Buffers.{Points, put}
 use Rattle.lowering_nests.specs.Nests.{all}
-use Rattle.lowering.specs.Hosting.{Keeps}
+use Rattle.lowering.specs.Consuming.{Keeps}
 
 -- ---- one point written
 

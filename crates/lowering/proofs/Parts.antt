@@ -12,8 +12,9 @@ use Rattle.schedule.specs.declared.standings.Standing.{Standing}
 use Rattle.schedule.specs.Legal.{is_root}
 use Rattle.bounds.specs.declared.boxes.SourceBox.{SourceBox}
 use Rattle.bounds.specs.declared.verdict.Boxes.{Boxes}
-use Rattle.bounds.specs.Boxes.{box_in}
-use Rattle.lowering.specs.PurePhases.{IsAtRoot, is_at_root}
+use Rattle.bounds.specs.Extents.{box_in}
+use Rattle.lowering.specs.PurePhases.{is_at_root}
+use Rattle.bounds.specs.Stages.{IsAtRoot}
 
 root_is : (place : Place) → is_root place ≡ true → place ≡ places.Root
 root_is places.Root e = refl

@@ -7,9 +7,8 @@ use Rattle.halide_pipeline.specs.declared.definitions.Func.{Func}
 use Rattle.halide_pipeline.specs.declared.expressions.Source.{Source}
 use Rattle.halide_pipeline.specs.declared.expressions.Source.TheVariants as sources
 use Rattle.halide_pipeline.specs.declared.expressions.Variable.TheVariants as variables
-use Rattle.halide_pipeline.specs.Definitions.{dimensions}
+use Rattle.halide_pipeline.specs.WellFormed.{dimensions, IsWellFormed, is_argument}
 use Rattle.halide_pipeline.specs.Pipelines.{Pipeline}
-use Rattle.halide_pipeline.specs.WellFormed.{IsWellFormed, is_argument}
 use Rattle.halide_pipeline.specs.Words as word
 use Rattle.halide_pipeline.specs.Pixel.{Reads, at_point}
 use Rattle.halide_pipeline.specs.Points.{Point, Hold}
@@ -32,7 +31,8 @@ use Rattle.loop_ir.specs.Rounds.{Rounds, everywhere, all_points, all_but, is_sou
 use Rattle.loop_ir.specs.Soundness.{is_sound, store_loads}
 use Rattle.loop_ir.proofs.Rounds.{rounds_store}
 use Rattle.loop_ir.proofs.Sound.{sound_store}
-use Rattle.lowering_nests.specs.Rounds.{IsLeaf, LoadsNoneOf, MayBeUnder, is_vectorized_loop}
+use Rattle.lowering_nests.specs.Rounds.{IsLeaf, LoadsNoneOf, MayBeUnder}
+use Rattle.schedule_loops.specs.Runs.{is_vectorized_loop}
 use Rattle.lowering_expressions.specs.declared.calls.Corner.{Corner}
 use Rattle.lowering_expressions.specs.Lowering.{placed, place as place_in}
 use Rattle.lowering.specs.PurePhases.{IsSoundPure, whole_at}

@@ -10,12 +10,13 @@ use Rattle.schedule.specs.declared.standings.Standing.{Standing}
 use Rattle.schedule.specs.Uses.{IsReached}
 use Rattle.bounds.specs.declared.boxes.SourceBox.{SourceBox}
 use Rattle.bounds.specs.declared.verdict.Boxes.{Boxes}
-use Rattle.bounds.specs.Views.{extents_of}
+use Rattle.bounds.specs.Extents.{extents_of}
 use Rattle.loop_ir.specs.declared.statements.Phase.{Phase}
 use Rattle.loop_ir.specs.Running.{run_task}
 use Rattle.lowering.specs.Phases.{DoesPhase}
-use Rattle.lowering.specs.Planes.{held, box_points, owns}
-use Rattle.lowering.specs.PurePhases.{DoesPure, HostedArePrivate, RootsAreShared}
+use Rattle.lowering.specs.Planes.{held, box_points}
+use Rattle.schedule_loops.specs.Visits.{owns}
+use Rattle.lowering.specs.PurePhases.{DoesPure, ProducedArePrivate, RootsAreShared}
 use Rattle.lowering.specs.Stages.{is_private, is_private_in, is_at_loop, DoesStage}
 
 found_is : (standings : List Standing) (place : ℕ) (own : Standing) → IsReached standings place own → is_private standings place ≡ is_at_loop own.place
@@ -24,8 +25,8 @@ found_is standings place own there = ap is_private_in there.standing ∙ ap (λ 
 roots_are_shared : (standings : List Standing) → RootsAreShared standings (is_private standings)
 roots_are_shared standings other own there root = found_is standings other own there ∙ ap is_at_loop root
 
-hosted_are_private : (standings : List Standing) (host : ℕ) → HostedArePrivate standings (is_private standings) host
-hosted_are_private standings host place own at there placed same = found_is standings place own there ∙ ap is_at_loop placed
+produced_are_private : (standings : List Standing) (consumer : ℕ) → ProducedArePrivate standings (is_private standings) consumer
+produced_are_private standings consumer place own at there placed same = found_is standings place own there ∙ ap is_at_loop placed
 
 first_stage : (place : ℕ) (func : Func) (inputs earlier : Planes) → pure_plane func.pure inputs earlier ≡ stage place func inputs earlier 0
 unfolding stage
@@ -38,4 +39,4 @@ does_stage pipeline schedule boxes place func plan own phase does inputs begun =
     subst (λ (p : Plane). DoesPhase (box_points boxes.funcs) (is_private schedule.standings) place (held boxes.funcs (pixels pipeline.funcs inputs place))
     (held boxes.funcs (with_plane place p (pixels pipeline.funcs inputs place))) phase.tasks (owns (extents_of own) plan.pure) (run_task (box_points boxes.funcs) inputs phase))
     (first_stage place func inputs (pixels pipeline.funcs inputs place))
-    (does (is_private schedule.standings) (roots_are_shared schedule.standings) (hosted_are_private schedule.standings place) inputs begun)
+    (does (is_private schedule.standings) (roots_are_shared schedule.standings) (produced_are_private schedule.standings place) inputs begun)

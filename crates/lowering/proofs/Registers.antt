@@ -12,12 +12,10 @@ use Rattle.halide_pipeline.specs.declared.expressions.Expr.TheOpen as layer
 use Rattle.halide_pipeline.specs.declared.expressions.Source.{Source}
 use Rattle.halide_pipeline.specs.declared.expressions.Source.TheVariants as sources
 use Rattle.halide_pipeline.specs.declared.expressions.Variable.{Variable}
-use Rattle.halide_pipeline.specs.Definitions.{dimensions}
+use Rattle.halide_pipeline.specs.WellFormed.{dimensions, IsWellFormed, keeps, keeps_index, is_read, is_func_of, is_divisor, is_argument, is_update_variable, most_number}
 use Rattle.halide_pipeline.specs.Pipelines.{Pipeline}
-use Rattle.halide_pipeline.specs.WellFormed.{IsWellFormed, keeps, keeps_index, is_read, is_func_of, is_divisor, is_argument, is_update_variable, most_number}
-use Rattle.bounds_inlining.specs.Inlining.{Algebra, answer, answered, flagged, func_in, inside, inlined, made_in, through, through_at}
+use Rattle.bounds_inlining.specs.Inlining.{Algebra, answer, answered, flagged, func_in, inside, inlined, made_in, through, through_at, needing}
 use Rattle.bounds_inlining.specs.Laws.{RelatesLevels}
-use Rattle.bounds_inlining.specs.Weights.{needing}
 use Rattle.bounds_inlining.proofs.Kept.{folds_are_related}
 use Rattle.bounds_inlining.proofs.KeptFolds.{KeptLevels, kept_folds_related}
 use Rattle.bounds_inlining.proofs.Steps.{inside_is}
@@ -32,12 +30,11 @@ use Rattle.schedule_lines.specs.declared.stages.Loop.{Loop}
 use Rattle.schedule_lines.specs.declared.stages.Split.{Split}
 use Rattle.schedule_lines.specs.declared.stages.Stage.{Stage}
 use Rattle.schedule_loops.specs.declared.extents.Extents.{Extents}
-use Rattle.schedule_loops.specs.Counts.{counts, AreSplits}
-use Rattle.schedule_loops.specs.Iterations as iterations
+use Rattle.schedule_loops.specs.Visits.{counts, AreSplits}
+use Rattle.schedule_loops.specs.Visits as iterations
 use Rattle.lowering_nests.specs.Nests.{AreFew}
 use Rattle.lowering_nests.proofs.Few.{few_turns}
-use Rattle.bounds_weights.specs.Need.{need_in, second_need, update_need, updates_needs, func_needs, computed_needs, funcs_needs, needs, no_needs}
-use Rattle.bounds_weights.specs.Weight.{flags_of, is_computed}
+use Rattle.bounds_weights.specs.Weight.{need_in, second_need, update_need, updates_needs, func_needs, computed_needs, funcs_needs, needs, no_needs, flags_of, is_computed}
 use Rattle.bounds_laws.specs.Laws.{IsComputed}
 use Rattle.loop_ir.specs.declared.expressions.Expr as loop
 use Rattle.loop_ir.specs.declared.expressions.Expr.TheVariants as e

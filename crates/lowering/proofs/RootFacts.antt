@@ -17,24 +17,24 @@ use Rattle.bounds_ranges.specs.Laws.{Lies}
 use Rattle.bounds_ranges.specs.Ranges.{IsFit}
 use Rattle.bounds.specs.declared.boxes.SourceBox.{SourceBox}
 use Rattle.bounds.specs.declared.verdict.Boxes.{Boxes}
-use Rattle.bounds.specs.Boxes.{IsBox, no_loops, extent}
+use Rattle.bounds.specs.Boxes.{IsBox, no_loops}
+use Rattle.bounds.specs.Extents.{extent, word_at}
 use Rattle.bounds.specs.Verdict.{inferred}
-use Rattle.bounds_laws.specs.HostLaws.{IsFrom}
+use Rattle.bounds_laws.specs.ConsumerLaws.{IsFrom}
 use Rattle.bounds_laws.proofs.Found.{no_below}
 use Rattle.loop_ir.specs.Counters.{Values}
 use Rattle.loop_ir.specs.Expressions.{linear_value}
 use Rattle.lowering_expressions.specs.declared.calls.Corner.{Corner}
 use Rattle.lowering.specs.Corners.{IsCornerOf, AreCorners}
-use Rattle.lowering.specs.Planes.{word_at}
-use Rattle.lowering.specs.PurePhases.{IsAtRoot}
+use Rattle.bounds.specs.Stages.{IsAtRoot}
 use Rattle.lowering.proofs.Facts as facts
 use Rattle.lowering.proofs.Offsets.{more_none, less_none, first_none, from_first_on}
 use Rattle.lowering.proofs.Offsets as offsets
 use Rattle.lowering.proofs.Values.{corner_at}
 
 -- No Func that the output reaches is computed at one of its loops.
-abbrev pub HostsNone : List Standing → ℕ → Type 0
-HostsNone standings place = (other : ℕ) (own : Standing) (at : LoopPlace) → IsReached standings other own → own.place ≡ places.At at → at.func ≡ place → ⊥
+abbrev pub ConsumersNone : List Standing → ℕ → Type 0
+ConsumersNone standings place = (other : ℕ) (own : Standing) (at : LoopPlace) → IsReached standings other own → own.place ≡ places.At at → at.func ≡ place → ⊥
 
 -- ---- boxes
 

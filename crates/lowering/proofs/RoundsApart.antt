@@ -9,10 +9,9 @@ use Rattle.halide_pipeline.specs.declared.definitions.Reduction.{Reduction}
 use Rattle.halide_pipeline.specs.declared.definitions.Update.{Update}
 use Rattle.halide_pipeline.specs.declared.expressions.Variable.{Variable}
 use Rattle.halide_pipeline.specs.declared.expressions.Variable.TheVariants as variables
-use Rattle.halide_pipeline.specs.Definitions.{is_first_in_place, is_second_in_place}
+use Rattle.halide_pipeline.specs.WellFormed.{is_first_in_place, is_second_in_place, IsWellFormed, is_box}
 use Rattle.halide_pipeline.specs.Expressions.{same_variable}
 use Rattle.halide_pipeline.specs.Pipelines.{Pipeline}
-use Rattle.halide_pipeline.specs.WellFormed.{IsWellFormed, is_box}
 use Rattle.halide_pipeline.specs.Words as word
 use Rattle.halide_pipeline.specs.Pixel.{Reads, second_value}
 use Rattle.schedule_lines.specs.declared.stages.Loop.{Loop}
@@ -20,13 +19,14 @@ use Rattle.schedule_lines.specs.declared.stages.LoopId.{LoopId}
 use Rattle.schedule_lines.specs.declared.stages.LoopId.TheVariants as ids
 use Rattle.schedule_lines.specs.declared.stages.Split.{Split}
 use Rattle.schedule_lines.specs.declared.stages.Stage.{Stage}
-use Rattle.schedule_lines.specs.Loops.{is_reduction}
+use Rattle.schedule_lines.specs.Directives.{is_reduction}
 use Rattle.schedule_lines.specs.Making.{total}
 use Rattle.schedule.specs.declared.schedules.Schedule.{Schedule}
 use Rattle.schedule_loops.specs.declared.extents.Extents.{Extents}
-use Rattle.schedule_loops.specs.Counts as loops
-use Rattle.schedule_loops.specs.Counts.{counts, strides, is_uneven, extent_of}
-use Rattle.schedule_loops.specs.Reach.{AreTurns, AgreeWhereUneven, base, wholes}
+use Rattle.schedule_loops.specs.Visits as loops
+use Rattle.schedule_loops.specs.Visits.{counts, strides, is_uneven, extent_of}
+use Rattle.schedule_loops.specs.Reach.{AgreeWhereUneven, base, wholes}
+use Rattle.schedule_loops.specs.Runs.{AreTurns, is_vectorized_loop}
 use Rattle.schedule_loops.specs.Stages.{IsStageOf, KeepsRules, first_loops, has_variable}
 use Rattle.schedule_loops.proofs.Bounded.{within}
 use Rattle.schedule_loops.proofs.Ids.{cases_id, same_variable-self, with_other, with_same}
@@ -38,11 +38,12 @@ use Rattle.loop_ir.specs.declared.statements.Stmt.{Stmt}
 use Rattle.loop_ir.specs.Counters.{Values}
 use Rattle.loop_ir.specs.Expressions.{linear_value}
 use Rattle.lowering_nests.specs.Nests.{AreFew, loops_of, put_loops}
-use Rattle.lowering_nests.specs.Rounds.{LoadsNoneOf, MayBeUnder, is_vectorized_loop}
+use Rattle.lowering_nests.specs.Rounds.{LoadsNoneOf, MayBeUnder}
 use Rattle.lowering_nests.proofs.Rounds.{turns_more}
 use Rattle.lowering_expressions.specs.declared.calls.Corner.{Corner}
 use Rattle.lowering.specs.PurePhases.{whole_at}
-use Rattle.lowering.specs.Updates.{IsSoundUpdate, second_reduced, update_extents}
+use Rattle.lowering.specs.Updates.{IsSoundUpdate, second_reduced}
+use Rattle.bounds.specs.Extents.{update_extents}
 use Rattle.schedule.specs.declared.standings.Place.TheVariants as places
 use Rattle.schedule.specs.declared.standings.Standing.{Standing}
 use Rattle.bounds.specs.declared.verdict.Boxes.{Boxes}

@@ -7,13 +7,13 @@ use mathlib.Core.Path.{fun_ext}
 use Rattle.schedule_lines.specs.declared.stages.Loop.{Loop}
 use Rattle.schedule_lines.specs.declared.stages.LoopId.{LoopId}
 use Rattle.schedule_lines.specs.declared.stages.Stage.{Stage}
-use Rattle.schedule_lines.specs.Loops.{same_id}
+use Rattle.schedule_lines.specs.Directives.{same_id}
 use Rattle.schedule_loops.specs.declared.extents.Extents.{Extents}
-use Rattle.schedule_loops.specs.Counts as loops
-use Rattle.schedule_loops.specs.Reach.{AreTurns}
+use Rattle.schedule_loops.specs.Visits as loops
+use Rattle.schedule_loops.specs.Runs.{AreTurns, innermost, outside_innermost, is_among, turns_of, run_of, runs, are_turns}
 use Rattle.schedule_loops.specs.Visits.{Visit, upto, nest, over_loops, visit_of, zeros}
 use Rattle.schedule_loops.proofs.Ids.{cases_id, same_id-true, with_same, with_other}
-use Rattle.lowering.specs.Runs.{innermost, outside_innermost, is_among, turns_of, run_of, runs, are_turns, IsRunOf, RunsAreListed}
+use Rattle.lowering.specs.Runs.{IsRunOf, RunsAreListed}
 use Rattle.lowering.proofs.LoopTurns.{contains_upto}
 
 -- ---- turns of some loops alone

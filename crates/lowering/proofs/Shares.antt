@@ -1,4 +1,4 @@
--- What a host's loops ask for with the nests at them, and what all phases do: each Func at a loop stands at one loop of one host.
+-- What a consumer's loops ask for with the nests at them, and what all phases do: each Func at a loop stands at one loop of one consumer.
 use Rattle.std.proofs.Common.{◌≡◌, ℕ, zero, suc, ◌+◌, ◌*◌, ◌-◌, ◌<◌, ◌≤◌, Bool, true, false, List, [], ◌∷◌, ◌++◌, length, Option, Some, None, refl, sym, ap, subst, ◌∙◌, arith, inl, inr, length-append, append_assoc, append-nil}
 use Rattle.std.specs.Prelude.{◌==◌, ◌&&◌, if◌then◌else◌, slice_get, not}
 use Rattle.std.proofs.lemmas.Bool.{and_from}
@@ -11,7 +11,7 @@ use Rattle.halide_pipeline.specs.Pipelines.{Pipeline}
 use Rattle.schedule_lines.specs.declared.stages.Loop.{Loop}
 use Rattle.schedule_lines.specs.declared.stages.Stage.{Stage}
 use Rattle.schedule_lines.specs.declared.stages.Mark.TheVariants as marks
-use Rattle.schedule_lines.specs.Loops.{is_marked, same_id}
+use Rattle.schedule_lines.specs.Directives.{is_marked, same_id}
 use Rattle.schedule_lines.specs.Making.{total}
 use Rattle.schedule.specs.declared.plans.FuncPlan.{FuncPlan}
 use Rattle.schedule.specs.declared.schedules.Schedule.{Schedule}
@@ -20,25 +20,25 @@ use Rattle.schedule.specs.declared.standings.Place.{Place}
 use Rattle.schedule.specs.declared.standings.Place.TheVariants as places
 use Rattle.schedule.specs.declared.standings.Standing.{Standing}
 use Rattle.schedule_loops.specs.declared.extents.Extents.{Extents}
-use Rattle.schedule_loops.specs.Counts as loops
-use Rattle.schedule_loops.specs.Iterations.{parallel}
+use Rattle.schedule_loops.specs.Visits as loops
+use Rattle.schedule_loops.specs.Visits.{parallel}
 use Rattle.schedule_loops.specs.Stages.{KeepsRules}
 use Rattle.schedule_loops.proofs.Ids.{same_id-self, cases_id}
 use Rattle.schedule_loops.proofs.Nesting.{has_id}
 use Rattle.schedule_loops.proofs.Selecting.{Unique}
 use Rattle.schedule.specs.Legal.{is_inlined, is_root}
-use Rattle.bounds_weights.specs.Copies.{copies, all_copies, host_copies, copies_from}
-use Rattle.bounds_weights.specs.Weight.{flags_of, is_computed, update_nodes, stage_weight}
+use Rattle.bounds_weights.specs.Weight.{copies, all_copies, consumer_copies, copies_from, flags_of, is_computed, update_nodes, stage_weight}
 use Rattle.bounds.specs.declared.boxes.SourceBox.{SourceBox}
 use Rattle.bounds.specs.declared.verdict.Boxes.{Boxes}
 use Rattle.loop_ir.specs.declared.statements.Phase.{Phase}
 use Rattle.loop_ir.specs.declared.statements.Stmt.{Stmt}
 use Rattle.loop_ir.specs.Sizes.{loop_room, whole_size}
-use Rattle.lowering.specs.HostedFuncs.{is_computed_at, is_at_loop, is_at_loop_of}
-use Rattle.lowering.specs.Hosting.{IsNestAt, IsNestOf, HasNests, None_left, One_more, HasLoops, No_loops, One_outside, HasOutermost, IsBody, size_first}
-use Rattle.lowering.specs.PurePhases.{IsAtRoot, is_at_root, inside_of}
+use Rattle.lowering.specs.ProducedFuncs.{is_computed_at, is_at_loop, is_at_loop_of}
+use Rattle.lowering.specs.Consuming.{IsNestAt, IsNestOf, HasNests, None_left, One_more, HasLoops, No_loops, One_outside, HasOutermost, IsBody, size_first}
+use Rattle.lowering.specs.PurePhases.{is_at_root, inside_of}
+use Rattle.bounds.specs.Stages.{IsAtRoot}
 use Rattle.lowering.specs.Lowered as lowered
-use Rattle.lowering.specs.Sizes.{IsLight, update_share, shares, func_share, placed_share, phase_share, words_of, summed, hosted_share, hosted_shares}
+use Rattle.lowering.specs.Sizes.{IsLight, update_share, shares, func_share, placed_share, phase_share, words_of, summed, produced_share, produced_shares}
 use Rattle.schedule.specs.Standing.{pure_loops_of}
 use Rattle.lowering.proofs.Copies.{ArePaid, Paid, times-most, times-some, copies-some, loop-paid, last-copies, paid-at, copies-at}
 use Rattle.lowering.proofs.TaskRounds.{outside_of, loops_by}
@@ -90,8 +90,8 @@ module _ (pipeline : Pipeline) (schedule : Schedule) (boxes : Boxes) where
   abbrev share_at : LoopPlace → ℕ → ℕ
   share_at at place = loop_share at (slice_get pipeline.funcs place) (slice_get schedule.funcs place) (slice_get schedule.standings place)
 
-  abbrev hosted_at : ℕ → ℕ → ℕ
-  hosted_at host place = hosted_share flags pipeline.funcs schedule.funcs host (slice_get pipeline.funcs place) (slice_get schedule.funcs place) (slice_get schedule.standings place)
+  abbrev produced_at : ℕ → ℕ → ℕ
+  produced_at consumer place = produced_share flags pipeline.funcs schedule.funcs consumer (slice_get pipeline.funcs place) (slice_get schedule.funcs place) (slice_get schedule.standings place)
 
   abbrev count : ℕ
   count = length schedule.standings
@@ -101,7 +101,7 @@ module _ (pipeline : Pipeline) (schedule : Schedule) (boxes : Boxes) where
       and_from own.is_reached (is_at_loop at own.place) reached (ap (is_at_loop at) is ∙ and_from (at.func == at.func) (same_id at.inside at.inside) (grind (arith, nat_tests)) (same_id-self at.inside))
 
   -- the nests of a Func at a loop, in each copy of the code around them
-  module _ (at : LoopPlace) (copied : ℕ) (copied_is : host_copies schedule.funcs (places.At at) ≡ copied) where
+  module _ (at : LoopPlace) (copied : ℕ) (copied_is : consumer_copies schedule.funcs (places.At at) ≡ copied) where
     nest-size : (place : ℕ) (made : Stmt) → IsNestOf pipeline schedule boxes at place made → whole_size made * copied ≤ 64 * share_at at place
     nest-size place made is =
         let own = is.parts.standing in
@@ -112,7 +112,7 @@ module _ (pipeline : Pipeline) (schedule : Schedule) (boxes : Boxes) where
         ∙ ap (λ (t : Bool). if t then placed_share flags pipeline.funcs schedule.funcs is.func is.plan own else 0) (computed-there at own is.parts.there.reached is.parts.placed_is) in
         let whole = func_share flags pipeline.funcs is.func is.plan in
         let here : placed_share flags pipeline.funcs schedule.funcs is.func is.plan own ≡ whole * copied
-        = ap (λ (p : Place). whole * host_copies schedule.funcs p) is.parts.placed_is ∙ ap (λ (n : ℕ). whole * n) copied_is in
+        = ap (λ (p : Place). whole * consumer_copies schedule.funcs p) is.parts.placed_is ∙ ap (λ (n : ℕ). whole * n) copied_is in
         let l = times-most (whole_size made) (64 * whole) copied is.small in
         let a = mul_assoc 64 whole copied in
         omega (arith, shared, here, l, a)
@@ -142,32 +142,32 @@ module _ (pipeline : Pipeline) (schedule : Schedule) (boxes : Boxes) where
         let r = nests-size (suc from) inside rest others n (omega (arith, most)) in
         omega (arith, e, f, r)
 
-  -- all that are at these loops of a host
+  -- all that are at these loops of a consumer
   abbrev sums : ℕ → Option Func → Option FuncPlan → Option Standing → List Loop → ℕ
-  sums host func plan own [] = 0
-  sums host func plan own (first ∷ others) = loop_share (record { func = host; inside = first.id }) func plan own + sums host func plan own others
+  sums consumer func plan own [] = 0
+  sums consumer func plan own (first ∷ others) = loop_share (record { func = consumer; inside = first.id }) func plan own + sums consumer func plan own others
 
   abbrev around : ℕ → List Loop → ℕ → ℕ
-  around host own place = sums host (slice_get pipeline.funcs place) (slice_get schedule.funcs place) (slice_get schedule.standings place) own
+  around consumer own place = sums consumer (slice_get pipeline.funcs place) (slice_get schedule.funcs place) (slice_get schedule.standings place) own
 
-  around-append : (host : ℕ) (inside outside : List Loop) (place : ℕ) → around host (inside ++ outside) place ≡ around host inside place + around host outside place
-  around-append host [] outside place = omega arith
-  around-append host (own ∷ inside) outside place = omega (arith, around-append host inside outside place)
+  around-append : (consumer : ℕ) (inside outside : List Loop) (place : ℕ) → around consumer (inside ++ outside) place ≡ around consumer inside place + around consumer outside place
+  around-append consumer [] outside place = omega arith
+  around-append consumer (own ∷ inside) outside place = omega (arith, around-append consumer inside outside place)
 
-  around-summed : (host : ℕ) (inside : List Loop) (own : Loop) (n : ℕ)
-      → summed (around host (inside ++ own ∷ [])) 0 n ≤ summed (around host inside) 0 n + summed (share_at (record { func = host; inside = own.id })) 0 n
-  around-summed host inside own n =
-      let l = summed-most (around host (inside ++ own ∷ [])) (λ k. around host inside k + share_at (record { func = host; inside = own.id }) k)
-      (λ k. let e = around-append host inside (own ∷ []) k in omega (arith, e)) 0 n in
-      let m = summed-more (around host inside) (share_at (record { func = host; inside = own.id })) 0 n in
+  around-summed : (consumer : ℕ) (inside : List Loop) (own : Loop) (n : ℕ)
+      → summed (around consumer (inside ++ own ∷ [])) 0 n ≤ summed (around consumer inside) 0 n + summed (share_at (record { func = consumer; inside = own.id })) 0 n
+  around-summed consumer inside own n =
+      let l = summed-most (around consumer (inside ++ own ∷ [])) (λ k. around consumer inside k + share_at (record { func = consumer; inside = own.id }) k)
+      (λ k. let e = around-append consumer inside (own ∷ []) k in omega (arith, e)) 0 n in
+      let m = summed-more (around consumer inside) (share_at (record { func = consumer; inside = own.id })) 0 n in
       omega (arith, l, m)
 
-  summed-around : (host : ℕ) (inside : List Loop) (own : Loop) (n : ℕ)
-      → summed (around host inside) 0 n + summed (share_at (record { func = host; inside = own.id })) 0 n ≤ summed (around host (inside ++ own ∷ [])) 0 n
-  summed-around host inside own n =
-      let l = summed-most (λ k. around host inside k + share_at (record { func = host; inside = own.id }) k) (around host (inside ++ own ∷ []))
-      (λ k. let e = around-append host inside (own ∷ []) k in omega (arith, e)) 0 n in
-      let m = summed-more (around host inside) (share_at (record { func = host; inside = own.id })) 0 n in
+  summed-around : (consumer : ℕ) (inside : List Loop) (own : Loop) (n : ℕ)
+      → summed (around consumer inside) 0 n + summed (share_at (record { func = consumer; inside = own.id })) 0 n ≤ summed (around consumer (inside ++ own ∷ [])) 0 n
+  summed-around consumer inside own n =
+      let l = summed-most (λ k. around consumer inside k + share_at (record { func = consumer; inside = own.id }) k) (around consumer (inside ++ own ∷ []))
+      (λ k. let e = around-append consumer inside (own ∷ []) k in omega (arith, e)) 0 n in
+      let m = summed-more (around consumer inside) (share_at (record { func = consumer; inside = own.id })) 0 n in
       omega (arith, l, m)
 
   -- what stands in a loop is made in each of its copies
@@ -179,13 +179,13 @@ module _ (pipeline : Pipeline) (schedule : Schedule) (boxes : Boxes) where
       let f = ap (λ (z : ℕ). all * z) (let g : leaf + 39 * suc loops ≡ leaf + 39 * loops + 39 = omega arith in g) ∙ mul-add all (leaf + 39 * loops) 39 in
       omega (arith, t, e, f, some, more, so_far)
 
-  module _ (host : ℕ) (counts : loops.Values) (all : List Loop) (paid : ArePaid counts all) (unique : Unique all) (all_is : pure_loops_of (slice_get schedule.funcs host) ≡ all) where
-    copied-here : (inside : List Loop) (own : Loop) (outside : List Loop) → inside ++ own ∷ outside ≡ all → host_copies schedule.funcs (places.At (record { func = host; inside = own.id })) ≡ copies own * all_copies outside
+  module _ (consumer : ℕ) (counts : loops.Values) (all : List Loop) (paid : ArePaid counts all) (unique : Unique all) (all_is : pure_loops_of (slice_get schedule.funcs consumer) ≡ all) where
+    copied-here : (inside : List Loop) (own : Loop) (outside : List Loop) → inside ++ own ∷ outside ≡ all → consumer_copies schedule.funcs (places.At (record { func = consumer; inside = own.id })) ≡ copies own * all_copies outside
     copied-here inside own outside e =
         ap (copies_from own.id) (all_is ∙ sym e) ∙ copies-at inside own outside (subst Unique (sym e) unique)
 
-    loops-size : (leaf : Stmt) (own : List Loop) (made : Stmt) → HasLoops pipeline schedule boxes host counts leaf own made → (outside : List Loop) → own ++ outside ≡ all
-        → whole_size made * all_copies outside ≤ all_copies all * (whole_size leaf + 39 * length own) + 64 * summed (around host own) 0 count
+    loops-size : (leaf : Stmt) (own : List Loop) (made : Stmt) → HasLoops pipeline schedule boxes consumer counts leaf own made → (outside : List Loop) → own ++ outside ≡ all
+        → whole_size made * all_copies outside ≤ all_copies all * (whole_size leaf + 39 * length own) + 64 * summed (around consumer own) 0 count
     loops-size leaf _ _ No_loops outside e =
         let k : whole_size leaf * all_copies outside ≡ whole_size leaf * all_copies all = ap (λ (ls : List Loop). whole_size leaf * all_copies ls) e in
         let c = mul_comm (whole_size leaf) (all_copies all) in
@@ -196,30 +196,30 @@ module _ (pipeline : Pipeline) (schedule : Schedule) (boxes : Boxes) where
         let all_paid : ArePaid counts (inside ++ own ∷ outside) = subst (ArePaid counts) (sym here) paid in
         let few = loop-paid counts own (whole_size body) (paid-at counts inside own outside all_paid) in
         let size = does.size_is in
-        let n = nests-size (record { func = host; inside = own.id }) (copies own * all_copies outside) (copied-here inside own outside here) 0 inner body nests count (omega arith) in
+        let n = nests-size (record { func = consumer; inside = own.id }) (copies own * all_copies outside) (copied-here inside own outside here) 0 inner body nests count (omega arith) in
         let i = loops-size leaf inside inner has (own ∷ outside) here in
         let c = last-copies counts inside (own ∷ outside) all_paid in
         let ca = ap all_copies here in
         let l = length-append inside (own ∷ []) in
-        let s = summed-around host inside own count in
+        let s = summed-around consumer inside own count in
         let p = around-paid (whole_size made) (whole_size body) (whole_size inner) (copies own) (all_copies outside) (all_copies all) (whole_size leaf) (length inside)
-        (64 * summed (share_at (record { func = host; inside = own.id })) 0 count) (64 * summed (around host inside) 0 count) (omega (arith, few, size)) n (omega (arith, c, ca)) i in
+        (64 * summed (share_at (record { func = consumer; inside = own.id })) 0 count) (64 * summed (around consumer inside) 0 count) (omega (arith, few, size)) n (omega (arith, c, ca)) i in
         let m : length (inside ++ own ∷ []) ≡ suc (length inside) = omega (arith, l) in
         let f = ap (λ (k : ℕ). all_copies all * (whole_size leaf + 39 * k)) m in
         omega (arith, p, f, s)
 
-  -- ---- each Func at a loop of the host stands at one of its loops
+  -- ---- each Func at a loop of the consumer stands at one of its loops
 
-  module _ (host whole : ℕ) (reached : Bool) where
+  module _ (consumer whole : ℕ) (reached : Bool) where
     abbrev one : Place → Loop → ℕ
-    one place loop = if reached && is_at_loop (record { func = host; inside = loop.id }) place then whole else 0
+    one place loop = if reached && is_at_loop (record { func = consumer; inside = loop.id }) place then whole else 0
 
     abbrev among : Place → List Loop → ℕ
     among place [] = 0
     among place (first ∷ others) = one place first + among place others
 
     abbrev once : Place → ℕ
-    once place = if reached && is_at_loop_of host place then whole else 0
+    once place = if reached && is_at_loop_of consumer place then whole else 0
 
     nowhere : (b : Bool) → (if b && false then whole else 0) ≡ 0
     nowhere true = refl
@@ -244,7 +244,7 @@ module _ (pipeline : Pipeline) (schedule : Schedule) (boxes : Boxes) where
       is-one loop e = ap (λ (t : Bool). if t then 1 else 0) (ap (same_id loop.id) e ∙ same_id-self loop.id)
 
       not-one : (loop : Loop) → same_id at.inside loop.id ≡ false → one placed loop ≡ 0
-      not-one loop d = ap (λ (t : Bool). if reached && (at.func == host && t) then whole else 0) d ∙ elsewhere reached (at.func == host)
+      not-one loop d = ap (λ (t : Bool). if reached && (at.func == consumer && t) then whole else 0) d ∙ elsewhere reached (at.func == consumer)
 
       among-none : (own : List Loop) → total (has_id at.inside) own ≡ 0 → among placed own ≡ 0
       among-none [] none = refl
@@ -259,7 +259,7 @@ module _ (pipeline : Pipeline) (schedule : Schedule) (boxes : Boxes) where
         | inl e ↦
             let i = is-one loop e in
             let z = among-none others (omega (arith, i, few)) in
-            let l = here-most reached (at.func == host) (same_id at.inside loop.id) in
+            let l = here-most reached (at.func == consumer) (same_id at.inside loop.id) in
             omega (arith, z, l)
         | inr d ↦ let z = not-one loop d in let r = among-few others (omega (arith, few)) in omega (arith, z, r)
       ]
@@ -274,32 +274,32 @@ module _ (pipeline : Pipeline) (schedule : Schedule) (boxes : Boxes) where
     among-once places.Inlined own unique = let z = among-nowhere places.Inlined (λ loop. nowhere reached) own in omega (arith, z)
     among-once places.Nowhere own unique = let z = among-nowhere places.Nowhere (λ loop. nowhere reached) own in omega (arith, z)
 
-  sums-none : (host : ℕ) (func : Option Func) (plan : Option FuncPlan) (own : Option Standing) → ((at : LoopPlace) → loop_share at func plan own ≡ 0) → (all : List Loop) → sums host func plan own all ≡ 0
-  sums-none host func plan own none [] = refl
-  sums-none host func plan own none (first ∷ others) = omega (arith, none (record { func = host; inside = first.id }), sums-none host func plan own none others)
+  sums-none : (consumer : ℕ) (func : Option Func) (plan : Option FuncPlan) (own : Option Standing) → ((at : LoopPlace) → loop_share at func plan own ≡ 0) → (all : List Loop) → sums consumer func plan own all ≡ 0
+  sums-none consumer func plan own none [] = refl
+  sums-none consumer func plan own none (first ∷ others) = omega (arith, none (record { func = consumer; inside = first.id }), sums-none consumer func plan own none others)
 
-  sums-are : (host : ℕ) (func : Func) (plan : FuncPlan) (own : Standing) (all : List Loop)
-      → sums host (Some func) (Some plan) (Some own) all ≡ among host (placed_share flags pipeline.funcs schedule.funcs func plan own) own.is_reached own.place all
-  sums-are host func plan own [] = refl
-  sums-are host func plan own (first ∷ others) = omega (arith, sums-are host func plan own others)
+  sums-are : (consumer : ℕ) (func : Func) (plan : FuncPlan) (own : Standing) (all : List Loop)
+      → sums consumer (Some func) (Some plan) (Some own) all ≡ among consumer (placed_share flags pipeline.funcs schedule.funcs func plan own) own.is_reached own.place all
+  sums-are consumer func plan own [] = refl
+  sums-are consumer func plan own (first ∷ others) = omega (arith, sums-are consumer func plan own others)
 
-  sums-once : (host : ℕ) (func : Option Func) (plan : Option FuncPlan) (own : Option Standing) (all : List Loop) → Unique all → sums host func plan own all ≤ hosted_share flags pipeline.funcs schedule.funcs host func plan own
-  sums-once host None plan own all unique = let z = sums-none host None plan own (λ at. refl) all in omega (arith, z)
-  sums-once host (Some func) None own all unique = let z = sums-none host (Some func) None own (λ at. refl) all in omega (arith, z)
-  sums-once host (Some func) (Some plan) None all unique = let z = sums-none host (Some func) (Some plan) None (λ at. refl) all in omega (arith, z)
-  sums-once host (Some func) (Some plan) (Some own) all unique =
-      let e = sums-are host func plan own all in
-      let l = among-once host (placed_share flags pipeline.funcs schedule.funcs func plan own) own.is_reached own.place all unique in
+  sums-once : (consumer : ℕ) (func : Option Func) (plan : Option FuncPlan) (own : Option Standing) (all : List Loop) → Unique all → sums consumer func plan own all ≤ produced_share flags pipeline.funcs schedule.funcs consumer func plan own
+  sums-once consumer None plan own all unique = let z = sums-none consumer None plan own (λ at. refl) all in omega (arith, z)
+  sums-once consumer (Some func) None own all unique = let z = sums-none consumer (Some func) None own (λ at. refl) all in omega (arith, z)
+  sums-once consumer (Some func) (Some plan) None all unique = let z = sums-none consumer (Some func) (Some plan) None (λ at. refl) all in omega (arith, z)
+  sums-once consumer (Some func) (Some plan) (Some own) all unique =
+      let e = sums-are consumer func plan own all in
+      let l = among-once consumer (placed_share flags pipeline.funcs schedule.funcs func plan own) own.is_reached own.place all unique in
       omega (arith, e, l)
 
-  around-once : (host : ℕ) (all : List Loop) → Unique all → summed (around host all) 0 count ≤ hosted_shares pipeline schedule host
-  around-once host all unique =
-      summed-most (around host all) (hosted_at host) (λ k. sums-once host (slice_get pipeline.funcs k) (slice_get schedule.funcs k) (slice_get schedule.standings k) all unique) 0 count
+  around-once : (consumer : ℕ) (all : List Loop) → Unique all → summed (around consumer all) 0 count ≤ produced_shares pipeline schedule consumer
+  around-once consumer all unique =
+      summed-most (around consumer all) (produced_at consumer) (λ k. sums-once consumer (slice_get pipeline.funcs k) (slice_get schedule.funcs k) (slice_get schedule.standings k) all unique) 0 count
 
   -- ---- what a task does
 
-  module _ (host : ℕ) (plan : FuncPlan) (extents : Extents) (store body : Stmt) (plan_is : slice_get schedule.funcs host ≡ Some plan) (kept : KeepsRules plan.pure) (unique : Unique plan.pure.loops)
-      (paid : ArePaid (loops.counts extents plan.pure.splits) plan.pure.loops) (is : IsBody pipeline schedule boxes host plan.pure extents store body) where
+  module _ (consumer : ℕ) (plan : FuncPlan) (extents : Extents) (store body : Stmt) (plan_is : slice_get schedule.funcs consumer ≡ Some plan) (kept : KeepsRules plan.pure) (unique : Unique plan.pure.loops)
+      (paid : ArePaid (loops.counts extents plan.pure.splits) plan.pure.loops) (is : IsBody pipeline schedule boxes consumer plan.pure extents store body) where
     abbrev stage : Stage
     stage = plan.pure
 
@@ -309,42 +309,42 @@ module _ (pipeline : Pipeline) (schedule : Schedule) (boxes : Boxes) where
     abbrev copied : ℕ
     copied = all_copies stage.loops
 
-    all_is : pure_loops_of (slice_get schedule.funcs host) ≡ stage.loops
+    all_is : pure_loops_of (slice_get schedule.funcs consumer) ≡ stage.loops
     all_is = ap pure_loops_of plan_is
 
-    ends : (inside outside : List Loop) → inside ++ outside ≡ stage.loops → (n : ℕ) → n ≤ copied * (whole_size is.leaf + 39 * length inside) + 64 * summed (around host (inside ++ outside)) 0 count
-        → n ≤ copied * (25 * length stage.splits + whole_size store + 39 * length stage.loops) + 64 * hosted_shares pipeline schedule host
+    ends : (inside outside : List Loop) → inside ++ outside ≡ stage.loops → (n : ℕ) → n ≤ copied * (whole_size is.leaf + 39 * length inside) + 64 * summed (around consumer (inside ++ outside)) 0 count
+        → n ≤ copied * (25 * length stage.splits + whole_size store + 39 * length stage.loops) + 64 * produced_shares pipeline schedule consumer
     ends inside outside e n few =
         let z = is.size_is in
         let l = length-append inside outside in
         let le = ap (λ (ls : List Loop). length ls) e in
-        let s = ap (λ (ls : List Loop). summed (around host ls) 0 count) e in
-        let o = around-once host stage.loops unique in
+        let s = ap (λ (ls : List Loop). summed (around consumer ls) 0 count) e in
+        let o = around-once consumer stage.loops unique in
         let m = times-most (whole_size is.leaf + 39 * length inside) (25 * length stage.splits + whole_size store + 39 * length stage.loops) copied (omega (arith, z, l, le)) in
         let c = mul_comm copied (whole_size is.leaf + 39 * length inside) in
         let d = mul_comm copied (25 * length stage.splits + whole_size store + 39 * length stage.loops) in
         omega (arith, few, m, s, o, c, d)
 
-    by-outermost : (found : Option Loop) → HasOutermost pipeline schedule boxes host found is.inner body → HasLoops pipeline schedule boxes host counted is.leaf (inside_of found stage.loops) is.inner
-        → inside_of found stage.loops ++ outside_of host extents stage kept found ≡ stage.loops
-        → whole_size body ≤ copied * (25 * length stage.splits + whole_size store + 39 * length stage.loops) + 64 * hosted_shares pipeline schedule host
+    by-outermost : (found : Option Loop) → HasOutermost pipeline schedule boxes consumer found is.inner body → HasLoops pipeline schedule boxes consumer counted is.leaf (inside_of found stage.loops) is.inner
+        → inside_of found stage.loops ++ outside_of consumer extents stage kept found ≡ stage.loops
+        → whole_size body ≤ copied * (25 * length stage.splits + whole_size store + 39 * length stage.loops) + 64 * produced_shares pipeline schedule consumer
     by-outermost None begun looped e =
-        let i = loops-size host counted stage.loops paid unique all_is is.leaf stage.loops is.inner looped [] e in
+        let i = loops-size consumer counted stage.loops paid unique all_is is.leaf stage.loops is.inner looped [] e in
         let b = ap whole_size begun in
-        let s = ap (λ (ls : List Loop). summed (around host ls) 0 count) (append-nil stage.loops) in
+        let s = ap (λ (ls : List Loop). summed (around consumer ls) 0 count) (append-nil stage.loops) in
         ends stage.loops [] e (whole_size body) (omega (arith, i, b, s))
     by-outermost (Some own) begun looped e =
         let inside = inside_of (Some own) stage.loops in
-        let i = loops-size host counted stage.loops paid unique all_is is.leaf inside is.inner looped (own ∷ []) e in
-        let n = nests-size (record { func = host; inside = own.id }) (copies own * 1) (copied-here host counted stage.loops paid unique all_is inside own [] e) 0 is.inner body begun count (omega arith) in
+        let i = loops-size consumer counted stage.loops paid unique all_is is.leaf inside is.inner looped (own ∷ []) e in
+        let n = nests-size (record { func = consumer; inside = own.id }) (copies own * 1) (copied-here consumer counted stage.loops paid unique all_is inside own [] e) 0 is.inner body begun count (omega arith) in
         let p = paid-at counted inside own [] (subst (ArePaid counted) (sym e) paid) in
         let t = times-some (copies own) (whole_size body) p.some in
         let q = ap (λ (z : ℕ). whole_size body * z) (let g : copies own * 1 ≡ copies own = omega arith in g) ∙ mul_comm (whole_size body) (copies own) in
-        let s = summed-around host inside own count in
+        let s = summed-around consumer inside own count in
         ends inside (own ∷ []) e (whole_size body) (omega (arith, i, n, t, s, q))
 
-    pub body-size : whole_size body ≤ copied * (25 * length stage.splits + whole_size store + 39 * length stage.loops) + 64 * hosted_shares pipeline schedule host
-    body-size = by-outermost (parallel stage) is.begun is.looped (sym (loops_by host extents stage kept (parallel stage) refl))
+    pub body-size : whole_size body ≤ copied * (25 * length stage.splits + whole_size store + 39 * length stage.loops) + 64 * produced_shares pipeline schedule consumer
+    body-size = by-outermost (parallel stage) is.begun is.looped (sym (loops_by consumer extents stage kept (parallel stage) refl))
 
   -- ---- all phases
 
@@ -356,7 +356,7 @@ module _ (pipeline : Pipeline) (schedule : Schedule) (boxes : Boxes) where
   phases_share place func plan zero = 0
   phases_share place func plan (suc n) = phases_share place func plan n + phase_share pipeline schedule place func plan n
 
-  phases-all : (place : ℕ) (func : Func) (plan : FuncPlan) (n : ℕ) → phases_share place func plan (suc n) ≡ shares flags pipeline.funcs func plan n + hosted_shares pipeline schedule place
+  phases-all : (place : ℕ) (func : Func) (plan : FuncPlan) (n : ℕ) → phases_share place func plan (suc n) ≡ shares flags pipeline.funcs func plan n + produced_shares pipeline schedule place
   phases-all place func plan zero = omega arith
   phases-all place func plan (suc n) = omega (arith, phases-all place func plan n)
 
@@ -389,8 +389,8 @@ module _ (pipeline : Pipeline) (schedule : Schedule) (boxes : Boxes) where
   abbrev root_at : ℕ → ℕ
   root_at place = root_share place (slice_get pipeline.funcs place) (slice_get schedule.funcs place) (slice_get schedule.standings place)
 
-  abbrev with_hosted : ℕ → ℕ
-  with_hosted place = root_at place + hosted_shares pipeline schedule place
+  abbrev with_produced : ℕ → ℕ
+  with_produced place = root_at place + produced_shares pipeline schedule place
 
   root-is : (place : ℕ) (func : Func) (plan : FuncPlan) (own : SourceBox) → IsAtRoot pipeline schedule boxes place func plan own → root_at place ≡ func_share flags pipeline.funcs func plan
   root-is place func plan own at =
@@ -398,18 +398,18 @@ module _ (pipeline : Pipeline) (schedule : Schedule) (boxes : Boxes) where
       ∙ ap (λ (p : Option FuncPlan). root_share place (Some func) p (slice_get schedule.standings place)) at.plan_is
       ∙ ap (λ (o : Option Standing). root_share place (Some func) (Some plan) o) at.there.standing
       ∙ ap (λ (t : Bool). if t then placed_share flags pipeline.funcs schedule.funcs func plan at.standing else 0) (and_from at.standing.is_reached (is_root at.standing.place) at.there.reached (ap is_root at.placed_is))
-      ∙ ap (λ (p : Place). func_share flags pipeline.funcs func plan * host_copies schedule.funcs p) at.placed_is
+      ∙ ap (λ (p : Place). func_share flags pipeline.funcs func plan * consumer_copies schedule.funcs p) at.placed_is
       ∙ (let g : func_share flags pipeline.funcs func plan * 1 ≡ func_share flags pipeline.funcs func plan = omega arith in g)
 
-  pub phases-light : (place : ℕ) (phases : List Phase) → lowered.AreLowered pipeline schedule boxes place phases → words_of phases ≤ 64 * summed with_hosted 0 place
+  pub phases-light : (place : ℕ) (phases : List Phase) → lowered.AreLowered pipeline schedule boxes place phases → words_of phases ≤ 64 * summed with_produced 0 place
   phases-light _ _ lowered.No_func = omega arith
   phases-light _ _ (lowered.Passed place phases rest none) =
       let l = phases-light place phases rest in
-      let s = last-first with_hosted place in
+      let s = last-first with_produced place in
       omega (arith, l, s)
   phases-light _ _ (lowered.Computed place before phases func plan own rest at stages) =
       let l = phases-light place before rest in
-      let s = last-first with_hosted place in
+      let s = last-first with_produced place in
       let r = stages-light place func plan own before phases (suc (length func.updates)) stages in
       let a = phases-all place func plan (length func.updates) in
       let e = root-is place func plan own at in
@@ -434,7 +434,7 @@ module _ (pipeline : Pipeline) (schedule : Schedule) (boxes : Boxes) where
   computed_at place = computed_share (slice_get pipeline.funcs place) (slice_get schedule.funcs place) (slice_get schedule.standings place)
 
   module _ (whole : ℕ) where
-    -- one host at most
+    -- one consumer at most
     past : (func at m : ℕ) → func < at → summed (λ h. if func == h then whole else 0) at m ≡ 0
     past func at zero low = refl
     past func at (suc m) low =
@@ -443,26 +443,26 @@ module _ (pipeline : Pipeline) (schedule : Schedule) (boxes : Boxes) where
         let r = past func (suc at) m (omega (arith, low)) in
         omega (arith, z, r)
 
-    by-host : (func from n : ℕ) (t : Bool) → (func == from) ≡ t → summed (λ h. if func == h then whole else 0) (suc from) n ≤ whole
+    by-consumer : (func from n : ℕ) (t : Bool) → (func == from) ≡ t → summed (λ h. if func == h then whole else 0) (suc from) n ≤ whole
         → (if t then whole else 0) + summed (λ h. if func == h then whole else 0) (suc from) n ≤ whole
-    by-host func from n true e later = let s : func ≡ from = grind (arith, nat_tests, e) in let z = past func (suc from) n (omega (arith, s)) in omega (arith, z)
-    by-host func from n false e later = omega (arith, later)
+    by-consumer func from n true e later = let s : func ≡ from = grind (arith, nat_tests, e) in let z = past func (suc from) n (omega (arith, s)) in omega (arith, z)
+    by-consumer func from n false e later = omega (arith, later)
 
-    hosts-once : (func from n : ℕ) → summed (λ h. if func == h then whole else 0) from n ≤ whole
-    hosts-once func from zero = omega arith
-    hosts-once func from (suc n) = by-host func from n (func == from) refl (hosts-once func (suc from) n)
+    consumers-once : (func from n : ℕ) → summed (λ h. if func == h then whole else 0) from n ≤ whole
+    consumers-once func from zero = omega arith
+    consumers-once func from (suc n) = by-consumer func from n (func == from) refl (consumers-once func (suc from) n)
 
-    -- a Func at root, or at a loop of one host
+    -- a Func at root, or at a loop of one consumer
     placed-once : (reached : Bool) (place : Place) (m : ℕ)
         → (if reached && is_root place then whole else 0) + summed (λ h. if reached && is_at_loop_of h place then whole else 0) 0 m ≤ (if reached && not (is_inlined place) then whole else 0)
-    placed-once true (places.At at) m = let l = hosts-once at.func 0 m in omega (arith, l)
+    placed-once true (places.At at) m = let l = consumers-once at.func 0 m in omega (arith, l)
     placed-once true places.Root m = let z = summed-none 0 m in omega (arith, z)
     placed-once true places.Inlined m = let z = summed-none 0 m in omega (arith, z)
     placed-once true places.Nowhere m = let z = summed-none 0 m in omega (arith, z)
     placed-once false place m = let z = summed-none 0 m in omega (arith, z)
 
   once-at : (m k : ℕ) (func : Option Func) (plan : Option FuncPlan) (own : Option Standing)
-      → root_share k func plan own + summed (λ h. hosted_share flags pipeline.funcs schedule.funcs h func plan own) 0 m ≤ computed_share func plan own
+      → root_share k func plan own + summed (λ h. produced_share flags pipeline.funcs schedule.funcs h func plan own) 0 m ≤ computed_share func plan own
   once-at m k None plan own = let z = summed-none 0 m in omega (arith, z)
   once-at m k (Some func) None own = let z = summed-none 0 m in omega (arith, z)
   once-at m k (Some func) (Some plan) None = let z = summed-none 0 m in omega (arith, z)
@@ -485,11 +485,11 @@ module _ (pipeline : Pipeline) (schedule : Schedule) (boxes : Boxes) where
       omega (arith, z, r)
   few-roots from (suc m) (suc n) past = let r = few-roots (suc from) m n (omega (arith, past)) in omega (arith, r)
 
-  pub shares-computed : (m : ℕ) → summed with_hosted 0 m ≤ summed computed_at 0 count
+  pub shares-computed : (m : ℕ) → summed with_produced 0 m ≤ summed computed_at 0 count
   shares-computed m =
-      let a = summed-more root_at (hosted_shares pipeline schedule) 0 m in
-      let x = exchanged hosted_at 0 count 0 m in
+      let a = summed-more root_at (produced_shares pipeline schedule) 0 m in
+      let x = exchanged produced_at 0 count 0 m in
       let r = few-roots 0 m count (omega arith) in
-      let b = summed-more root_at (λ k. summed (λ h. hosted_at h k) 0 m) 0 count in
-      let c = summed-most (λ k. root_at k + summed (λ h. hosted_at h k) 0 m) computed_at (λ k. once-at m k (slice_get pipeline.funcs k) (slice_get schedule.funcs k) (slice_get schedule.standings k)) 0 count in
+      let b = summed-more root_at (λ k. summed (λ h. produced_at h k) 0 m) 0 count in
+      let c = summed-most (λ k. root_at k + summed (λ h. produced_at h k) 0 m) computed_at (λ k. once-at m k (slice_get pipeline.funcs k) (slice_get schedule.funcs k) (slice_get schedule.standings k)) 0 count in
       omega (arith, a, x, r, b, c)

@@ -6,24 +6,22 @@ use Rattle.halide_pipeline.specs.declared.definitions.Update.{Update}
 use Rattle.halide_pipeline.specs.declared.expressions.Expr.{Expr}
 use Rattle.halide_pipeline.specs.declared.expressions.Variable.{Variable}
 use Rattle.halide_pipeline.specs.declared.expressions.Variable.TheVariants as variables
-use Rattle.halide_pipeline.specs.Definitions.{dimensions}
+use Rattle.halide_pipeline.specs.WellFormed.{dimensions, IsWellFormed, keeps, keeps_index, is_read, is_argument, is_update_variable}
 use Rattle.halide_pipeline.specs.Pipelines.{Pipeline}
-use Rattle.halide_pipeline.specs.WellFormed.{IsWellFormed, keeps, keeps_index, is_read, is_argument, is_update_variable}
 use Rattle.std.proofs.lemmas.Bool.{and_parts}
 use Rattle.schedule_lines.specs.declared.stages.Loop.{Loop}
 use Rattle.schedule_lines.specs.declared.stages.LoopId.{LoopId}
 use Rattle.schedule_lines.specs.declared.stages.LoopId.TheVariants as ids
 use Rattle.schedule_lines.specs.declared.stages.Split.{Split}
 use Rattle.schedule_lines.specs.declared.stages.Stage.{Stage}
-use Rattle.schedule_lines.specs.Loops.{same_id}
+use Rattle.schedule_lines.specs.Directives.{same_id}
 use Rattle.schedule_lines.specs.Making.{total}
 use Rattle.schedule.specs.Plans.{with_loop, with_second}
 use Rattle.schedule_loops.specs.Stages.{has_variable, first_loops, IsStageOf}
 use Rattle.schedule_loops.proofs.FirstLoops.{plain, there, update_start}
 use Rattle.schedule_loops.proofs.Making.{Stays, by_making, split_by, total_parts, bare_total}
 use Rattle.schedule_loops.proofs.Nesting.{has_id}
-use Rattle.bounds_inlining.specs.Inlining.{flagged}
-use Rattle.bounds_inlining.specs.Weights.{counting}
+use Rattle.bounds_inlining.specs.Inlining.{flagged, counting}
 use Rattle.bounds_weights.specs.Weight.{nodes_in, second_nodes, update_nodes}
 use Rattle.loop_ir.specs.declared.expressions.Expr as loop
 use Rattle.loop_ir.specs.declared.expressions.Expr.TheVariants as e

@@ -22,19 +22,18 @@ use Rattle.schedule.specs.Accepted.{IsAccepted}
 use Rattle.schedule.specs.Legal.{is_root}
 use Rattle.schedule.specs.Uses.{IsReached}
 use Rattle.schedule_loops.specs.declared.extents.Extents.{Extents}
-use Rattle.schedule_loops.specs.Counts.{counts}
-use Rattle.schedule_loops.specs.Counts as loops
-use Rattle.schedule_loops.specs.Iterations.{parallel, iteration, iteration_count, count_of}
-use Rattle.schedule_loops.specs.Reach.{AreTurns, wholes}
+use Rattle.schedule_loops.specs.Visits.{counts, Visit, zeros, visit_of, is_slice, parallel, iteration, iteration_count, count_of, owns}
+use Rattle.schedule_loops.specs.Visits as loops
+use Rattle.schedule_loops.specs.Reach.{wholes}
+use Rattle.schedule_loops.specs.Runs.{AreTurns}
 use Rattle.schedule_loops.specs.Stages.{IsStageOf, KeepsRules, IsVisitOf}
-use Rattle.schedule_loops.specs.Visits.{Visit, zeros, visit_of, is_slice}
 use Rattle.schedule_loops.proofs.Ids.{with_same}
 use Rattle.schedule_loops.proofs.Parallel.{outermost}
 use Rattle.bounds_ranges.specs.Laws.{AnswerWords}
 use Rattle.bounds.specs.declared.boxes.SourceBox.{SourceBox}
 use Rattle.bounds.specs.declared.verdict.Boxes.{Boxes}
 use Rattle.bounds.specs.Verdict.{inferred}
-use Rattle.bounds.specs.Views.{extents_of}
+use Rattle.bounds.specs.Extents.{extents_of}
 use Rattle.bounds_laws.proofs.Callers.{or_left, or_right}
 use Rattle.loop_ir.specs.declared.expressions.Counter.{Counter}
 use Rattle.loop_ir.specs.declared.statements.Phase.{Phase}
@@ -43,33 +42,34 @@ use Rattle.loop_ir.specs.Buffers.{Points}
 use Rattle.loop_ir.specs.Running.{task_values}
 use Rattle.loop_ir.specs.Soundness.{is_sound}
 use Rattle.lowering_nests.specs.Nests.{AreSmall}
-use Rattle.lowering.specs.HostedFuncs.{hosted_from, is_hosted, is_at_loop_of}
-use Rattle.lowering.specs.Hosting.{hosting, HasOutermost, IsBody}
-use Rattle.lowering.specs.Planes.{box_points, owns}
-use Rattle.lowering.specs.PurePhases.{IsAtRoot, IsStoreOf, inside_of, counter_of}
+use Rattle.lowering.specs.ProducedFuncs.{produced_from, is_produced, is_at_loop_of}
+use Rattle.lowering.specs.Consuming.{consuming, HasOutermost, IsBody}
+use Rattle.lowering.specs.Planes.{box_points}
+use Rattle.lowering.specs.PurePhases.{IsStoreOf, inside_of, counter_of}
+use Rattle.bounds.specs.Stages.{IsAtRoot}
 use Rattle.lowering.specs.Touching.{is_root_at, is_root_in, is_listed, may_write, may_load, TouchesItsOwn}
-use Rattle.lowering.proofs.Facts.{staged, splits, few, hosted_before}
+use Rattle.lowering.proofs.Facts.{staged, splits, few, produced_before}
 use Rattle.lowering.proofs.Lists.{any_map, all_map}
-use Rattle.lowering.proofs.SoundHosts as hosts
+use Rattle.lowering.proofs.SoundConsumers as consumers
 use Rattle.lowering.proofs.Tasks.{turned_by, inside_last, listed, before_by, small_by, all_visits}
 use Rattle.lowering.proofs.UpdateRuns.{members, all_and, all_so}
 
 -- ---- which Funcs may be touched
 
--- a Func at a loop of the host is among its private ones
-pub listed_from : (host at : ℕ) (standings : List Standing) (k : ℕ) (own : Standing) → slice_get standings k ≡ Some own → is_hosted host own ≡ true → is_listed (hosted_from host at standings) (at + k) ≡ true
-listed_from host at [] k own there hosted = absurd cc
-listed_from host at (first ∷ others) zero own there hosted =
+-- a Func at a loop of the consumer is among its private ones
+pub listed_from : (consumer at : ℕ) (standings : List Standing) (k : ℕ) (own : Standing) → slice_get standings k ≡ Some own → is_produced consumer own ≡ true → is_listed (produced_from consumer at standings) (at + k) ≡ true
+listed_from consumer at [] k own there produced = absurd cc
+listed_from consumer at (first ∷ others) zero own there produced =
     let same : first ≡ own = cc in
-    ap (λ (b : Bool). is_listed (cond b (at ∷ hosted_from host (suc at) others) (hosted_from host (suc at) others)) (at + 0)) (ap (is_hosted host) same ∙ hosted)
-    ∙ or_left (at == at + 0) (is_listed (hosted_from host (suc at) others) (at + 0)) (eq-eqb at (at + 0) (omega arith))
-listed_from host at (first ∷ others) (suc k) own there hosted =
+    ap (λ (b : Bool). is_listed (cond b (at ∷ produced_from consumer (suc at) others) (produced_from consumer (suc at) others)) (at + 0)) (ap (is_produced consumer) same ∙ produced)
+    ∙ or_left (at == at + 0) (is_listed (produced_from consumer (suc at) others) (at + 0)) (eq-eqb at (at + 0) (omega arith))
+listed_from consumer at (first ∷ others) (suc k) own there produced =
     let next : suc at + k ≡ at + suc k = omega arith in
-    by_test (is_hosted host first) (subst (λ (n : ℕ). is_listed (hosted_from host (suc at) others) n ≡ true) next (listed_from host (suc at) others k own there hosted))
+    by_test (is_produced consumer first) (subst (λ (n : ℕ). is_listed (produced_from consumer (suc at) others) n ≡ true) next (listed_from consumer (suc at) others k own there produced))
   where
-    by_test : (b : Bool) → is_listed (hosted_from host (suc at) others) (at + suc k) ≡ true
-        → is_listed (cond b (at ∷ hosted_from host (suc at) others) (hosted_from host (suc at) others)) (at + suc k) ≡ true
-    by_test true e = or_right (at == at + suc k) (is_listed (hosted_from host (suc at) others) (at + suc k)) e
+    by_test : (b : Bool) → is_listed (produced_from consumer (suc at) others) (at + suc k) ≡ true
+        → is_listed (cond b (at ∷ produced_from consumer (suc at) others) (produced_from consumer (suc at) others)) (at + suc k) ≡ true
+    by_test true e = or_right (at == at + suc k) (is_listed (produced_from consumer (suc at) others) (at + suc k)) e
     by_test false e = e
 
 module _ (pipeline : Pipeline) (schedule : Schedule) (boxes : Boxes) (place : ℕ) (owned : ℕ → ℕ → Bool) (private : List ℕ) where
@@ -86,24 +86,24 @@ module _ (pipeline : Pipeline) (schedule : Schedule) (boxes : Boxes) (place : �
       ∙ and_from (is_root_at schedule.standings k || is_listed private k) (box_points boxes.funcs k x y)
       (or_left (is_root_at schedule.standings k) (is_listed private k) (ap is_root_in there.standing ∙ and_from standing.is_reached (is_root standing.place) there.reached (ap is_root root))) e
 
-  module _ (private_is : private ≡ hosted_from place 0 schedule.standings) (accepted : IsAccepted pipeline schedule) (k : ℕ) (standing : Standing) (loop : LoopPlace)
+  module _ (private_is : private ≡ produced_from place 0 schedule.standings) (accepted : IsAccepted pipeline schedule) (k : ℕ) (standing : Standing) (loop : LoopPlace)
       (there : IsReached schedule.standings k standing) (placed : standing.place ≡ places.At loop) (same : loop.func ≡ place) (x y : ℕ) (inside : box_points boxes.funcs k x y ≡ true) where
     is_private : is_listed private k ≡ true
     is_private =
         let here : 0 + k ≡ k = omega arith in
         ap (λ (l : List ℕ). is_listed l k) private_is
-        ∙ subst (λ (n : ℕ). is_listed (hosted_from place 0 schedule.standings) n ≡ true) here
+        ∙ subst (λ (n : ℕ). is_listed (produced_from place 0 schedule.standings) n ≡ true) here
         (listed_from place 0 schedule.standings k standing there.standing
         (and_from standing.is_reached (is_at_loop_of place standing.place) there.reached (ap (is_at_loop_of place) placed ∙ eq-eqb loop.func place same)))
 
     other : (k == place) ≡ false
-    other = ne_eqb k place (λ (e : k ≡ place). omega (arith, e, same, hosted_before pipeline schedule accepted k standing there loop placed))
+    other = ne_eqb k place (λ (e : k ≡ place). omega (arith, e, same, produced_before pipeline schedule accepted k standing there loop placed))
 
-    pub hosted_writes : may_write boxes.funcs place owned private k x y ≡ true
-    hosted_writes = ap (λ (b : Bool). cond b (owned x y) (is_listed private k && box_points boxes.funcs k x y)) other ∙ and_from (is_listed private k) (box_points boxes.funcs k x y) is_private inside
+    pub produced_writes : may_write boxes.funcs place owned private k x y ≡ true
+    produced_writes = ap (λ (b : Bool). cond b (owned x y) (is_listed private k && box_points boxes.funcs k x y)) other ∙ and_from (is_listed private k) (box_points boxes.funcs k x y) is_private inside
 
-    pub hosted_loads : may_load pipeline schedule boxes place owned private (record { source = sources.Func k; x = x; y = y }) ≡ true
-    hosted_loads =
+    pub produced_loads : may_load pipeline schedule boxes place owned private (record { source = sources.Func k; x = x; y = y }) ≡ true
+    produced_loads =
         ap (λ (b : Bool). cond b (owned x y) ((is_root_at schedule.standings k || is_listed private k) && box_points boxes.funcs k x y)) other
         ∙ and_from (is_root_at schedule.standings k || is_listed private k) (box_points boxes.funcs k x y) (or_right (is_root_at schedule.standings k) (is_listed private k) is_private) inside
 
@@ -113,7 +113,7 @@ module _ (pipeline : Pipeline) (schedule : Schedule) (boxes : Boxes) (rules : Is
     (place : ℕ) (func : Func) (plan : FuncPlan) (own : SourceBox) (at : IsAtRoot pipeline schedule boxes place func plan own)
     (store : Stmt) (store_of : IsStoreOf pipeline schedule boxes places.Root place func own store)
     (phase : Phase) (tasks_are : phase.tasks ≡ iteration_count (extents_of own) plan.pure) (counter_is : phase.counter ≡ counter_of place (parallel plan.pure))
-    (private_is : phase.private ≡ hosted_from place 0 schedule.standings)
+    (private_is : phase.private ≡ produced_from place 0 schedule.standings)
     (body : IsBody pipeline schedule boxes place plan.pure (extents_of own) store phase.body) where
   abbrev extents : Extents
   extents = extents_of own
@@ -178,17 +178,17 @@ module _ (pipeline : Pipeline) (schedule : Schedule) (boxes : Boxes) (rules : Is
 
     abbrev AreSound : List Loop → Stmt → Type 0
     AreSound =
-        hosts.AreSound pipeline schedule boxes rules accepted is place func plan own at store store_of reads words written loaded
+        consumers.AreSound pipeline schedule boxes rules accepted is place func plan own at store store_of reads words written loaded
         (λ k x y e. e) (roots_load pipeline schedule boxes place owned phase.private)
-        (λ k standing loop there placed same x y e. hosted_writes pipeline schedule boxes place owned phase.private private_is accepted k standing loop there placed same x y e)
-        (λ k standing loop there placed same x y e. hosted_loads pipeline schedule boxes place owned phase.private private_is accepted k standing loop there placed same x y e)
+        (λ k standing loop there placed same x y e. produced_writes pipeline schedule boxes place owned phase.private private_is accepted k standing loop there placed same x y e)
+        (λ k standing loop there placed same x y e. produced_loads pipeline schedule boxes place owned phase.private private_is accepted k standing loop there placed same x y e)
 
     inner_sound : AreSound (inside_of (parallel stage) stage.loops) body.inner
     inner_sound =
-        hosts.sound_loops pipeline schedule boxes rules accepted is place func plan own at store store_of reads words written loaded
+        consumers.sound_loops pipeline schedule boxes rules accepted is place func plan own at store store_of reads words written loaded
         (λ k x y e. e) (roots_load pipeline schedule boxes place owned phase.private)
-        (λ k standing loop there placed same x y e. hosted_writes pipeline schedule boxes place owned phase.private private_is accepted k standing loop there placed same x y e)
-        (λ k standing loop there placed same x y e. hosted_loads pipeline schedule boxes place owned phase.private private_is accepted k standing loop there placed same x y e)
+        (λ k standing loop there placed same x y e. produced_writes pipeline schedule boxes place owned phase.private private_is accepted k standing loop there placed same x y e)
+        (λ k standing loop there placed same x y e. produced_loads pipeline schedule boxes place owned phase.private private_is accepted k standing loop there placed same x y e)
         body.leaf body.bound (inside_of (parallel stage) stage.loops) body.inner body.looped
 
     small : (found : Option Loop) → number < count_of (counts extents stage.splits) found → AreSmall (turned found)
@@ -197,19 +197,19 @@ module _ (pipeline : Pipeline) (schedule : Schedule) (boxes : Boxes) (rules : Is
 
     sound_by : (found : Option Loop) → parallel stage ≡ found → number < count_of (counts extents stage.splits) found → (inner made : Stmt) → HasOutermost pipeline schedule boxes place found inner made
         → AreSound (inside_of found stage.loops) inner → AllByRecursion Good (wholes extents stage.splits (inside_of found stage.loops) (turned found))
-        → is_sound reads written loaded made (hosting place (turned found)) ≡ true
+        → is_sound reads written loaded made (consuming place (turned found)) ≡ true
     sound_by None e l inner made same sound good =
-        ap (λ (s : Stmt). is_sound reads written loaded s (hosting place zeros)) same ∙ sound [] (sym (append-nil stage.loops)) zeros (small None l) tt good
+        ap (λ (s : Stmt). is_sound reads written loaded s (consuming place zeros)) same ∙ sound [] (sym (append-nil stage.loops)) zeros (small None l) tt good
     sound_by (Some loop) e l inner made nested sound good =
         let o = outermost stage loop facts.1 e in
         let inside = o.last.inside in
         let same : inside_of (Some loop) stage.loops ≡ inside = inside_last func extents stage facts.0 facts.1 place loop inside o.last.loops_are in
         let values = loops.with loop.id number zeros in
         let turns : AreTurns (counts extents stage.splits) (loop ∷ []) values = (subst (λ (n : ℕ). n < counts extents stage.splits loop.id) (sym (with_same loop.id number zeros)) l, tt) in
-        hosts.sound_nests pipeline schedule boxes rules accepted is place func plan own at store store_of reads words written loaded
+        consumers.sound_nests pipeline schedule boxes rules accepted is place func plan own at store store_of reads words written loaded
         (λ k x y e. e) (roots_load pipeline schedule boxes place owned phase.private)
-        (λ k standing loop there placed same x y e. hosted_writes pipeline schedule boxes place owned phase.private private_is accepted k standing loop there placed same x y e)
-        (λ k standing loop there placed same x y e. hosted_loads pipeline schedule boxes place owned phase.private private_is accepted k standing loop there placed same x y e)
+        (λ k standing loop there placed same x y e. produced_writes pipeline schedule boxes place owned phase.private private_is accepted k standing loop there placed same x y e)
+        (λ k standing loop there placed same x y e. produced_loads pipeline schedule boxes place owned phase.private private_is accepted k standing loop there placed same x y e)
         inside loop [] o.last.loops_are values turns 0 inner made nested
         (subst (λ (ls : List Loop). AreSound ls inner) same sound (loop ∷ []) o.last.loops_are values (small (Some loop) l) turns (subst (λ (ls : List Loop). AllByRecursion Good (wholes extents stage.splits ls values)) same good))
 

@@ -11,20 +11,18 @@ use Rattle.schedule_lines.specs.declared.stages.LoopId.{LoopId}
 use Rattle.schedule_lines.specs.declared.stages.LoopId.TheVariants as ids
 use Rattle.schedule_lines.specs.declared.stages.Split.{Split}
 use Rattle.schedule_lines.specs.declared.stages.Stage.{Stage}
-use Rattle.schedule_lines.specs.Directives.{parts}
-use Rattle.schedule_lines.specs.Loops.{same_id}
+use Rattle.schedule_lines.specs.Directives.{parts, same_id}
 use Rattle.schedule_lines.specs.Making.{total}
 use Rattle.schedule_loops.specs.declared.extents.Extents.{Extents}
-use Rattle.schedule_loops.specs.Counts.{Values, with, more_counts, whole_counts}
+use Rattle.schedule_loops.specs.Visits.{Values, with, more_counts, whole_counts, whole_of, split_body, split_bodies}
 use Rattle.schedule_loops.specs.Reach.{wholes}
 use Rattle.schedule_loops.specs.Stages.{IsStageOf, first_loops}
-use Rattle.schedule_loops.specs.Visits.{whole_of, split_body, split_bodies}
 use Rattle.schedule_loops.proofs.FirstLoops.{plain, sound}
 use Rattle.schedule_loops.proofs.Ids.{cases_id, is_old, old_apart, inner_new, outer_new, older, turned_id, with_other}
 use Rattle.schedule_loops.proofs.Making.{Sound, Stays, by_making, sound_stays, split_by, IsInner, IsOuter, IsNeither, part_of, total-append, total_parts, parts_neither, bare_total}
 use Rattle.schedule_loops.proofs.Nesting.{has_id, has_same}
 use Rattle.schedule_loops.proofs.Resting.{SplitsApart}
-use Rattle.bounds_laws.specs.HostLaws.{turn_of, turn_at, turns_from}
+use Rattle.bounds_laws.specs.ConsumerLaws.{turn_of, turn_at, turns_from}
 use Rattle.lowering_nests.specs.Nests.{loops_of, put_loops}
 use Rattle.loop_ir.specs.Counters as counters
 

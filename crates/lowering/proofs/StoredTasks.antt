@@ -13,21 +13,21 @@ use Rattle.schedule_lines.specs.declared.stages.Mark.{Mark}
 use Rattle.schedule_lines.specs.declared.stages.Mark.TheVariants as marks
 use Rattle.schedule_lines.specs.declared.stages.Marked.{Marked}
 use Rattle.schedule_lines.specs.declared.stages.Stage.{Stage}
-use Rattle.schedule_lines.specs.Loops.{find_marked, has_mark, is_marked, same_mark}
+use Rattle.schedule_lines.specs.Directives.{find_marked, has_mark, is_marked, same_mark}
 use Rattle.schedule.specs.declared.plans.FuncPlan.{FuncPlan}
 use Rattle.schedule.specs.declared.schedules.Schedule.{Schedule}
 use Rattle.schedule.specs.declared.standings.Place.TheVariants as places
 use Rattle.schedule.specs.Accepted.{IsAccepted}
 use Rattle.schedule_loops.specs.declared.extents.Extents.{Extents}
-use Rattle.schedule_loops.specs.Counts as loops
-use Rattle.schedule_loops.specs.Iterations.{parallel, iteration, iteration_count, count_of}
-use Rattle.schedule_loops.specs.Reach.{AreTurns, wholes}
+use Rattle.schedule_loops.specs.Visits as loops
+use Rattle.schedule_loops.specs.Visits.{parallel, iteration, iteration_count, count_of, owns, Visit, zeros, visit_of, is_slice}
+use Rattle.schedule_loops.specs.Reach.{wholes}
+use Rattle.schedule_loops.specs.Runs.{AreTurns, is_vectorized_loop, turns_of, is_vectorized_first}
 use Rattle.schedule_loops.specs.Stages.{IsStageOf, KeepsRules, IsVisitOf}
-use Rattle.schedule_loops.specs.Visits.{Visit, zeros, visit_of, is_slice}
 use Rattle.bounds.specs.declared.boxes.SourceBox.{SourceBox}
 use Rattle.bounds.specs.declared.verdict.Boxes.{Boxes}
 use Rattle.bounds.specs.Verdict.{inferred}
-use Rattle.bounds.specs.Views.{extents_of}
+use Rattle.bounds.specs.Extents.{extents_of}
 use Rattle.loop_ir.specs.declared.expressions.Counter.{Counter}
 use Rattle.loop_ir.specs.declared.statements.Phase.{Phase}
 use Rattle.loop_ir.specs.declared.statements.Stmt.{Stmt}
@@ -37,21 +37,22 @@ use Rattle.loop_ir.specs.Running.{task_values}
 use Rattle.loop_ir.specs.Runs.{stores_in_runs}
 use Rattle.loop_ir.specs.Stores.{is_stored_by, is_stored_by_task}
 use Rattle.lowering_nests.specs.Nests.{AreSmall}
-use Rattle.lowering_nests.specs.Rounds.{IsLeaf, is_vectorized_loop}
+use Rattle.lowering_nests.specs.Rounds.{IsLeaf}
 use Rattle.lowering_nests.proofs.Few.{few_turns}
 use Rattle.lowering_nests.proofs.Rounds.{turns_more}
-use Rattle.lowering.specs.Hosting.{HasLoops, HasOutermost, IsBody, hosting}
-use Rattle.lowering.specs.Planes.{box_points, owns}
-use Rattle.lowering.specs.PurePhases.{IsAtRoot, IsStoreOf, inside_of, counter_of}
-use Rattle.lowering.specs.Runs.{StoresInRuns, turns_of, is_in_run, is_vectorized_first}
+use Rattle.lowering.specs.Consuming.{HasLoops, HasOutermost, IsBody, consuming}
+use Rattle.lowering.specs.Planes.{box_points}
+use Rattle.lowering.specs.PurePhases.{IsStoreOf, inside_of, counter_of}
+use Rattle.bounds.specs.Stages.{IsAtRoot}
+use Rattle.lowering.specs.Runs.{StoresInRuns, is_in_run}
 use Rattle.lowering.specs.Stored.{StoresItsOwn}
 use Rattle.lowering.proofs.Covered.{parts_of}
 use Rattle.lowering.proofs.Facts.{staged, splits, few}
 use Rattle.lowering.proofs.Lists.{any_map, all_map}
-use Rattle.lowering.proofs.RunHosts as runs
+use Rattle.lowering.proofs.RunConsumers as runs
 use Rattle.lowering.proofs.RunLists.{none_begun, one_more}
-use Rattle.lowering.proofs.StoredHosts.{AreWords, is_at}
-use Rattle.lowering.proofs.StoredHosts as hosts
+use Rattle.lowering.proofs.StoredConsumers.{AreWords, is_at}
+use Rattle.lowering.proofs.StoredConsumers as consumers
 use Rattle.lowering.proofs.TaskRounds.{outside_of, loops_by}
 use Rattle.lowering.proofs.Tasks.{turned_by, listed, before_by, small_by, all_visits}
 
@@ -126,18 +127,18 @@ module _ (pipeline : Pipeline) (schedule : Schedule) (boxes : Boxes) (rules : Is
         small_by func extents stage facts.0 facts.1 place (few pipeline schedule boxes place func plan own accepted is places.Root tt at) (splits pipeline schedule boxes place func plan own accepted is places.Root tt at) found number l
 
     abbrev Told : Option Loop → Stmt → Type 0
-    Told found made = hosts.Told pipeline schedule boxes accepted points inputs place x y made (turned found) (list_any (is_at x y) (list found))
+    Told found made = consumers.Told pipeline schedule boxes accepted points inputs place x y made (turned found) (list_any (is_at x y) (list found))
 
     inner_tells : (found : Option Loop) → parallel stage ≡ found → number < count_of (loops.counts extents stage.splits) found → AllByRecursion AreWords (list found) → Told found body.inner
     inner_tells found e l words_so =
-        hosts.loops_tell pipeline schedule boxes accepted points inputs place x y extents stage.splits (few pipeline schedule boxes place func plan own accepted is places.Root tt at)
+        consumers.loops_tell pipeline schedule boxes accepted points inputs place x y extents stage.splits (few pipeline schedule boxes place func plan own accepted is places.Root tt at)
         (splits pipeline schedule boxes place func plan own accepted is places.Root tt at) store store_of.hits body.leaf body.bound (inside_of found stage.loops) body.inner
         (subst (λ (o : Option Loop). HasLoops pipeline schedule boxes place (loops.counts extents stage.splits) body.leaf (inside_of o stage.loops) body.inner) e body.looped) (turned found) (small found l) words_so
 
     told_by : (found : Option Loop) (made : Stmt) → HasOutermost pipeline schedule boxes place found body.inner made → Told found body.inner → Told found made
     told_by None made same told = subst (Told None) (sym same) told
     told_by (Some loop) made nested told =
-        hosts.nests pipeline schedule boxes accepted points inputs place x y (record { func = place; inside = loop.id }) refl (turned (Some loop)) 0 body.inner made nested (list_any (is_at x y) (list (Some loop))) told
+        consumers.nests pipeline schedule boxes accepted points inputs place x y (record { func = place; inside = loop.id }) refl (turned (Some loop)) 0 body.inner made nested (list_any (is_at x y) (list (Some loop))) told
 
     task_stores : (funcs : Planes) → is_stored_by_task points inputs phase number place x y funcs ≡ owns extents stage number x y
     task_stores funcs =
@@ -181,7 +182,7 @@ module _ (pipeline : Pipeline) (schedule : Schedule) (boxes : Boxes) (rules : Is
             absurd (never_parallel own (subst (λ (ls : List Loop). is_vectorized_first ls ≡ true) loops_are first) (subst (λ (ls : List Loop). find_marked marks.Parallel ls ≡ Some own) loops_are e))
 
     run_by : (found : Option Loop) → parallel stage ≡ found → number < count_of (loops.counts extents stage.splits) found → AllByRecursion AreWords (wholes extents stage.splits (inside_of found stage.loops) (now found))
-        → HasOutermost pipeline schedule boxes place found body.inner phase.body → stores_in_runs reads place x y (is_in_run extents stage place x y) phase.body (hosting place (now found)) ≡ true
+        → HasOutermost pipeline schedule boxes place found body.inner phase.body → stores_in_runs reads place x y (is_in_run extents stage place x y) phase.body (consuming place (now found)) ≡ true
     run_by found e l words_so begun =
         runs.begun_runs pipeline schedule boxes accepted reads place x y func plan at.plan_is extents facts.0 facts.1 few_so store store_of.misses body.leaf body.bound store_is (body.leaf_is store_is) found body.inner phase.body begun (now found)
         (runs.loops_run pipeline schedule boxes accepted reads place x y func plan at.plan_is extents facts.0 facts.1 few_so store store_of.misses body.leaf body.bound store_is (body.leaf_is store_is) (inside_of found stage.loops) body.inner

@@ -5,8 +5,7 @@ use Rattle.schedule_lines.specs.declared.stages.Loop.{Loop}
 use Rattle.schedule_lines.specs.declared.stages.LoopId.{LoopId}
 use Rattle.schedule_lines.specs.declared.stages.Stage.{Stage}
 use Rattle.schedule_loops.specs.declared.extents.Extents.{Extents}
-use Rattle.schedule_loops.specs.Counts.{counts}
-use Rattle.schedule_loops.specs.Iterations.{parallel, count_of, iteration_count}
+use Rattle.schedule_loops.specs.Visits.{counts, parallel, count_of, iteration_count}
 use Rattle.schedule_loops.specs.Stages.{KeepsRules}
 use Rattle.schedule_loops.proofs.Parallel.{outermost}
 use Rattle.loop_ir.specs.declared.expressions.Counter.{Counter}
@@ -18,7 +17,7 @@ use Rattle.lowering_nests.specs.Nests.{loops_of}
 use Rattle.lowering_nests.specs.Rounds.{AllAreSmall, MayBeAtOnce}
 use Rattle.lowering_nests.proofs.Repeating.{loops_with}
 use Rattle.lowering_nests.proofs.Rounds.{small_with, turns_more}
-use Rattle.schedule_loops.specs.Reach.{AreTurns}
+use Rattle.schedule_loops.specs.Runs.{AreTurns}
 use Rattle.lowering.specs.PurePhases.{inside_of, counter_of}
 use Rattle.lowering.specs.Rounds.{RoundsMayBeAtOnce}
 use Rattle.lowering.proofs.Lists.{before_last}

@@ -12,12 +12,10 @@ use Rattle.schedule.specs.declared.plans.FuncPlan.{FuncPlan}
 use Rattle.schedule.specs.declared.schedules.Schedule.{Schedule}
 use Rattle.schedule.specs.Accepted.{IsAccepted}
 use Rattle.schedule_loops.specs.declared.extents.Extents.{Extents}
-use Rattle.schedule_loops.specs.Counts.{AreSplits, counts}
-use Rattle.schedule_loops.specs.Counts as loops
-use Rattle.schedule_loops.specs.Iterations.{parallel, is_turn, iteration, iteration_count, count_of}
+use Rattle.schedule_loops.specs.Visits.{AreSplits, counts, Visit, nest, over_loops, zeros, visit_of, visits, slice, is_slice, parallel, is_turn, iteration, iteration_count, count_of, owns}
+use Rattle.schedule_loops.specs.Visits as loops
 use Rattle.schedule_loops.specs.Reach.{wholes}
 use Rattle.schedule_loops.specs.Stages.{IsStageOf, KeepsRules, IsVisitOf, is_slice_of}
-use Rattle.schedule_loops.specs.Visits.{Visit, nest, over_loops, zeros, visit_of, visits, slice, is_slice}
 use Rattle.schedule_loops.proofs.Covering.{visited}
 use Rattle.schedule_loops.proofs.Parallel.{outermost, iteration_turn, all_iterations, slice_owner}
 use Rattle.schedule_loops.proofs.Slices.{visits_within}
@@ -25,9 +23,9 @@ use Rattle.schedule_loops.proofs.Wholes.{visits_of_wholes}
 use Rattle.bounds_ranges.specs.Laws.{AnswerWords}
 use Rattle.bounds.specs.declared.boxes.SourceBox.{SourceBox}
 use Rattle.bounds.specs.declared.verdict.Boxes.{Boxes}
-use Rattle.bounds.specs.Boxes.{box_in, no_loops, extent}
+use Rattle.bounds.specs.Boxes.{no_loops}
+use Rattle.bounds.specs.Extents.{box_in, extent, extents_of, word_at, corner_of}
 use Rattle.bounds.specs.Verdict.{inferred}
-use Rattle.bounds.specs.Views.{extents_of}
 use Rattle.loop_ir.specs.declared.expressions.Counter.{Counter}
 use Rattle.loop_ir.specs.declared.statements.Phase.{Phase}
 use Rattle.loop_ir.specs.declared.statements.Stmt.{Stmt}
@@ -38,21 +36,21 @@ use Rattle.std.proofs.Common.{◌≡◌, ℕ, suc, ◌-◌, ◌<◌, ◌≤◌, 
 use Rattle.std.proofs.lemmas.Bool.{and_parts, and_from, lt-ltb, eq-eqb, ne_eqb, eqb-true, cases_eq}
 use Rattle.halide_pipeline.specs.Pixel as pixel
 use Rattle.schedule.specs.declared.standings.Place.TheVariants as places
-use Rattle.schedule_loops.specs.Reach.{AreTurns}
+use Rattle.schedule_loops.specs.Runs.{AreTurns}
 use Rattle.schedule_loops.proofs.Ids.{with_same}
 use Rattle.schedule_loops.proofs.TurnsFound.{of_all}
-use Rattle.bounds.specs.Boxes.{no_loops}
 use Rattle.loop_ir.specs.Counters.{Values, with}
 use Rattle.lowering_nests.specs.Nests.{AreFew, AreSmall}
 use Rattle.lowering.specs.Corners.{first_of}
-use Rattle.lowering.specs.Hosting.{hosting, HasOutermost, IsBody}
-use Rattle.lowering.specs.Planes.{word_at, corner_of, held, box_points, with_pure, owns}
-use Rattle.lowering.specs.PurePhases.{IsAtRoot, HostedArePrivate, RootsAreShared, IsStoreOf, inside_of, counter_of}
+use Rattle.lowering.specs.Consuming.{consuming, HasOutermost, IsBody}
+use Rattle.lowering.specs.Planes.{held, box_points, with_pure}
+use Rattle.lowering.specs.PurePhases.{ProducedArePrivate, RootsAreShared, IsStoreOf, inside_of, counter_of}
+use Rattle.bounds.specs.Stages.{IsAtRoot}
 use Rattle.lowering.proofs.Covered.{parts_of, point_there, slice_there}
 use Rattle.lowering.proofs.Facts.{staged, splits, fits, few}
-use Rattle.lowering.proofs.Hosts as hosts
+use Rattle.lowering.proofs.Consumers as consumers
 use Rattle.lowering.proofs.Lists.{any_map, all_map, any_gives, none_passes, none_kept, none_upto, all_upto, before_last}
-use Rattle.lowering.proofs.LoopTurns.{hosting_none, hosting_with, small_with}
+use Rattle.lowering.proofs.LoopTurns.{consuming_none, consuming_with, small_with}
 use Rattle.lowering.proofs.Offsets.{first_none}
 
 -- ---- a task's iteration
@@ -82,9 +80,9 @@ module _ (func : Func) (extents : Extents) (stage : Stage) (stage_is : IsStageOf
       ∙ ap (λ (ls : List Loop). map (visit_of extents) (wholes extents stage.splits ls turns)) (sym (inside_last own o.last.inside o.last.loops_are))
 
   -- what counters stand at before a task
-  pub before_by : (found : Option Loop) (number : ℕ) → task_values (counter_of place found) number ≡ hosting place (turned_by found number)
-  before_by None number = hosting_none place
-  before_by (Some loop) number = ap (with (record { func = place; id = loop.id }) number) (hosting_none place) ∙ hosting_with place loop.id number zeros
+  pub before_by : (found : Option Loop) (number : ℕ) → task_values (counter_of place found) number ≡ consuming place (turned_by found number)
+  before_by None number = consuming_none place
+  before_by (Some loop) number = ap (with (record { func = place; id = loop.id }) number) (consuming_none place) ∙ consuming_with place loop.id number zeros
 
   pub small_by : AreFew extents → AreSplits stage.splits → (found : Option Loop) (number : ℕ) → number < count_of (counts extents stage.splits) found → AreSmall (turned_by found number)
   small_by few_so splits_so None number l = λ id. omega arith
@@ -128,7 +126,7 @@ module _ (pipeline : Pipeline) (schedule : Schedule) (boxes : Boxes) (rules : Is
     (store : Stmt) (store_of : IsStoreOf pipeline schedule boxes places.Root place func own store)
     (phase : Phase) (tasks_are : phase.tasks ≡ iteration_count (extents_of own) plan.pure) (counter_is : phase.counter ≡ counter_of place (parallel plan.pure))
     (body : IsBody pipeline schedule boxes place plan.pure (extents_of own) store phase.body)
-    (is_private : ℕ → Bool) (shared : RootsAreShared schedule.standings is_private) (hosted_private : HostedArePrivate schedule.standings is_private place)
+    (is_private : ℕ → Bool) (shared : RootsAreShared schedule.standings is_private) (produced_private : ProducedArePrivate schedule.standings is_private place)
     (inputs : Planes) (begun : AnswerWords pipeline.inputs (reads_of inputs (pixels pipeline.funcs inputs 0))) where
   abbrev extents : Extents
   extents = extents_of own
@@ -154,10 +152,10 @@ module _ (pipeline : Pipeline) (schedule : Schedule) (boxes : Boxes) (rules : Is
   -- ---- planes
 
   abbrev plane : Plane
-  plane = hosts.plane pipeline schedule boxes rules accepted is place func plan own at inputs begun store store_of
+  plane = consumers.plane pipeline schedule boxes rules accepted is place func plan own at inputs begun store store_of
 
   abbrev hits : ℕ → ℕ → loops.Values → Bool
-  hits = hosts.hits pipeline schedule boxes rules accepted is place func plan own at inputs begun store store_of
+  hits = consumers.hits pipeline schedule boxes rules accepted is place func plan own at inputs begun store store_of
 
   result_own : (x y : ℕ) → result place x y ≡ pure (word.add (word_at own.x.low) x) (word.add (word_at own.y.low) y)
   result_own x y = rw at.box_is (rw (eq-eqb place place refl) refl)
@@ -188,7 +186,7 @@ module _ (pipeline : Pipeline) (schedule : Schedule) (boxes : Boxes) (rules : Is
     visits_are : iteration extents stage number ≡ map (visit_of extents) list
     visits_are = listed func extents stage stage_facts.0 stage_facts.1 place (parallel stage) refl number below_count
 
-    ran : (funcs : Planes) → run_task points inputs phase number funcs ≡ run points inputs phase.body (hosting place turned) funcs
+    ran : (funcs : Planes) → run_task points inputs phase number funcs ≡ run points inputs phase.body (consuming place turned) funcs
     ran funcs =
         ap (λ (c : Option Counter). run points inputs phase.body (task_values c number) funcs) counter_is ∙ ap (λ (v : Values). run points inputs phase.body v funcs) (before_by func extents stage stage_facts.0 stage_facts.1 place (parallel stage) number)
 
@@ -205,7 +203,7 @@ module _ (pipeline : Pipeline) (schedule : Schedule) (boxes : Boxes) (rules : Is
 
     module _ (funcs : Planes) (hold : Hold points is_private place (owns extents stage number) start funcs) where
       abbrev State : ℕ → loops.Values → Planes → Type 0
-      State = hosts.State pipeline schedule boxes rules accepted is place func plan own at inputs begun
+      State = consumers.State pipeline schedule boxes rules accepted is place func plan own at inputs begun
 
       -- no Func at a loop has its pixels yet
       begins : (inner : ℕ) → length stage.loops ≤ inner → (values : loops.Values) → State inner values funcs
@@ -216,33 +214,33 @@ module _ (pipeline : Pipeline) (schedule : Schedule) (boxes : Boxes) (rules : Is
             hold k x y (shared k standing there root) inside (λ e. absurd (omega (arith, e, before))) ∙ held_so
             ∙ ap (λ (n : ℕ). pixels pipeline.funcs inputs place k (word.add n x) (word.add (word_at box.y.low) y)) (sym (first_none box.x))
             ∙ ap (λ (n : ℕ). pixels pipeline.funcs inputs place k (word.add (first_of box.x no_loops) x) (word.add n y)) (sym (first_none box.y));
-        hosted = λ k loop h further.
-            absurd (omega (arith, further, most, hosts.few_inside pipeline schedule boxes rules accepted is place func plan own at inputs begun k loop h));
+        produced = λ k loop h further.
+            absurd (omega (arith, further, most, consumers.few_inside pipeline schedule boxes rules accepted is place func plan own at inputs begun k loop h));
       }
 
-      public_outer : (inner k : ℕ) → is_private k ≡ false → hosts.IsOuter pipeline schedule boxes rules accepted is place func plan own at inputs begun inner k
-      public_outer inner k public_so loop h = absurd (true≢false (sym (hosted_private k h.standing loop h.there h.placed_is h.same) ∙ public_so))
+      public_outer : (inner k : ℕ) → is_private k ≡ false → consumers.IsOuter pipeline schedule boxes rules accepted is place func plan own at inputs begun inner k
+      public_outer inner k public_so loop h = absurd (true≢false (sym (produced_private k h.standing loop h.there h.placed_is h.same) ∙ public_so))
 
       record Done (list : List loops.Values) (after : Planes) : Type 0 where
         there : (x y : ℕ) → list_any (hits x y) list ≡ true → after place x y ≡ plane x y
         keeps : (k x y : ℕ) → is_private k ≡ false → (k ≡ place → list_any (hits x y) list ≡ false) → after k x y ≡ funcs k x y
 
       abbrev DoesLoops : List Loop → Stmt → Type 0
-      DoesLoops = hosts.DoesLoops pipeline schedule boxes rules accepted is place func plan own at inputs begun store store_of
+      DoesLoops = consumers.DoesLoops pipeline schedule boxes rules accepted is place func plan own at inputs begun store store_of
 
       inner_does : DoesLoops (inside_of (parallel stage) stage.loops) body.inner
-      inner_does = hosts.all_loops pipeline schedule boxes rules accepted is place func plan own at inputs begun store store_of body.leaf body.bound (inside_of (parallel stage) stage.loops) body.inner body.looped
+      inner_does = consumers.all_loops pipeline schedule boxes rules accepted is place func plan own at inputs begun store store_of body.leaf body.bound (inside_of (parallel stage) stage.loops) body.inner body.looped
 
       done_by : (found : Option Loop) → parallel stage ≡ found → number < count_of (counts extents stage.splits) found → (inner made : Stmt) → HasOutermost pipeline schedule boxes place found inner made
           → DoesLoops (inside_of found stage.loops) inner
           → AllByRecursion IsVisited (wholes extents stage.splits (inside_of found stage.loops) (turned_by func extents stage stage_facts.0 stage_facts.1 place found number))
           → Done (wholes extents stage.splits (inside_of found stage.loops) (turned_by func extents stage stage_facts.0 stage_facts.1 place found number))
-          (run points inputs made (hosting place (turned_by func extents stage stage_facts.0 stage_facts.1 place found number)) funcs)
+          (run points inputs made (consuming place (turned_by func extents stage stage_facts.0 stage_facts.1 place found number)) funcs)
       done_by None e l inner made same does visited =
           let d = does [] (sym (append-nil stage.loops)) zeros (small_by func extents stage stage_facts.0 stage_facts.1 place (few pipeline schedule boxes place func plan own accepted is places.Root tt at) (splits pipeline schedule boxes place func plan own accepted is places.Root tt at) None number l) tt visited funcs (begins (length stage.loops) (omega arith) zeros) in
           record {
-            there = λ x y t. ap (λ (s : Stmt). run points inputs s (hosting place zeros) funcs place x y) same ∙ d.there x y t;
-            keeps = λ k x y public_so free. ap (λ (s : Stmt). run points inputs s (hosting place zeros) funcs k x y) same ∙ d.keeps k x y (public_outer (length stage.loops) k public_so) free;
+            there = λ x y t. ap (λ (s : Stmt). run points inputs s (consuming place zeros) funcs place x y) same ∙ d.there x y t;
+            keeps = λ k x y public_so free. ap (λ (s : Stmt). run points inputs s (consuming place zeros) funcs k x y) same ∙ d.keeps k x y (public_outer (length stage.loops) k public_so) free;
           }
       done_by (Some loop) e l inner made nested does visited =
           let o = outermost stage loop stage_facts.1 e in
@@ -251,14 +249,14 @@ module _ (pipeline : Pipeline) (schedule : Schedule) (boxes : Boxes) (rules : Is
           let values = loops.with loop.id number zeros in
           let most : length stage.loops ≤ suc (length inside) = omega (arith, ap length o.last.loops_are, length-append inside (loop ∷ [])) in
           let turns : AreTurns (counts extents stage.splits) (loop ∷ []) values = (subst (λ (n : ℕ). n < counts extents stage.splits loop.id) (sym (with_same loop.id number zeros)) l, tt) in
-          let there = hosts.turn_there pipeline schedule boxes rules accepted is place func plan own at inputs begun store store_of inside loop inner made nested (subst (λ (ls : List Loop). DoesLoops ls inner) same does) [] o.last.loops_are
+          let there = consumers.turn_there pipeline schedule boxes rules accepted is place func plan own at inputs begun store store_of inside loop inner made nested (subst (λ (ls : List Loop). DoesLoops ls inner) same does) [] o.last.loops_are
           values (small_by func extents stage stage_facts.0 stage_facts.1 place (few pipeline schedule boxes place func plan own accepted is places.Root tt at) (splits pipeline schedule boxes place func plan own accepted is places.Root tt at) (Some loop) number l) turns (subst (λ (ls : List Loop). AllByRecursion IsVisited (wholes extents stage.splits ls values)) same visited) funcs (begins (suc (length inside)) most values) in
-          let keeps = hosts.turn_keeps pipeline schedule boxes rules accepted is place func plan own at inputs begun store store_of inside loop inner made nested (subst (λ (ls : List Loop). DoesLoops ls inner) same does) [] o.last.loops_are
+          let keeps = consumers.turn_keeps pipeline schedule boxes rules accepted is place func plan own at inputs begun store store_of inside loop inner made nested (subst (λ (ls : List Loop). DoesLoops ls inner) same does) [] o.last.loops_are
           values (small_by func extents stage stage_facts.0 stage_facts.1 place (few pipeline schedule boxes place func plan own accepted is places.Root tt at) (splits pipeline schedule boxes place func plan own accepted is places.Root tt at) (Some loop) number l) turns (subst (λ (ls : List Loop). AllByRecursion IsVisited (wholes extents stage.splits ls values)) same visited) funcs (begins (suc (length inside)) most values) in
-          subst (λ (ls : List Loop). Done (wholes extents stage.splits ls values) (run points inputs made (hosting place values) funcs)) (sym same)
+          subst (λ (ls : List Loop). Done (wholes extents stage.splits ls values) (run points inputs made (consuming place values) funcs)) (sym same)
           (record { there = there; keeps = λ k x y public_so free. keeps k x y (public_outer (suc (length inside)) k public_so) free })
 
-      done : Done list (run points inputs phase.body (hosting place turned) funcs)
+      done : Done list (run points inputs phase.body (consuming place turned) funcs)
       done = done_by (parallel stage) refl below_count body.inner phase.body body.begun inner_does all_visited
 
       task_does : (x y : ℕ) → owns extents stage number x y ≡ true → run_task points inputs phase number funcs place x y ≡ result place x y

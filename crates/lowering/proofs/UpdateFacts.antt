@@ -9,14 +9,13 @@ use Rattle.halide_pipeline.specs.declared.definitions.Reduction.{Reduction}
 use Rattle.halide_pipeline.specs.declared.definitions.Update.{Update}
 use Rattle.halide_pipeline.specs.declared.expressions.Expr.{Expr}
 use Rattle.halide_pipeline.specs.declared.expressions.Variable.TheVariants as variables
-use Rattle.halide_pipeline.specs.Definitions.{dimensions, is_first_in_place, is_second, is_second_in_place}
-use Rattle.halide_pipeline.specs.WellFormed.{IsWellFormed, IsUpdate, is_width, is_height, is_box, keeps_index, is_read, is_update_variable, most_points}
+use Rattle.halide_pipeline.specs.WellFormed.{dimensions, is_first_in_place, is_second, is_second_in_place, IsWellFormed, IsUpdate, is_width, is_height, is_box, keeps_index, is_read, is_update_variable, most_points}
 use Rattle.halide_pipeline.specs.WellFormed as formed
 use Rattle.halide_pipeline.specs.Pixel.{points, second_extent}
 use Rattle.schedule_lines.specs.declared.stages.Loop.{Loop}
 use Rattle.schedule_loops.specs.Stages.{first_loops, has_variable, points_of}
 use Rattle.bounds.specs.declared.boxes.SourceBox.{SourceBox}
-use Rattle.lowering.specs.Updates.{update_extents}
+use Rattle.bounds.specs.Extents.{update_extents}
 
 -- ---- which variables have loops
 

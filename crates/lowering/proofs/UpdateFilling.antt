@@ -16,16 +16,17 @@ use Rattle.schedule.specs.declared.standings.Place.TheVariants as places
 use Rattle.schedule.specs.declared.standings.Standing.{Standing}
 use Rattle.schedule.specs.Accepted.{IsAccepted, IsPlan, IsUpdateStage}
 use Rattle.schedule.proofs.Uses.{IsSome}
-use Rattle.schedule_loops.specs.Counts as loops
+use Rattle.schedule_loops.specs.Visits as loops
 use Rattle.schedule_loops.proofs.AcceptedStages.{pair_at}
 use Rattle.bounds_ranges.specs.Laws.{Below}
-use Rattle.bounds.specs.declared.boxes.HostLoop.{HostLoop}
+use Rattle.bounds.specs.declared.boxes.ConsumerLoop.{ConsumerLoop}
 use Rattle.bounds.specs.declared.boxes.SourceBox.{SourceBox}
 use Rattle.bounds.specs.declared.verdict.Boxes.{Boxes}
-use Rattle.bounds.specs.Boxes.{IsBox, no_loops, lasts_of, extent}
+use Rattle.bounds.specs.Boxes.{IsBox, no_loops, lasts_of}
+use Rattle.bounds.specs.Extents.{extent, BoxCorner}
 use Rattle.bounds.specs.Verdict.{inferred}
-use Rattle.bounds_laws.specs.HostLaws.{IsFrom}
-use Rattle.bounds_laws.specs.Laws.{IsComputed, values_for, host_in}
+use Rattle.bounds_laws.specs.ConsumerLaws.{IsFrom}
+use Rattle.bounds_laws.specs.Laws.{IsComputed, values_for, consumer_in}
 use Rattle.bounds_laws.proofs.PutIn.{pair_there}
 use Rattle.loop_ir.specs.declared.statements.Stmt.{Stmt}
 use Rattle.loop_ir.specs.Counters.{Values}
@@ -34,18 +35,18 @@ use Rattle.loop_ir.specs.Soundness.{is_sound}
 use Rattle.lowering_nests.specs.Nests.{loops_of, put_loops}
 use Rattle.lowering_expressions.specs.declared.calls.Corner.{Corner}
 use Rattle.lowering.specs.Corners.{first_of, turns_for, IsCorner, AreCorners}
-use Rattle.lowering.specs.Hosting.{hosting, Leaves, DoesFirst, DoesNest, DoesNests, IsSoundNest}
-use Rattle.lowering.specs.Planes.{BoxCorner, box_points}
-use Rattle.lowering.specs.PurePhases.{IsComputedAt}
-use Rattle.lowering.specs.Updates.{IsComputedIn, IsUpdateAt, IsCornerAt, IsBegin, ReadsPixels, LoadsOthers, DoesUpdate, AreSoundLoops, hosted_turns, host_at}
+use Rattle.lowering.specs.Consuming.{consuming, Leaves, DoesFirst, DoesNest, DoesNests, IsSoundNest}
+use Rattle.lowering.specs.Planes.{box_points}
+use Rattle.bounds.specs.Stages.{IsComputedAt}
+use Rattle.lowering.specs.Updates.{IsComputedIn, IsUpdateAt, IsCornerAt, IsBegin, ReadsPixels, LoadsOthers, DoesUpdate, AreSoundLoops, produced_turns, consumer_at}
 use Rattle.lowering.specs.Updates as updates
 use Rattle.lowering.proofs.Facts as facts
-use Rattle.lowering.proofs.Facts.{is_box, hosted_before}
-use Rattle.lowering.proofs.Filling.{loops_hosting, no_other_loops, loops_put_other, turns_by}
+use Rattle.lowering.proofs.Facts.{is_box, produced_before}
+use Rattle.lowering.proofs.Filling.{loops_consuming, no_other_loops, loops_put_other, turns_by}
 use Rattle.lowering.proofs.Offsets.{first_small, from_first_on}
 use Rattle.lowering.proofs.Values.{corner_at}
 
--- ---- values of loops of a host that may be missing
+-- ---- values of loops of a consumer that may be missing
 
 no_values : (values : List ℕ) → Below values no_loops → values ≡ no_loops
 no_values [] below = absurd below
@@ -62,9 +63,9 @@ no_values (a ∷ b ∷ c ∷ d ∷ e ∷ []) below =
     cc
 no_values (a ∷ b ∷ c ∷ d ∷ e ∷ f ∷ more) below = absurd below.1.1.1.1.1
 
-values_are : (host : Option HostLoop) (values : List ℕ) → Below values (lasts_of host) → values_for host values ≡ values
+values_are : (consumer : Option ConsumerLoop) (values : List ℕ) → Below values (lasts_of consumer) → values_for consumer values ≡ values
 values_are None values below = sym (no_values values below)
-values_are (Some host) values below = refl
+values_are (Some consumer) values below = refl
 
 add_none : (n : ℕ) → n < 2 ^ 32 → word.add 0 n ≡ n
 unfolding word.add
@@ -73,7 +74,7 @@ add_none n few = omega (arith, few)
 module _ (pipeline : Pipeline) (schedule : Schedule) (boxes : Boxes) (accepted : IsAccepted pipeline schedule) (is : inferred pipeline schedule ≡ Ok boxes)
     (loop : LoopPlace) (place : ℕ) (func : Func) (plan : FuncPlan) (own : SourceBox) (parts : IsComputedAt pipeline schedule boxes (places.At loop) place func plan own) where
   here : place < loop.func
-  here = hosted_before pipeline schedule accepted place parts.standing parts.there loop parts.placed_is
+  here = produced_before pipeline schedule accepted place parts.standing parts.there loop parts.placed_is
 
   box_facts : IsBox own
   box_facts = is_box pipeline schedule boxes place func plan own accepted is (places.At loop) here parts
@@ -105,16 +106,16 @@ module _ (pipeline : Pipeline) (schedule : Schedule) (boxes : Boxes) (accepted :
 
   -- ---- one more stage
 
-  lasts_here : own.lasts ≡ lasts_of (host_at schedule boxes parts.standing)
+  lasts_here : own.lasts ≡ lasts_of (consumer_at schedule boxes parts.standing)
   lasts_here =
       facts.lasts_are pipeline schedule boxes place func plan own accepted is (places.At loop) here parts
-      ∙ ap (λ (p : Place). lasts_of (host_in schedule boxes.funcs p)) (sym parts.placed_is)
+      ∙ ap (λ (p : Place). lasts_of (consumer_in schedule boxes.funcs p)) (sym parts.placed_is)
 
   module _ (corners : List Corner) (are : AreCorners schedule.funcs boxes.funcs schedule.standings corners) (corner : Corner) (corner_is : slice_get corners place ≡ Some corner) where
-    -- while loops of the host are in these turns
-    module _ (turned : loops.Values) (below : Below (turns_for schedule.funcs (places.At loop) (hosting loop.func turned)) own.lasts) where
+    -- while loops of the consumer are in these turns
+    module _ (turned : loops.Values) (below : Below (turns_for schedule.funcs (places.At loop) (consuming loop.func turned)) own.lasts) where
       abbrev counters : Values
-      counters = hosting loop.func turned
+      counters = consuming loop.func turned
 
       abbrev values : List ℕ
       values = turns_for schedule.funcs (places.At loop) counters
@@ -122,16 +123,16 @@ module _ (pipeline : Pipeline) (schedule : Schedule) (boxes : Boxes) (accepted :
       abbrev begin : BoxCorner
       begin = record { x = first_of own.x values; y = first_of own.y values }
 
-      host_below : Below values (lasts_of (host_at schedule boxes parts.standing))
-      host_below = subst (λ (l : List ℕ). Below values l) lasts_here below
+      consumer_below : Below values (lasts_of (consumer_at schedule boxes parts.standing))
+      consumer_below = subst (λ (l : List ℕ). Below values l) lasts_here below
 
-      turns_so : hosted_turns schedule boxes parts.standing values ≡ values
-      turns_so = values_are (host_at schedule boxes parts.standing) values host_below
+      turns_so : produced_turns schedule boxes parts.standing values ≡ values
+      turns_so = values_are (consumer_at schedule boxes parts.standing) values consumer_below
 
-      below_so : Below (hosted_turns schedule boxes parts.standing values) (lasts_of (host_at schedule boxes parts.standing))
-      below_so = subst (λ (l : List ℕ). Below l (lasts_of (host_at schedule boxes parts.standing))) (sym turns_so) host_below
+      below_so : Below (produced_turns schedule boxes parts.standing values) (lasts_of (consumer_at schedule boxes parts.standing))
+      below_so = subst (λ (l : List ℕ). Below l (lasts_of (consumer_at schedule boxes parts.standing))) (sym turns_so) consumer_below
 
-      begins : IsBegin (hosted_turns schedule boxes parts.standing values) own begin
+      begins : IsBegin (produced_turns schedule boxes parts.standing values) own begin
       begins =
           subst (λ (l : List ℕ). IsBegin l own begin) (sym turns_so)
           (record {
@@ -148,7 +149,7 @@ module _ (pipeline : Pipeline) (schedule : Schedule) (boxes : Boxes) (accepted :
           (c.0 ∙ ap (first_of own.x) (turns_stay inner), c.1 ∙ ap (first_of own.y) (turns_stay inner))
 
       loops_stay : (inner : loops.Values) → loops_of loop.func (put_loops place inner counters) ≡ turned
-      loops_stay inner = loops_put_other place loop.func inner counters (λ e. omega (arith, e, here)) ∙ loops_hosting loop.func turned
+      loops_stay inner = loops_put_other place loop.func inner counters (λ e. omega (arith, e, here)) ∙ loops_consuming loop.func turned
 
       not_begun : (id : LoopId) → loops_of place counters id ≡ 0
       not_begun id = ap (λ (t : loops.Values). t id) (no_other_loops loop.func place turned (λ e. omega (arith, e, here)))

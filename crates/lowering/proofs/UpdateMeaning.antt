@@ -10,10 +10,9 @@ use Rattle.halide_pipeline.specs.declared.expressions.Source.{Source}
 use Rattle.halide_pipeline.specs.declared.expressions.Source.TheVariants as sources
 use Rattle.halide_pipeline.specs.declared.expressions.Variable.{Variable}
 use Rattle.halide_pipeline.specs.declared.expressions.Variable.TheVariants as variables
-use Rattle.halide_pipeline.specs.Definitions.{dimensions, is_first_in_place, is_second_in_place}
+use Rattle.halide_pipeline.specs.WellFormed.{dimensions, is_first_in_place, is_second_in_place, keeps, keeps_index, is_read, is_func_of, is_update_variable, is_used, is_used_in, IsWellFormed, IsUpdate}
 use Rattle.halide_pipeline.specs.Expressions.{uses}
 use Rattle.halide_pipeline.specs.Pipelines.{Pipeline}
-use Rattle.halide_pipeline.specs.WellFormed.{keeps, keeps_index, is_read, is_func_of, is_update_variable, is_used, is_used_in, IsWellFormed, IsUpdate}
 use Rattle.halide_pipeline.specs.declared.environments.Environment.{Environment}
 use Rattle.halide_pipeline.specs.Pixel.{Plane, Planes, Reads, value, variable, reads_of, with_plane, index_value, pixels, stage, after, at_reduction}
 use Rattle.halide_pipeline.specs.Points.{Point, Seen, AgreeAt, Agree}
@@ -23,7 +22,7 @@ use Rattle.schedule.specs.declared.standings.Place.{Place}
 use Rattle.schedule.specs.declared.standings.Place.TheVariants as places
 use Rattle.schedule.specs.declared.standings.Standing.{Standing}
 use Rattle.schedule.specs.Accepted.{IsAccepted}
-use Rattle.schedule.specs.Calls.{calls, second_calls, update_calls, updates_call, func_calls, place_calls, place_calls_of}
+use Rattle.schedule.specs.Standing.{calls, second_calls, update_calls, updates_call, func_calls, place_calls, place_calls_of}
 use Rattle.schedule.specs.Legal.{is_inlined}
 use Rattle.schedule.specs.Uses.{IsReached}
 use Rattle.bounds_inlining.specs.Inlining.{inlined, is_computed}
@@ -34,7 +33,7 @@ use Rattle.bounds_ranges.specs.Laws.{AnswerWords}
 use Rattle.bounds_ranges.proofs.PixelWords.{pixels_are_words, stages_are_words, with_words}
 use Rattle.bounds_laws.specs.Closure.{is_put_in}
 use Rattle.bounds_laws.specs.Laws.{IsComputed, update_points, seen_in, second_seen}
-use Rattle.bounds.specs.Sources.{same_source}
+use Rattle.bounds.specs.Boxes.{same_source}
 use Rattle.bounds_laws.proofs.Callers.{or_left, or_right, updates_one}
 use Rattle.bounds_laws.proofs.PutIn.{put, flags, reached, same_seen, put_simple, reaching}
 use Rattle.lowering.specs.Updates.{index_of}

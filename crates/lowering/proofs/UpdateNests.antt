@@ -8,9 +8,8 @@ use Rattle.halide_pipeline.specs.declared.definitions.Func.{Func}
 use Rattle.halide_pipeline.specs.declared.definitions.Update.{Update}
 use Rattle.halide_pipeline.specs.declared.expressions.Source.TheVariants as sources
 use Rattle.halide_pipeline.specs.declared.expressions.Variable.TheVariants as variables
-use Rattle.halide_pipeline.specs.Definitions.{is_first_in_place, is_second_in_place}
+use Rattle.halide_pipeline.specs.WellFormed.{is_first_in_place, is_second_in_place, IsWellFormed}
 use Rattle.halide_pipeline.specs.Pipelines.{Pipeline}
-use Rattle.halide_pipeline.specs.WellFormed.{IsWellFormed}
 use Rattle.halide_pipeline.specs.Words as word
 use Rattle.halide_pipeline.specs.Pixel.{Planes, points}
 use Rattle.schedule_lines.specs.declared.stages.LoopId.TheVariants as ids
@@ -20,7 +19,7 @@ use Rattle.schedule.specs.declared.schedules.Schedule.{Schedule}
 use Rattle.schedule.specs.declared.standings.Standing.{Standing}
 use Rattle.schedule.specs.Accepted.{IsAccepted}
 use Rattle.schedule_loops.specs.declared.extents.Extents.{Extents}
-use Rattle.schedule_loops.specs.Counts as loops
+use Rattle.schedule_loops.specs.Visits as loops
 use Rattle.schedule_loops.specs.Reach.{wholes}
 use Rattle.schedule_loops.specs.Stages.{IsStageOf, KeepsRules, IsVisitOf}
 use Rattle.schedule_loops.specs.Visits.{Visit, visit_of, slice, rising, zeros}
@@ -38,8 +37,9 @@ use Rattle.loop_ir.specs.Soundness.{is_sound}
 use Rattle.lowering_nests.specs.Nests.{loops_of, put_loops, all, AreSmall, Repeats}
 use Rattle.lowering_expressions.specs.declared.calls.Corner.{Corner}
 use Rattle.lowering_expressions.specs.Lowering.{placed, place as place_in}
-use Rattle.lowering.specs.Planes.{BoxCorner, has_point, box_points}
-use Rattle.lowering.specs.Updates.{IsComputedIn, IsUpdateAt, StoresUpdate, IsSoundUpdate, DoesUpdate, AreSoundLoops, update_extents, in_place, is_visited, IsCornerAt, stage_from}
+use Rattle.lowering.specs.Planes.{has_point, box_points}
+use Rattle.bounds.specs.Extents.{BoxCorner, update_extents}
+use Rattle.lowering.specs.Updates.{IsComputedIn, IsUpdateAt, StoresUpdate, IsSoundUpdate, DoesUpdate, AreSoundLoops, in_place, is_visited, IsCornerAt, stage_from}
 use Rattle.lowering.proofs.Lists.{all_pass}
 use Rattle.lowering.proofs.UpdateFacts.{has_reduction, points_are}
 use Rattle.lowering.proofs.UpdateRuns.{members, all_so, leaves, stays}

@@ -19,23 +19,23 @@ use Rattle.schedule.specs.declared.standings.LoopPlace.{LoopPlace}
 use Rattle.schedule.specs.declared.standings.Place.{Place}
 use Rattle.schedule.specs.declared.standings.Place.TheVariants as places
 use Rattle.schedule.specs.declared.standings.Standing.{Standing}
-use Rattle.schedule.specs.Accepted.{IsAccepted, IsPlan, IsLegal, IsHosted}
+use Rattle.schedule.specs.Accepted.{IsAccepted, IsPlan, IsLegal, IsProduced}
 use Rattle.schedule.specs.Legal.{is_inlined, is_nowhere}
 use Rattle.schedule.specs.Uses.{IsReached}
 use Rattle.schedule.proofs.Uses.{IsSome, some_before, numbered_at}
-use Rattle.schedule_loops.specs.Counts as loops
+use Rattle.schedule_loops.specs.Visits as loops
 use Rattle.schedule_loops.proofs.AcceptedStages.{pair_at}
 use Rattle.bounds_inlining.specs.Inlining.{flagged}
 use Rattle.bounds_ranges.specs.Laws.{Below, Lies, AnswerWords}
 use Rattle.bounds_weights.specs.Weight.{flags_of}
 use Rattle.bounds.specs.declared.boxes.SourceBox.{SourceBox}
 use Rattle.bounds.specs.declared.verdict.Boxes.{Boxes}
-use Rattle.bounds.specs.Boxes.{no_loops, lasts_of, extent}
-use Rattle.bounds.specs.Sources.{same_source}
+use Rattle.bounds.specs.Boxes.{no_loops, lasts_of, same_source}
+use Rattle.bounds.specs.Extents.{extent, word_at}
 use Rattle.bounds.specs.Verdict.{inferred}
 use Rattle.bounds_laws.specs.Callers.{IsReadThrough, AreReadThrough, IsReadWithin, StandsAt, HasLoop, IsWithin}
-use Rattle.bounds_laws.specs.Laws.{LiesIn, IsBoxed, AreBoxed, IsComputed, host_in, update_points}
-use Rattle.bounds_laws.proofs.BoxesHosted.{boxes_are_hosted, points_are_near}
+use Rattle.bounds_laws.specs.Laws.{LiesIn, IsBoxed, AreBoxed, IsComputed, consumer_in, update_points}
+use Rattle.bounds_laws.proofs.BoxesProduced.{boxes_are_produced, points_are_near}
 use Rattle.bounds_laws.proofs.Callers.{update_points_are_read_through}
 use Rattle.bounds_laws.proofs.Found.{no_below}
 use Rattle.bounds_laws.proofs.PutIn.{pair_there}
@@ -45,12 +45,13 @@ use Rattle.loop_ir.specs.Counters.{Values}
 use Rattle.lowering_nests.specs.Nests.{put_loops}
 use Rattle.lowering_expressions.specs.declared.calls.Corner.{Corner}
 use Rattle.lowering_expressions.specs.Lowering.{placed}
-use Rattle.lowering.specs.Planes.{word_at, held, box_points}
+use Rattle.lowering.specs.Planes.{held, box_points}
 use Rattle.lowering.specs.Corners.{AreCorners}
-use Rattle.lowering.specs.PurePhases.{IsAtRoot, RootsAreShared}
+use Rattle.lowering.specs.PurePhases.{RootsAreShared}
+use Rattle.bounds.specs.Stages.{IsAtRoot}
 use Rattle.lowering.specs.Stages.{is_private, is_private_in, is_at_loop}
 use Rattle.lowering.specs.Updates.{IsUpdateAt, ReadsPixels}
-use Rattle.lowering.proofs.RootFacts.{HostsNone, is_box, no_lasts, offset_within, offset_back, root_corner_at}
+use Rattle.lowering.proofs.RootFacts.{ConsumersNone, is_box, no_lasts, offset_within, offset_back, root_corner_at}
 use Rattle.lowering.proofs.Values.{same_self}
 
 -- ---- standings
@@ -61,23 +62,23 @@ no_stage (first ∷ others) at stage found none = omega (arith, none)
 
 module _ (pipeline : Pipeline) (schedule : Schedule) (accepted : IsAccepted pipeline schedule) where
   -- No Func is computed at a loop of one with an update.
-  pub hosts_none : (place : ℕ) (plan : FuncPlan) (at : ℕ) (stage : Stage) → slice_get schedule.funcs place ≡ Some plan → slice_get plan.updates at ≡ Some stage → HostsNone schedule.standings place
-  hosts_none place plan at stage plan_is stage_is other own host there place_is same =
+  pub consumers_none : (place : ℕ) (plan : FuncPlan) (at : ℕ) (stage : Stage) → slice_get schedule.funcs place ≡ Some plan → slice_get plan.updates at ≡ Some stage → ConsumersNone schedule.standings place
+  consumers_none place plan at stage plan_is stage_is other own consumer there place_is same =
       let here : 0 + other ≡ other = omega arith in
-      let hosted : IsHosted pipeline schedule.funcs other own =
-      subst (λ (n : ℕ). IsHosted pipeline schedule.funcs n own) here (numbered_at (IsHosted pipeline schedule.funcs) 0 schedule.standings accepted.hosts other own there.standing) in
-      let h = hosted host place_is in
+      let produced : IsProduced pipeline schedule.funcs other own =
+      subst (λ (n : ℕ). IsProduced pipeline schedule.funcs n own) here (numbered_at (IsProduced pipeline schedule.funcs) 0 schedule.standings accepted.consumers other own there.standing) in
+      let h = produced consumer place_is in
       let same_plan : Some h.plan ≡ Some plan = sym h.plan_is ∙ ap (slice_get schedule.funcs) same ∙ plan_is in
       let plan_same : h.plan ≡ plan = cc in
       no_stage plan.updates at stage stage_is (ap (λ (p : FuncPlan). length p.updates) (sym plan_same) ∙ h.no_updates)
 
-  -- So nothing that is computed at a loop is read by a root that hosts none.
-  pub none_within : (place : ℕ) (its : Standing) → IsReached schedule.standings place its → its.place ≡ places.Root → HostsNone schedule.standings place
-      → (k : ℕ) (w : IsReadWithin schedule place k) (host : LoopPlace) → w.own.place ≡ places.At host → ⊥
-  none_within place its there root none k w host e = by_stand (w.within host e)
+  -- So nothing that is computed at a loop is read by a root that consumers none.
+  pub none_within : (place : ℕ) (its : Standing) → IsReached schedule.standings place its → its.place ≡ places.Root → ConsumersNone schedule.standings place
+      → (k : ℕ) (w : IsReadWithin schedule place k) (consumer : LoopPlace) → w.own.place ≡ places.At consumer → ⊥
+  none_within place its there root none k w consumer e = by_stand (w.within consumer e)
     where
-      by_stand : StandsAt schedule host place → ⊥
-      by_stand (HasLoop same) = none k w.own host w.there e (sym same)
+      by_stand : StandsAt schedule consumer place → ⊥
+      by_stand (HasLoop same) = none k w.own consumer w.there e (sym same)
       by_stand (IsWithin standing other there_too other_place inside) =
           let same = one_standing schedule.standings place standing its there_too.standing there.standing in
           let wrong : places.At other ≡ places.Root = sym other_place ∙ ap (λ (s : Standing). s.place) same ∙ root in
@@ -101,8 +102,8 @@ module _ (pipeline : Pipeline) (schedule : Schedule) (boxes : Boxes) (rules : Is
   plain : flagged (flags_of schedule.standings) place ≡ false
   plain = flag_is schedule.standings place at.standing at.there.standing ∙ ap is_inlined at.placed_is
 
-  none_hosted : HostsNone schedule.standings place
-  none_hosted = hosts_none pipeline schedule accepted place plan number_at stage it.plan_is it.stage_is
+  none_produced : ConsumersNone schedule.standings place
+  none_produced = consumers_none pipeline schedule accepted place plan number_at stage it.plan_is it.stage_is
 
   -- ---- which Funcs are read
 
@@ -114,7 +115,7 @@ module _ (pipeline : Pipeline) (schedule : Schedule) (boxes : Boxes) (rules : Is
 
   root_read : (k : ℕ) (w : IsReadWithin schedule place k) → flagged (flags_of schedule.standings) k ≡ false → (p : Place) → w.own.place ≡ p → p ≡ places.Root
   root_read k w unflagged places.Root e = refl
-  root_read k w unflagged (places.At host) e = absurd (none_within pipeline schedule accepted place at.standing at.there at.placed_is none_hosted k w host e)
+  root_read k w unflagged (places.At consumer) e = absurd (none_within pipeline schedule accepted place at.standing at.there at.placed_is none_produced k w consumer e)
   root_read k w unflagged places.Inlined e = absurd (true≢false (sym (flag_is schedule.standings k w.own w.there.standing ∙ ap is_inlined e) ∙ unflagged))
   root_read k w unflagged places.Nowhere e = absurd (true≢false (sym (ap is_nowhere e) ∙ somewhere k w.before w.own w.there))
 
@@ -147,8 +148,8 @@ module _ (pipeline : Pipeline) (schedule : Schedule) (boxes : Boxes) (rules : Is
 
     lasts_at : (k : ℕ) (sought : Standing) → IsReached schedule.standings k sought → sought.place ≡ places.Root → (box : SourceBox) → slice_get boxes.funcs k ≡ Some (Some box) → box.lasts ≡ no_loops
     lasts_at k sought there root box box_is =
-        (boxes_are_hosted pipeline schedule boxes is k sought there.standing there.reached (subst (λ (p : Place). IsComputed k p) (sym root) tt) box box_is).lasts
-        ∙ ap (λ (p : Place). lasts_of (host_in schedule boxes.funcs p)) root
+        (boxes_are_produced pipeline schedule boxes is k sought there.standing there.reached (subst (λ (p : Place). IsComputed k p) (sym root) tt) box box_is).lasts
+        ∙ ap (λ (p : Place). lasts_of (consumer_in schedule boxes.funcs p)) root
 
     -- what is known of points that are read
     record AreRead (list : List Point) : Type 0 where
@@ -191,7 +192,7 @@ module _ (pipeline : Pipeline) (schedule : Schedule) (boxes : Boxes) (rules : Is
         funcs = λ k sought earlier there root.
             let near = points_are_near own (is_box pipeline schedule boxes place func plan own accepted is at) no_loops below x y lies in
             update_reads_of_funcs_lie pipeline schedule boxes rules is place func own at.func_is at.box_is number_at update it.update_is k sought earlier there.standing there.reached
-            (subst (λ (p : Place). IsComputed k p) (sym root) tt) None (ap (λ (p : Place). host_in schedule boxes.funcs p) root) own refl reads words no_loops below no_below x y lies near.0 near.1 number few;
+            (subst (λ (p : Place). IsComputed k p) (sym root) tt) None (ap (λ (p : Place). consumer_in schedule boxes.funcs p) root) own refl reads words no_loops below no_below x y lies near.0 near.1 number few;
         through = update_points_are_read_through pipeline schedule rules place func at.func_is plain number_at update it.update_is reads number x y;
       }
 

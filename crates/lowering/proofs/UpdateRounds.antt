@@ -9,9 +9,8 @@ use Rattle.halide_pipeline.specs.declared.expressions.Expr.{Expr}
 use Rattle.halide_pipeline.specs.declared.expressions.Source.{Source}
 use Rattle.halide_pipeline.specs.declared.expressions.Source.TheVariants as sources
 use Rattle.halide_pipeline.specs.declared.expressions.Variable.TheVariants as variables
-use Rattle.halide_pipeline.specs.Definitions.{is_first_in_place, is_second_in_place}
+use Rattle.halide_pipeline.specs.WellFormed.{is_first_in_place, is_second_in_place, IsWellFormed}
 use Rattle.halide_pipeline.specs.Pipelines.{Pipeline}
-use Rattle.halide_pipeline.specs.WellFormed.{IsWellFormed}
 use Rattle.halide_pipeline.specs.Words as word
 use Rattle.halide_pipeline.specs.declared.environments.Environment.{Environment}
 use Rattle.halide_pipeline.specs.Pixel.{Reads, variable, at_reduction}
@@ -22,8 +21,8 @@ use Rattle.bounds_inlining.specs.Inlining.{inlined}
 use Rattle.bounds_inlining.specs.Laws.{seen_variable}
 use Rattle.bounds_inlining.specs.Values.{values as valuing, seeing}
 use Rattle.bounds_inlining.proofs.Seeing.{sees_inlined_values}
-use Rattle.bounds.specs.Sources.{same_source}
-use Rattle.bounds_laws.specs.HostLaws.{IsInPlace}
+use Rattle.bounds.specs.Boxes.{same_source}
+use Rattle.bounds_laws.specs.ConsumerLaws.{IsInPlace}
 use Rattle.bounds_laws.specs.Laws.{update_points, seen_in, second_seen}
 use Rattle.bounds_laws.proofs.PutIn.{flags}
 use Rattle.bounds_laws.proofs.StayingReads.{own_reads_stay}

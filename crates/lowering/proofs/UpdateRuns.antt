@@ -15,7 +15,7 @@ use Rattle.schedule.specs.declared.standings.Standing.{Standing}
 use Rattle.schedule.specs.Accepted.{IsAccepted}
 use Rattle.schedule.specs.Uses.{IsReached}
 use Rattle.schedule_loops.specs.declared.extents.Extents.{Extents}
-use Rattle.schedule_loops.specs.Counts as loops
+use Rattle.schedule_loops.specs.Visits as loops
 use Rattle.schedule_loops.specs.Stages.{IsVisitOf}
 use Rattle.schedule_loops.specs.Visits.{Visit, visit_of, slice, rising}
 use Rattle.bounds_ranges.specs.Laws.{Below, AnswerWords}
@@ -31,9 +31,10 @@ use Rattle.loop_ir.specs.Counters.{Values}
 use Rattle.loop_ir.specs.Stores.{Trace, trace}
 use Rattle.lowering_nests.specs.Nests.{put_loops, all}
 use Rattle.lowering_expressions.specs.declared.calls.Corner.{Corner}
-use Rattle.lowering.specs.Planes.{BoxCorner, has_point, box_points}
-use Rattle.lowering.specs.Stored.{named_point, is_point}
-use Rattle.lowering.specs.Updates.{StoresUpdate, HitsUpdate, update_extents, is_visited, IsCornerAt, IsBegin, ReadsPixels, host_at, hosted_turns, stage_from}
+use Rattle.lowering.specs.Planes.{has_point, box_points}
+use Rattle.bounds.specs.Extents.{BoxCorner, update_extents}
+use Rattle.bounds.specs.Stages.{named_point, is_point}
+use Rattle.lowering.specs.Updates.{StoresUpdate, HitsUpdate, is_visited, IsCornerAt, IsBegin, ReadsPixels, consumer_at, produced_turns, stage_from}
 use Rattle.lowering.proofs.Lists.{any_gives, all_map}
 use Rattle.lowering.proofs.Slices.{Goes, Gone, Marks, slices_go, slices_mark}
 use Rattle.lowering.proofs.UpdateSteps.{ReadsOwn, from_begin, column_in, row_in, step, goes, marks, named_inside}
@@ -68,11 +69,11 @@ module _ (pipeline : Pipeline) (schedule : Schedule) (boxes : Boxes) (rules : Is
     (standing : Standing) (there : IsReached schedule.standings place standing) (computed : IsComputed place standing.place)
     (at : ℕ) (update : Update) (update_is : slice_get func.updates at ≡ Some update)
     (inputs : Planes) (begun : AnswerWords pipeline.inputs (reads_of inputs (pixels pipeline.funcs inputs 0)))
-    (turns : List ℕ) (below : Below (hosted_turns schedule boxes standing turns) (lasts_of (host_at schedule boxes standing)))
-    (begin : BoxCorner) (begins : IsBegin (hosted_turns schedule boxes standing turns) own begin)
+    (turns : List ℕ) (below : Below (produced_turns schedule boxes standing turns) (lasts_of (consumer_at schedule boxes standing)))
+    (begin : BoxCorner) (begins : IsBegin (produced_turns schedule boxes standing turns) own begin)
     (corners : List Corner) (before : Values) (corner : Corner) (corner_is : IsCornerAt place before corner begin) (reads_own : ReadsOwn corners place before inputs begin)
     (store : Stmt) (stores : StoresUpdate corners (flags pipeline schedule) pipeline.funcs place corner update store)
-    (funcs : Planes) (reads_others : ReadsPixels pipeline schedule corners place update (hosted_turns schedule boxes standing turns) own inputs before funcs)
+    (funcs : Planes) (reads_others : ReadsPixels pipeline schedule corners place update (produced_turns schedule boxes standing turns) own inputs before funcs)
     (list : List loops.Values)
     (visits : AllByRecursion (IsVisitOf func (Some update) (update_extents own update)) (map (visit_of (update_extents own update)) list))
     (reduced : AllByRecursion (λ inner. inner (ids.Whole variables.FirstReduction) < update.first.extent) list)

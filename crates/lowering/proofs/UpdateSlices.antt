@@ -6,13 +6,12 @@ use Rattle.halide_pipeline.specs.declared.definitions.Func.{Func}
 use Rattle.halide_pipeline.specs.declared.definitions.Input.{Input}
 use Rattle.halide_pipeline.specs.declared.definitions.Update.{Update}
 use Rattle.halide_pipeline.specs.declared.expressions.Variable.TheVariants as variables
-use Rattle.halide_pipeline.specs.Definitions.{dimensions, is_first_in_place, is_second_in_place}
-use Rattle.halide_pipeline.specs.WellFormed.{IsUpdate}
+use Rattle.halide_pipeline.specs.WellFormed.{dimensions, is_first_in_place, is_second_in_place, IsUpdate}
 use Rattle.schedule_loops.specs.Stages.{first_loops, is_slice_of, extent_in, has_variable}
 use Rattle.bounds.specs.declared.boxes.SourceBox.{SourceBox}
-use Rattle.bounds.specs.Boxes.{extent}
+use Rattle.bounds.specs.Extents.{extent, update_extents}
 use Rattle.lowering.specs.Planes.{has_point}
-use Rattle.lowering.specs.Updates.{update_extents, in_place}
+use Rattle.lowering.specs.Updates.{in_place}
 use Rattle.lowering.proofs.UpdateFacts.{has_first, no_second, second_there}
 
 module _ (func : Func) (update : Update) (own : SourceBox) (inputs : List Input) (funcs : List Func) (place : ℕ) (formed : IsUpdate inputs funcs place (dimensions func) update) where

@@ -14,20 +14,20 @@ use Rattle.schedule.specs.declared.schedules.Schedule.{Schedule}
 use Rattle.schedule.specs.declared.standings.Standing.{Standing}
 use Rattle.schedule.specs.Accepted.{IsAccepted, IsPlan, IsLegal}
 use Rattle.schedule.specs.Uses.{IsReached}
-use Rattle.schedule_loops.specs.Counts.{AreSplits}
+use Rattle.schedule_loops.specs.Visits.{AreSplits}
 use Rattle.schedule_loops.specs.Stages.{IsStageOf, KeepsRules}
 use Rattle.schedule_loops.proofs.AcceptedStages.{accepted as accepted_stages, pair_at}
 use Rattle.schedule_loops.proofs.Few.{few_splits}
 use Rattle.bounds.specs.declared.boxes.SourceBox.{SourceBox}
 use Rattle.bounds.specs.declared.verdict.Boxes.{Boxes}
-use Rattle.bounds.specs.Boxes.{IsBox, extent, points}
-use Rattle.bounds.specs.Judging.{have_few_points}
-use Rattle.bounds.specs.Verdict.{inferred}
+use Rattle.bounds.specs.Boxes.{IsBox}
+use Rattle.bounds.specs.Extents.{extent, points, update_extents}
+use Rattle.bounds.specs.Verdict.{have_few_points, inferred}
 use Rattle.bounds_laws.specs.Laws.{IsComputed}
-use Rattle.bounds_laws.proofs.BoxesHosted.{boxes_are_hosted}
+use Rattle.bounds_laws.proofs.BoxesProduced.{boxes_are_produced}
 use Rattle.bounds_laws.proofs.BoxFacts.{is_judged}
 use Rattle.lowering_nests.specs.Nests.{AreFew}
-use Rattle.lowering.specs.Updates.{IsUpdateAt, update_extents}
+use Rattle.lowering.specs.Updates.{IsUpdateAt}
 use Rattle.lowering.proofs.Facts.{few_at, first_few, second_few}
 use Rattle.lowering.proofs.UpdateFacts as facts
 
@@ -55,7 +55,7 @@ module _ (pipeline : Pipeline) (schedule : Schedule) (boxes : Boxes) (rules : Is
     (place : ℕ) (func : Func) (own : SourceBox) (func_is : slice_get pipeline.funcs place ≡ Some func) (box_is : slice_get boxes.funcs place ≡ Some (Some own))
     (at : ℕ) (update : Update) (update_is : slice_get func.updates at ≡ Some update) (standing : Standing) (there : IsReached schedule.standings place standing) (computed : IsComputed place standing.place) where
   pub is_box : IsBox own
-  is_box = (boxes_are_hosted pipeline schedule boxes is place standing there.standing there.reached computed own box_is).box
+  is_box = (boxes_are_produced pipeline schedule boxes is place standing there.standing there.reached computed own box_is).box
 
   few_points : points own ≤ 2 ^ 20
   few_points =

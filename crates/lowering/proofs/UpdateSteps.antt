@@ -8,9 +8,8 @@ use Rattle.halide_pipeline.specs.declared.definitions.Update.{Update}
 use Rattle.halide_pipeline.specs.declared.expressions.Source.{Source}
 use Rattle.halide_pipeline.specs.declared.expressions.Source.TheVariants as sources
 use Rattle.halide_pipeline.specs.declared.expressions.Variable.TheVariants as variables
-use Rattle.halide_pipeline.specs.Definitions.{is_first_in_place, is_second_in_place}
+use Rattle.halide_pipeline.specs.WellFormed.{is_first_in_place, is_second_in_place, IsWellFormed}
 use Rattle.halide_pipeline.specs.Pipelines.{Pipeline}
-use Rattle.halide_pipeline.specs.WellFormed.{IsWellFormed}
 use Rattle.halide_pipeline.specs.Words as word
 use Rattle.halide_pipeline.specs.declared.environments.Environment.{Environment}
 use Rattle.halide_pipeline.specs.Pixel.{Plane, Planes, Reads, variable, reads_of, pixels, points, at_reduction}
@@ -21,7 +20,7 @@ use Rattle.schedule.specs.declared.standings.Standing.{Standing}
 use Rattle.schedule.specs.Accepted.{IsAccepted}
 use Rattle.schedule.specs.Uses.{IsReached}
 use Rattle.schedule_loops.specs.declared.extents.Extents.{Extents}
-use Rattle.schedule_loops.specs.Counts as loops
+use Rattle.schedule_loops.specs.Visits as loops
 use Rattle.schedule_loops.specs.Stages.{IsVisitOf}
 use Rattle.schedule_loops.specs.Visits.{Visit, visit_of}
 use Rattle.bounds_inlining.specs.Inlining.{inlined}
@@ -29,10 +28,10 @@ use Rattle.bounds_inlining.specs.Values.{values as valuing}
 use Rattle.bounds_ranges.specs.Laws.{Below, AnswerWords}
 use Rattle.bounds.specs.declared.boxes.SourceBox.{SourceBox}
 use Rattle.bounds.specs.declared.verdict.Boxes.{Boxes}
-use Rattle.bounds.specs.Boxes.{box_in, extent, lasts_of}
-use Rattle.bounds.specs.Sources.{same_source}
+use Rattle.bounds.specs.Boxes.{lasts_of, same_source}
+use Rattle.bounds.specs.Extents.{box_in, extent, update_extents, BoxCorner}
 use Rattle.bounds.specs.Verdict.{inferred}
-use Rattle.bounds_laws.specs.HostLaws.{IsHosted, IsInPlace}
+use Rattle.bounds_laws.specs.ConsumerLaws.{IsProduced, IsInPlace}
 use Rattle.bounds_laws.specs.Laws.{LiesIn, AreBoxed, IsNear, IsComputed, update_points}
 use Rattle.bounds_laws.proofs.OwnPoints.{own_points_lie}
 use Rattle.bounds_laws.proofs.PutIn.{flags}
@@ -47,9 +46,9 @@ use Rattle.loop_ir.proofs.Stored.{traces_follow_runs}
 use Rattle.lowering_nests.specs.Nests.{put_loops}
 use Rattle.lowering_expressions.specs.declared.calls.Corner.{Corner}
 use Rattle.lowering_expressions.specs.Lowering.{placed}
-use Rattle.lowering.specs.Planes.{BoxCorner, has_point, box_points}
-use Rattle.lowering.specs.Stored.{named_point, is_point}
-use Rattle.lowering.specs.Updates.{StoresUpdate, HitsUpdate, index_of, visited_point, update_extents, in_place, is_visited, IsCornerAt, IsBegin, ReadsPixels, host_at, hosted_turns}
+use Rattle.lowering.specs.Planes.{has_point, box_points}
+use Rattle.bounds.specs.Stages.{named_point, is_point}
+use Rattle.lowering.specs.Updates.{StoresUpdate, HitsUpdate, index_of, visited_point, in_place, is_visited, IsCornerAt, IsBegin, ReadsPixels, consumer_at, produced_turns}
 use Rattle.lowering.proofs.AtVisit as visiting
 use Rattle.lowering.proofs.Begins.{back_on, same_test}
 use Rattle.lowering.proofs.Offsets.{add_turned}
@@ -68,14 +67,14 @@ module _ (pipeline : Pipeline) (schedule : Schedule) (boxes : Boxes) (rules : Is
     (standing : Standing) (there : IsReached schedule.standings place standing) (computed : IsComputed place standing.place)
     (at : ℕ) (update : Update) (update_is : slice_get func.updates at ≡ Some update)
     (inputs : Planes) (begun : AnswerWords pipeline.inputs (reads_of inputs (pixels pipeline.funcs inputs 0)))
-    (turns : List ℕ) (below : Below (hosted_turns schedule boxes standing turns) (lasts_of (host_at schedule boxes standing)))
-    (begin : BoxCorner) (begins : IsBegin (hosted_turns schedule boxes standing turns) own begin)
+    (turns : List ℕ) (below : Below (produced_turns schedule boxes standing turns) (lasts_of (consumer_at schedule boxes standing)))
+    (begin : BoxCorner) (begins : IsBegin (produced_turns schedule boxes standing turns) own begin)
     (corners : List Corner) (before : Values) (corner : Corner) (corner_is : IsCornerAt place before corner begin) (reads_own : ReadsOwn corners place before inputs begin)
     (store : Stmt) (stores : StoresUpdate corners (flags pipeline schedule) pipeline.funcs place corner update store)
-    (funcs0 : Planes) (reads_others : ReadsPixels pipeline schedule corners place update (hosted_turns schedule boxes standing turns) own inputs before funcs0)
+    (funcs0 : Planes) (reads_others : ReadsPixels pipeline schedule corners place update (produced_turns schedule boxes standing turns) own inputs before funcs0)
     (inside : ℕ → ℕ → Bool) where
   abbrev values : List ℕ
-  values = hosted_turns schedule boxes standing turns
+  values = produced_turns schedule boxes standing turns
 
   abbrev extents : Extents
   extents = update_extents own update
@@ -89,8 +88,8 @@ module _ (pipeline : Pipeline) (schedule : Schedule) (boxes : Boxes) (rules : Is
   abbrev answers : ℕ → Reads
   answers = wanted pipeline schedule rules accepted place func func_is standing there computed at update update_is inputs begun
 
-  hosted : IsHosted (host_at schedule boxes standing) own
-  hosted = visiting.hosted pipeline schedule boxes rules is place func own func_is box_is standing there computed at update update_is turns below begin begins before corner corner_is
+  produced : IsProduced (consumer_at schedule boxes standing) own
+  produced = visiting.produced pipeline schedule boxes rules is place func own func_is box_is standing there computed at update update_is turns below begin begins before corner corner_is
 
   below_own : Below values own.lasts
   below_own = visiting.below_own pipeline schedule boxes rules is place func own func_is box_is standing there computed at update update_is turns below begin begins before corner corner_is
@@ -162,7 +161,7 @@ module _ (pipeline : Pipeline) (schedule : Schedule) (boxes : Boxes) (rules : Is
 
     all_lie : AreBoxed values (sources.Func place) (Some (Some own)) all_read
     all_lie =
-        own_points_lie pipeline schedule boxes rules is place func standing func_is there.standing there.reached computed (host_at schedule boxes standing) refl turns below own box_is at update update_is
+        own_points_lie pipeline schedule boxes rules is place func standing func_is there.standing there.reached computed (consumer_at schedule boxes standing) refl turns below own box_is at update update_is
         (answers visit.number) wanted_are x y lies.first.word lies.second.word near.0 near.1 visit.number few_points (record { first = λ e. lies.first; second = λ e. lies.second })
 
     all_stay : AllByRecursion (λ point. same_source point.source (sources.Func place) ≡ true → IsInPlace update x y point) all_read

@@ -7,9 +7,8 @@ use Rattle.halide_pipeline.specs.declared.definitions.Func.{Func}
 use Rattle.halide_pipeline.specs.declared.definitions.Update.{Update}
 use Rattle.halide_pipeline.specs.declared.expressions.Source.TheVariants as sources
 use Rattle.halide_pipeline.specs.declared.expressions.Variable.TheVariants as variables
-use Rattle.halide_pipeline.specs.Definitions.{is_first_in_place, is_second_in_place}
+use Rattle.halide_pipeline.specs.WellFormed.{is_first_in_place, is_second_in_place, IsWellFormed}
 use Rattle.halide_pipeline.specs.Pipelines.{Pipeline}
-use Rattle.halide_pipeline.specs.WellFormed.{IsWellFormed}
 use Rattle.halide_pipeline.specs.Words as word
 use Rattle.halide_pipeline.specs.Pixel.{Plane, Planes, Reads, reads_of, with_plane, pixels, points, second_extent}
 use Rattle.halide_pipeline.specs.Points.{Point}
@@ -24,12 +23,10 @@ use Rattle.schedule.specs.declared.standings.Place.{Place}
 use Rattle.schedule.specs.declared.standings.Place.TheVariants as places
 use Rattle.schedule.specs.Accepted.{IsAccepted}
 use Rattle.schedule_loops.specs.declared.extents.Extents.{Extents}
-use Rattle.schedule_loops.specs.Counts.{counts}
-use Rattle.schedule_loops.specs.Counts as loops
-use Rattle.schedule_loops.specs.Iterations.{parallel, iteration, iteration_count, count_of}
+use Rattle.schedule_loops.specs.Visits.{counts, Visit, visit_of, slice, rising, parallel, iteration, iteration_count, count_of}
+use Rattle.schedule_loops.specs.Visits as loops
 use Rattle.schedule_loops.specs.Reach.{wholes}
 use Rattle.schedule_loops.specs.Stages.{IsStageOf, KeepsRules, IsVisitOf, points_of}
-use Rattle.schedule_loops.specs.Visits.{Visit, visit_of, slice, rising}
 use Rattle.std.proofs.Math.Nat.{mul-le-mul}
 use Rattle.std.proofs.lemmas.List.{append-nil}
 use Rattle.schedule_loops.proofs.Bounded.{within}
@@ -39,11 +36,12 @@ use Rattle.bounds_ranges.specs.Laws.{Below, AnswerWords}
 use Rattle.bounds_ranges.specs.Ranges.{IsFit}
 use Rattle.bounds.specs.declared.boxes.SourceBox.{SourceBox}
 use Rattle.bounds.specs.declared.verdict.Boxes.{Boxes}
-use Rattle.bounds.specs.Boxes.{IsBox, box_in, no_loops, lasts_of}
+use Rattle.bounds.specs.Boxes.{IsBox, no_loops, lasts_of}
+use Rattle.bounds.specs.Extents.{box_in, update_extents, BoxCorner, word_at, corner_of}
 use Rattle.bounds.specs.Verdict.{inferred}
 use Rattle.bounds_laws.specs.Callers.{IsReadWithin}
-use Rattle.bounds_laws.specs.HostLaws.{IsFrom}
-use Rattle.bounds_laws.specs.Laws.{IsComputed, host_in, values_for}
+use Rattle.bounds_laws.specs.ConsumerLaws.{IsFrom}
+use Rattle.bounds_laws.specs.Laws.{IsComputed, consumer_in, values_for}
 use Rattle.bounds_laws.proofs.Found.{no_below}
 use Rattle.loop_ir.specs.declared.expressions.Counter.{Counter}
 use Rattle.loop_ir.specs.declared.statements.Phase.{Phase}
@@ -55,22 +53,22 @@ use Rattle.loop_ir.specs.Soundness.{is_sound}
 use Rattle.loop_ir.specs.Stores.{Trace, is_stored_by, is_stored_by_task}
 use Rattle.lowering_nests.specs.Nests.{loops_of, put_loops, all, AreSmall, Repeats}
 use Rattle.lowering_nests.proofs.Few.{few_turns}
-use Rattle.schedule_lines.specs.Loops.{same_id}
+use Rattle.schedule_lines.specs.Directives.{same_id}
 use Rattle.lowering_expressions.specs.Lowering.{placed, place as place_in}
 use Rattle.lowering.specs.Phases.{Hold, DoesTask, DoesPhase}
-use Rattle.lowering.specs.Planes.{BoxCorner, word_at, corner_of, held, has_point, box_points}
-use Rattle.lowering.specs.PurePhases.{IsAtRoot, inside_of, counter_of}
+use Rattle.lowering.specs.Planes.{held, has_point, box_points}
+use Rattle.lowering.specs.PurePhases.{inside_of, counter_of}
+use Rattle.bounds.specs.Stages.{IsAtRoot, named_point, is_point, names}
 use Rattle.lowering.specs.Stages.{is_private, after_stages}
-use Rattle.lowering.specs.Stored.{named_point, is_point, names}
 use Rattle.lowering.specs.Touching.{may_write, may_load, TouchesItsOwn}
-use Rattle.lowering.specs.Updates.{IsUpdateAt, IsUpdateStoreOf, LoadsOthers, update_extents, in_place, is_visited, owns_update, IsBegin, IsCornerAt, ReadsPixels, host_at, hosted_turns, stage_from}
+use Rattle.lowering.specs.Updates.{IsUpdateAt, IsUpdateStoreOf, LoadsOthers, in_place, is_visited, owns_update, IsBegin, IsCornerAt, ReadsPixels, consumer_at, produced_turns, stage_from}
 use Rattle.lowering.proofs.Lists.{any_map, all_pass, before_last}
 use Rattle.lowering.proofs.Loads.{update_loads}
 use Rattle.lowering.proofs.Offsets.{first_none}
 use Rattle.lowering.proofs.RootFacts.{is_box, no_lasts, from_corner_on, root_corner_at}
 use Rattle.lowering.proofs.SoundTasks.{own_writes, own_loads, roots_load}
 use Rattle.lowering.proofs.UpdateFacts.{has_reduction, points_are, first_extent, second_few}
-use Rattle.lowering.proofs.UpdateReads.{hosts_none, none_within, roots_are_shared, reads_pixels}
+use Rattle.lowering.proofs.UpdateReads.{consumers_none, none_within, roots_are_shared, reads_pixels}
 use Rattle.lowering.proofs.UpdateRuns.{members, all_so, leaves, stays, names_inside, stores_named}
 use Rattle.lowering.proofs.UpdateSteps.{ReadsOwn}
 use Rattle.lowering.proofs.UpdateSlices.{slice_there}
@@ -115,19 +113,19 @@ module _ (pipeline : Pipeline) (schedule : Schedule) (boxes : Boxes) (rules : Is
 
   -- ---- no loops outside
 
-  turns_are : hosted_turns schedule boxes root.standing no_loops ≡ no_loops
-  turns_are = ap (λ (p : Place). values_for (host_in schedule boxes.funcs p) no_loops) root.placed_is
+  turns_are : produced_turns schedule boxes root.standing no_loops ≡ no_loops
+  turns_are = ap (λ (p : Place). values_for (consumer_in schedule boxes.funcs p) no_loops) root.placed_is
 
-  lasts_are : lasts_of (host_at schedule boxes root.standing) ≡ no_loops
-  lasts_are = ap (λ (p : Place). lasts_of (host_in schedule boxes.funcs p)) root.placed_is
+  lasts_are : lasts_of (consumer_at schedule boxes root.standing) ≡ no_loops
+  lasts_are = ap (λ (p : Place). lasts_of (consumer_in schedule boxes.funcs p)) root.placed_is
 
-  below : Below (hosted_turns schedule boxes root.standing no_loops) (lasts_of (host_at schedule boxes root.standing))
-  below = subst (λ (l : List ℕ). Below l (lasts_of (host_at schedule boxes root.standing))) (sym turns_are) (subst (λ (l : List ℕ). Below no_loops l) (sym lasts_are) no_below)
+  below : Below (produced_turns schedule boxes root.standing no_loops) (lasts_of (consumer_at schedule boxes root.standing))
+  below = subst (λ (l : List ℕ). Below l (lasts_of (consumer_at schedule boxes root.standing))) (sym turns_are) (subst (λ (l : List ℕ). Below no_loops l) (sym lasts_are) no_below)
 
   none_of : own.lasts ≡ no_loops
   none_of = no_lasts pipeline schedule boxes place func plan own accepted is root
 
-  begins : IsBegin (hosted_turns schedule boxes root.standing no_loops) own begin
+  begins : IsBegin (produced_turns schedule boxes root.standing no_loops) own begin
   begins =
       subst (λ (l : List ℕ). IsBegin l own begin) (sym turns_are)
       (record {
@@ -249,7 +247,7 @@ module _ (pipeline : Pipeline) (schedule : Schedule) (boxes : Boxes) (rules : Is
         ∙ ap (list_any (λ (visit : Visit). is_point x y (left visit))) visits_are ∙ any_map (λ (visit : Visit). is_point x y (left visit)) (visit_of extents) list
 
     module _ (funcs : Planes) (hold : Hold (box_points boxes.funcs) (is_private schedule.standings) place owned start funcs) where
-      others : ReadsPixels pipeline schedule store_of.corners place update (hosted_turns schedule boxes root.standing no_loops) own inputs before funcs
+      others : ReadsPixels pipeline schedule store_of.corners place update (produced_turns schedule boxes root.standing no_loops) own inputs before funcs
       others =
           subst (λ (l : List ℕ). ReadsPixels pipeline schedule store_of.corners place update l own inputs before funcs) (sym turns_are)
           (reads_pixels pipeline schedule boxes rules accepted is place func plan own root at update stage it inputs begun store_of.corners store_of.are_corners before funcs
@@ -302,14 +300,14 @@ module _ (pipeline : Pipeline) (schedule : Schedule) (boxes : Boxes) (rules : Is
       abbrev loaded : Point → Bool
       loaded = may_load pipeline schedule boxes place owned phase.private
 
-      hosted_none : (k : ℕ) (w : IsReadWithin schedule place k) (loop : LoopPlace) → w.own.place ≡ places.At loop → ⊥
-      hosted_none = none_within pipeline schedule accepted place root.standing root.there root.placed_is (hosts_none pipeline schedule accepted place plan at stage it.plan_is it.stage_is)
+      produced_none : (k : ℕ) (w : IsReadWithin schedule place k) (loop : LoopPlace) → w.own.place ≡ places.At loop → ⊥
+      produced_none = none_within pipeline schedule accepted place root.standing root.there root.placed_is (consumers_none pipeline schedule accepted place plan at stage it.plan_is it.stage_is)
 
       others_load : LoadsOthers pipeline schedule store_of.corners place update no_loops own reads loaded before
       others_load inner count x y few_so lies =
-          update_loads pipeline schedule boxes rules accepted is places.Root place func plan own tt root place func plan own root (loops_of place (put_loops place inner before)) (λ k w loop e. absurd (hosted_none k w loop e))
+          update_loads pipeline schedule boxes rules accepted is places.Root place func plan own tt root place func plan own root (loops_of place (put_loops place inner before)) (λ k w loop e. absurd (produced_none k w loop e))
           (put_loops place inner before) (λ id. refl) store_of.corners store_of.are_corners reads words loaded (λ k a b e. e) (roots_load pipeline schedule boxes place owned phase.private)
-          (λ k w loop e. absurd (hosted_none k w loop e)) no_loops (subst (λ (l : List ℕ). Below no_loops l) (sym none_of) no_below) x y lies (λ k w loop e. absurd (hosted_none k w loop e)) at update it.update_is count few_so
+          (λ k w loop e. absurd (produced_none k w loop e)) no_loops (subst (λ (l : List ℕ). Below no_loops l) (sym none_of) no_below) x y lies (λ k w loop e. absurd (produced_none k w loop e)) at update it.update_is count few_so
 
       own_placed : (inner : loops.Values) (a b : ℕ) → place_in store_of.corners (put_loops place inner before) (record { source = sources.Func place; x = a; y = b })
           ≡ record { source = sources.Func place; x = word.subtract a begin.x; y = word.subtract b begin.y }

@@ -21,7 +21,7 @@ use Rattle.schedule.specs.declared.schedules.Schedule.{Schedule}
 use Rattle.schedule.specs.declared.standings.Standing.{Standing}
 use Rattle.schedule.specs.Uses.{IsReached}
 use Rattle.schedule_loops.specs.declared.extents.Extents.{Extents}
-use Rattle.schedule_loops.specs.Counts as loops
+use Rattle.schedule_loops.specs.Visits as loops
 use Rattle.schedule_loops.specs.Stages.{IsVisitOf}
 use Rattle.schedule_loops.specs.Visits.{Visit, visit_of}
 use Rattle.bounds_inlining.specs.Inlining.{inlined}
@@ -31,10 +31,9 @@ use Rattle.bounds_inlining.proofs.Seeing.{sees_inlined_values}
 use Rattle.bounds_ranges.specs.Laws.{Below, AnswerWords}
 use Rattle.bounds.specs.declared.boxes.SourceBox.{SourceBox}
 use Rattle.bounds.specs.declared.verdict.Boxes.{Boxes}
-use Rattle.bounds.specs.Boxes.{lasts_of}
-use Rattle.bounds.specs.Sources.{same_source}
+use Rattle.bounds.specs.Boxes.{lasts_of, same_source}
 use Rattle.bounds.specs.Verdict.{inferred}
-use Rattle.bounds_laws.specs.HostLaws.{IsInPlace}
+use Rattle.bounds_laws.specs.ConsumerLaws.{IsInPlace}
 use Rattle.bounds_laws.specs.Laws.{LiesIn, AreBoxed, IsNear, IsComputed, update_points, seen_in, second_seen}
 use Rattle.bounds_laws.proofs.OwnPoints.{own_points_lie}
 use Rattle.bounds_laws.proofs.PutIn.{flags}
@@ -47,8 +46,9 @@ use Rattle.loop_ir.specs.Soundness.{is_sound}
 use Rattle.lowering_nests.specs.Nests.{put_loops}
 use Rattle.lowering_expressions.specs.declared.calls.Corner.{Corner}
 use Rattle.lowering_expressions.specs.Lowering.{placed, place as place_in}
-use Rattle.lowering.specs.Planes.{BoxCorner, has_point}
-use Rattle.lowering.specs.Updates.{IsSoundUpdate, LoadsOthers, index_of, points_of_index, visited_point, update_extents, is_visited, IsCornerAt, IsBegin, host_at, hosted_turns}
+use Rattle.lowering.specs.Planes.{has_point}
+use Rattle.bounds.specs.Extents.{BoxCorner, update_extents}
+use Rattle.lowering.specs.Updates.{IsSoundUpdate, LoadsOthers, index_of, points_of_index, visited_point, is_visited, IsCornerAt, IsBegin, consumer_at, produced_turns}
 use Rattle.lowering.proofs.AtVisit as visiting
 use Rattle.lowering.proofs.Lists.{all_map}
 use Rattle.lowering.proofs.Loads.{placed_words}
@@ -58,18 +58,18 @@ module _ (pipeline : Pipeline) (schedule : Schedule) (boxes : Boxes) (rules : Is
     (place : ℕ) (func : Func) (own : SourceBox) (func_is : slice_get pipeline.funcs place ≡ Some func) (box_is : slice_get boxes.funcs place ≡ Some (Some own))
     (standing : Standing) (there : IsReached schedule.standings place standing) (computed : IsComputed place standing.place)
     (at : ℕ) (update : Update) (update_is : slice_get func.updates at ≡ Some update)
-    (turns : List ℕ) (below : Below (hosted_turns schedule boxes standing turns) (lasts_of (host_at schedule boxes standing)))
-    (begin : BoxCorner) (begins : IsBegin (hosted_turns schedule boxes standing turns) own begin)
+    (turns : List ℕ) (below : Below (produced_turns schedule boxes standing turns) (lasts_of (consumer_at schedule boxes standing)))
+    (begin : BoxCorner) (begins : IsBegin (produced_turns schedule boxes standing turns) own begin)
     (corners : List Corner) (before : Values) (corner : Corner) (corner_is : IsCornerAt place before corner begin)
     (store : Stmt) (sound : IsSoundUpdate corners (flags pipeline schedule) pipeline.funcs place corner update store)
     (reads : Reads) (words : AnswerWords pipeline.inputs reads) (written : Points) (loaded : Point → Bool)
     (own_placed : (inner : loops.Values) (a b : ℕ) → place_in corners (put_loops place inner before) (record { source = sources.Func place; x = a; y = b })
     ≡ record { source = sources.Func place; x = word.subtract a begin.x; y = word.subtract b begin.y })
-    (others : LoadsOthers pipeline schedule corners place update (hosted_turns schedule boxes standing turns) own reads loaded before)
+    (others : LoadsOthers pipeline schedule corners place update (produced_turns schedule boxes standing turns) own reads loaded before)
     (inside : ℕ → ℕ → Bool) (own_writes : (i j : ℕ) → inside i j ≡ true → written place i j ≡ true)
     (own_loads : (i j : ℕ) → inside i j ≡ true → loaded (record { source = sources.Func place; x = i; y = j }) ≡ true) where
   abbrev values : List ℕ
-  values = hosted_turns schedule boxes standing turns
+  values = produced_turns schedule boxes standing turns
 
   abbrev extents : Extents
   extents = update_extents own update
@@ -121,7 +121,7 @@ module _ (pipeline : Pipeline) (schedule : Schedule) (boxes : Boxes) (rules : Is
 
     all_lie : AreBoxed values (sources.Func place) (Some (Some own)) all_read
     all_lie =
-        own_points_lie pipeline schedule boxes rules is place func standing func_is there.standing there.reached computed (host_at schedule boxes standing) refl turns below own box_is at update update_is
+        own_points_lie pipeline schedule boxes rules is place func standing func_is there.standing there.reached computed (consumer_at schedule boxes standing) refl turns below own box_is at update update_is
         answers answer_words x y lies.first.word lies.second.word near.0 near.1 visit.number few (record { first = λ e. lies.first; second = λ e. lies.second })
 
     all_stay : AllByRecursion (λ own. same_source own.source (sources.Func place) ≡ true → IsInPlace update x y own) all_read

@@ -8,12 +8,10 @@ use Rattle.halide_pipeline.specs.declared.definitions.Update.{Update}
 use Rattle.schedule_lines.specs.declared.stages.Loop.{Loop}
 use Rattle.schedule_lines.specs.declared.stages.Stage.{Stage}
 use Rattle.schedule_loops.specs.declared.extents.Extents.{Extents}
-use Rattle.schedule_loops.specs.Counts.{counts}
-use Rattle.schedule_loops.specs.Counts as loops
-use Rattle.schedule_loops.specs.Iterations.{parallel, is_turn, iteration, iteration_count, count_of}
+use Rattle.schedule_loops.specs.Visits.{counts, Visit, nest, over_loops, zeros, visit_of, visits, slice, is_slice, rising, parallel, is_turn, iteration, iteration_count, count_of}
+use Rattle.schedule_loops.specs.Visits as loops
 use Rattle.schedule_loops.specs.Reach.{wholes}
 use Rattle.schedule_loops.specs.Stages.{IsStageOf, KeepsRules, IsVisitOf, is_slice_of, points_of}
-use Rattle.schedule_loops.specs.Visits.{Visit, nest, over_loops, zeros, visit_of, visits, slice, is_slice, rising}
 use Rattle.schedule_loops.proofs.Parallel.{outermost, iteration_turn, all_iterations, slice_owner}
 use Rattle.schedule_loops.proofs.Rising.{slice_is}
 use Rattle.schedule_loops.proofs.Slices.{visits_within}

@@ -12,8 +12,8 @@ use Rattle.halide_pipeline.specs.WellFormed.{is_width, is_height}
 use Rattle.halide_pipeline.specs.Picture.{IsPicture}
 use Rattle.halide_pipeline.specs.Contents.{PictureContents, pixel_at}
 use Rattle.halide_pipeline.specs.Pixel.{Planes, input_plane, input_planes, reads_of, pixels}
-use Rattle.schedule_loops.specs.Iterations.{times}
-use Rattle.bounds.specs.Boxes.{extent}
+use Rattle.schedule_loops.specs.Visits.{times}
+use Rattle.bounds.specs.Extents.{extent}
 use Rattle.loop_ir.specs.Running.{turns}
 use Rattle.lowering.specs.Phases.{Done, Nothing, Task}
 use Rattle.lowering.specs.Using.{numbers_below, RisingIsAnOrder, BuffersHaveBoxPoints, AreInputs, PicturesAnswerWords}

@@ -7,9 +7,8 @@ use Rattle.halide_pipeline.specs.declared.definitions.Func.{Func}
 use Rattle.halide_pipeline.specs.declared.definitions.Update.{Update}
 use Rattle.halide_pipeline.specs.declared.expressions.Source.{Source}
 use Rattle.halide_pipeline.specs.declared.expressions.Source.TheVariants as sources
-use Rattle.halide_pipeline.specs.Definitions.{dimensions}
+use Rattle.halide_pipeline.specs.WellFormed.{dimensions, is_argument, IsWellFormed}
 use Rattle.halide_pipeline.specs.Pipelines.{Pipeline}
-use Rattle.halide_pipeline.specs.WellFormed.{is_argument, IsWellFormed}
 use Rattle.halide_pipeline.specs.Words as word
 use Rattle.halide_pipeline.specs.Pixel.{Planes, Reads, reads_of, pixels, value, variable, at_point}
 use Rattle.halide_pipeline.specs.Pixel as pixel
@@ -22,12 +21,12 @@ use Rattle.schedule.specs.declared.standings.Place.{Place}
 use Rattle.schedule.specs.declared.standings.Place.TheVariants as places
 use Rattle.schedule.specs.declared.standings.Standing.{Standing}
 use Rattle.schedule.specs.Accepted.{IsAccepted, IsPlan, IsLegal}
-use Rattle.schedule.specs.Calls.{calls, updates_call, func_calls, place_calls, place_calls_of}
+use Rattle.schedule.specs.Standing.{calls, updates_call, func_calls, place_calls, place_calls_of}
 use Rattle.schedule.specs.Legal.{is_inlined, is_nowhere}
 use Rattle.schedule.specs.Uses.{IsReached}
 use Rattle.schedule.proofs.Uses.{IsSome, some_before}
 use Rattle.schedule_loops.proofs.AcceptedStages.{pair_at}
-use Rattle.schedule_loops.specs.Counts as loops
+use Rattle.schedule_loops.specs.Visits as loops
 use Rattle.bounds_inlining.specs.Inlining.{inlined, flagged}
 use Rattle.bounds_inlining.specs.Values.{values as valuing}
 use Rattle.bounds_inlining.proofs.Pixels.{inlining_keeps_values}
@@ -37,13 +36,12 @@ use Rattle.bounds_ranges.proofs.PixelWords.{pixels_are_words}
 use Rattle.bounds_weights.specs.Weight.{flags_of}
 use Rattle.bounds.specs.declared.boxes.SourceBox.{SourceBox}
 use Rattle.bounds.specs.declared.verdict.Boxes.{Boxes}
-use Rattle.bounds.specs.Boxes.{no_loops, IsBox}
-use Rattle.bounds.specs.Sources.{same_source}
+use Rattle.bounds.specs.Boxes.{no_loops, IsBox, same_source}
 use Rattle.bounds.specs.Verdict.{inferred}
 use Rattle.bounds_laws.specs.Callers.{ReadsThrough, IsReadThrough, AreReadThrough, IsReadWithin}
-use Rattle.bounds_laws.specs.HostLaws.{values_in, MayBeArguments}
-use Rattle.bounds_laws.specs.Laws.{LiesIn, IsBoxed, AreBoxed, IsComputed, IsNear, host_in, pure_points, update_points}
-use Rattle.bounds_laws.proofs.BoxesHosted.{boxes_are_hosted, points_are_near}
+use Rattle.bounds_laws.specs.ConsumerLaws.{values_in, MayBeArguments}
+use Rattle.bounds_laws.specs.Laws.{LiesIn, IsBoxed, AreBoxed, IsComputed, IsNear, consumer_in, pure_points, update_points}
+use Rattle.bounds_laws.proofs.BoxesProduced.{boxes_are_produced, points_are_near}
 use Rattle.bounds_laws.proofs.Callers.{pure_points_are_read_through, update_points_are_read_through, or_left}
 use Rattle.bounds_laws.proofs.Found.{no_below}
 use Rattle.bounds_laws.proofs.FoundFuncs.{pure_reads_of_funcs_lie}
@@ -56,9 +54,9 @@ use Rattle.lowering_nests.specs.Nests.{loops_of}
 use Rattle.lowering_expressions.specs.declared.calls.Corner.{Corner}
 use Rattle.lowering_expressions.specs.Lowering.{placed}
 use Rattle.lowering.specs.Corners.{first_of, turns_for, turns_at, IsCornerOf, AreCorners}
-use Rattle.lowering.specs.Hosting.{Holds, Keeps}
-use Rattle.lowering.specs.PurePhases.{IsComputedAt, IsAtRoot}
-use Rattle.lowering.proofs.Facts.{hosted_before}
+use Rattle.lowering.specs.Consuming.{Holds, Keeps}
+use Rattle.bounds.specs.Stages.{IsComputedAt, IsAtRoot}
+use Rattle.lowering.proofs.Facts.{produced_before}
 use Rattle.lowering.proofs.Offsets.{offset_within, offset_back}
 
 -- ---- corners
@@ -110,19 +108,19 @@ module _ (pipeline : Pipeline) (schedule : Schedule) (boxes : Boxes) (rules : Is
 
   computed_by : (k : ℕ) (standing : Standing) → IsReached schedule.standings k standing → (p : Place) → standing.place ≡ p → is_inlined p ≡ false → is_nowhere p ≡ false → IsComputed k p
   computed_by k standing there places.Root e plain some = tt
-  computed_by k standing there (places.At host) e plain some = hosted_before pipeline schedule accepted k standing there host e
+  computed_by k standing there (places.At consumer) e plain some = produced_before pipeline schedule accepted k standing there consumer e
   computed_by k standing there places.Inlined e plain some = absurd (true≢false plain)
   computed_by k standing there places.Nowhere e plain some = absurd (true≢false some)
 
   module _ (begun : AnswerWords pipeline.inputs (reads_of inputs (pixels pipeline.funcs inputs 0)))
-      (host : ℕ) (host_func : Func) (host_plan : FuncPlan) (hosting : SourceBox) (host_at : IsAtRoot pipeline schedule boxes host host_func host_plan hosting) (turned : loops.Values)
+      (consumer : ℕ) (consumer_func : Func) (consumer_plan : FuncPlan) (consuming : SourceBox) (consumer_at : IsAtRoot pipeline schedule boxes consumer consumer_func consumer_plan consuming) (turned : loops.Values)
       (funcs : Planes)
       (roots_hold : (k : ℕ) (standing : Standing) → k < reader → IsReached schedule.standings k standing → standing.place ≡ places.Root
       → (box : SourceBox) → slice_get boxes.funcs k ≡ Some (Some box) → Holds k box no_loops (pixels pipeline.funcs inputs reader k) funcs)
-      (of_host : (k : ℕ) (w : IsReadWithin schedule reader k) (loop : LoopPlace) → w.own.place ≡ places.At loop → loop.func ≡ host)
+      (of_consumer : (k : ℕ) (w : IsReadWithin schedule reader k) (loop : LoopPlace) → w.own.place ≡ places.At loop → loop.func ≡ consumer)
       (loops_hold : (k : ℕ) (w : IsReadWithin schedule reader k) (loop : LoopPlace) → w.own.place ≡ places.At loop
-      → (box : SourceBox) → slice_get boxes.funcs k ≡ Some (Some box) → Holds k box (values_in host_plan loop.inside turned) (pixels pipeline.funcs inputs reader k) funcs)
-      (counters : Values) (counters_are : (id : LoopId) → values_in host_plan id (loops_of host counters) ≡ values_in host_plan id turned)
+      → (box : SourceBox) → slice_get boxes.funcs k ≡ Some (Some box) → Holds k box (values_in consumer_plan loop.inside turned) (pixels pipeline.funcs inputs reader k) funcs)
+      (counters : Values) (counters_are : (id : LoopId) → values_in consumer_plan id (loops_of consumer counters) ≡ values_in consumer_plan id turned)
       (corners : List Corner) (are : AreCorners schedule.funcs boxes.funcs schedule.standings corners) (now : Planes) (keeps : Keeps reader funcs now) where
     words : AnswerWords pipeline.inputs wanted
     words = pixels_are_words pipeline.inputs pipeline.funcs inputs rules.funcs begun reader
@@ -133,7 +131,7 @@ module _ (pipeline : Pipeline) (schedule : Schedule) (boxes : Boxes) (rules : Is
     -- ---- a point that is read
 
     ordered : (k : ℕ) (standing : Standing) → IsReached schedule.standings k standing → IsComputed k standing.place → (box : SourceBox) → slice_get boxes.funcs k ≡ Some (Some box) → IsBox box
-    ordered k standing there computed box box_is = (boxes_are_hosted pipeline schedule boxes is k standing there.standing there.reached computed box box_is).box
+    ordered k standing there computed box box_is = (boxes_are_produced pipeline schedule boxes is k standing there.standing there.reached computed box box_is).box
 
     found_in : (k a b : ℕ) (box : SourceBox) (values : List ℕ) (standing : Standing) → IsReached schedule.standings k standing → IsComputed k standing.place → slice_get boxes.funcs k ≡ Some (Some box)
         → turns_for schedule.funcs standing.place counters ≡ values → LiesIn values box a b → k < reader → Holds k box values (pixels pipeline.funcs inputs reader k) funcs
@@ -152,30 +150,30 @@ module _ (pipeline : Pipeline) (schedule : Schedule) (boxes : Boxes) (rules : Is
         ∙ ap (λ (n : ℕ). pixels pipeline.funcs inputs reader k n (word.add (first_of box.y values) j)) (offset_back box.lasts values box.x a lies.first)
         ∙ ap (λ (n : ℕ). pixels pipeline.funcs inputs reader k a n) (offset_back box.lasts values box.y b lies.second)
 
-    -- the turns of its host's loops that a Func at one of them is counted from
-    turns_are : (place : Place) (loop : LoopPlace) → place ≡ places.At loop → loop.func ≡ host → turns_for schedule.funcs place counters ≡ values_in host_plan loop.inside turned
+    -- the turns of its consumer's loops that a Func at one of them is counted from
+    turns_are : (place : Place) (loop : LoopPlace) → place ≡ places.At loop → loop.func ≡ consumer → turns_for schedule.funcs place counters ≡ values_in consumer_plan loop.inside turned
     turns_are place loop e same =
         ap (λ (p : Place). turns_for schedule.funcs p counters) e
-        ∙ ap (λ (p : Option FuncPlan). turns_at loop p counters) (ap (λ (n : ℕ). slice_get schedule.funcs n) same ∙ host_at.plan_is)
-        ∙ ap (λ (n : ℕ). values_in host_plan loop.inside (loops_of n counters)) same
+        ∙ ap (λ (p : Option FuncPlan). turns_at loop p counters) (ap (λ (n : ℕ). slice_get schedule.funcs n) same ∙ consumer_at.plan_is)
+        ∙ ap (λ (n : ℕ). values_in consumer_plan loop.inside (loops_of n counters)) same
         ∙ counters_are loop.inside
 
     -- ---- all points that are read
 
     record AreRead (list : List Point) : Type 0 where
       roots : (k : ℕ) (standing : Standing) → k < reader → IsReached schedule.standings k standing → standing.place ≡ places.Root → AreBoxed no_loops (sources.Func k) (slice_get boxes.funcs k) list
-      hosted : (k : ℕ) (w : IsReadWithin schedule reader k) (loop : LoopPlace) → w.own.place ≡ places.At loop → AreBoxed (values_in host_plan loop.inside turned) (sources.Func k) (slice_get boxes.funcs k) list
+      produced : (k : ℕ) (w : IsReadWithin schedule reader k) (loop : LoopPlace) → w.own.place ≡ places.At loop → AreBoxed (values_in consumer_plan loop.inside turned) (sources.Func k) (slice_get boxes.funcs k) list
       through : AreReadThrough pipeline schedule.standings reader reader list
 
     -- where a point of a Func lies that is read
     record LiesThere (k a b : ℕ) : Type 0 where
       roots : (standing : Standing) → k < reader → IsReached schedule.standings k standing → standing.place ≡ places.Root → IsBoxed no_loops (slice_get boxes.funcs k) a b
-      hosted : (w : IsReadWithin schedule reader k) (loop : LoopPlace) → w.own.place ≡ places.At loop → IsBoxed (values_in host_plan loop.inside turned) (slice_get boxes.funcs k) a b
+      produced : (w : IsReadWithin schedule reader k) (loop : LoopPlace) → w.own.place ≡ places.At loop → IsBoxed (values_in consumer_plan loop.inside turned) (slice_get boxes.funcs k) a b
 
     of_list : (k a b : ℕ) (list : List Point) → AreRead (record { source = sources.Func k; x = a; y = b } ∷ list) → LiesThere k a b
     of_list k a b list r = record {
       roots = λ standing before there root. (r.roots k standing before there root).0 (same_self k);
-      hosted = λ w loop e. (r.hosted k w loop e).0 (same_self k);
+      produced = λ w loop e. (r.produced k w loop e).0 (same_self k);
     }
 
     one_through : (k a b : ℕ) → LiesThere k a b → flagged (flags_of schedule.standings) k ≡ false → ReadsThrough pipeline schedule.standings reader k → found (sources.Func k) a b ≡ pixels pipeline.funcs inputs reader k a b
@@ -196,9 +194,9 @@ module _ (pipeline : Pipeline) (schedule : Schedule) (boxes : Boxes) (rules : Is
             by_box w (subst (λ (p : Place). IsComputed k p) (sym e) tt) no_loops (ap (λ (p : Place). turns_for schedule.funcs p counters) e) (roots_hold k w.own w.before w.there e)
             (slice_get boxes.funcs k) refl (some_before boxes.funcs reader k (Some own) at.box_is w.before) (r.roots w.own w.before w.there e)
         by_place w (places.At loop) e plain some =
-            by_box w (subst (λ (p : Place). IsComputed k p) (sym e) (hosted_before pipeline schedule accepted k w.own w.there loop e)) (values_in host_plan loop.inside turned)
-            (turns_are w.own.place loop e (of_host k w loop e)) (loops_hold k w loop e)
-            (slice_get boxes.funcs k) refl (some_before boxes.funcs reader k (Some own) at.box_is w.before) (r.hosted w loop e)
+            by_box w (subst (λ (p : Place). IsComputed k p) (sym e) (produced_before pipeline schedule accepted k w.own w.there loop e)) (values_in consumer_plan loop.inside turned)
+            (turns_are w.own.place loop e (of_consumer k w loop e)) (loops_hold k w loop e)
+            (slice_get boxes.funcs k) refl (some_before boxes.funcs reader k (Some own) at.box_is w.before) (r.produced w loop e)
         by_place w places.Inlined e plain some = absurd (true≢false (sym (ap is_inlined e) ∙ plain))
         by_place w places.Nowhere e plain some = absurd (true≢false (sym (ap is_nowhere e) ∙ some))
 
@@ -214,24 +212,24 @@ module _ (pipeline : Pipeline) (schedule : Schedule) (boxes : Boxes) (rules : Is
       one_agrees point.source point.x point.y list r r.through.0,
       all_agree list (record {
         roots = λ k standing before there root. (r.roots k standing before there root).1;
-        hosted = λ k w loop e. (r.hosted k w loop e).1;
+        produced = λ k w loop e. (r.produced k w loop e).1;
         through = r.through.1;
       }),
     )
 
     module _ (values : List ℕ) (below : Below values own.lasts) (x y : ℕ) (lies : LiesIn values own x y)
-        (may_be : (k : ℕ) (w : IsReadWithin schedule reader k) (loop : LoopPlace) → w.own.place ≡ places.At loop → MayBeArguments host_func host_plan hosting loop.inside turned placed_at own x y) where
+        (may_be : (k : ℕ) (w : IsReadWithin schedule reader k) (loop : LoopPlace) → w.own.place ≡ places.At loop → MayBeArguments consumer_func consumer_plan consuming loop.inside turned placed_at own x y) where
       are_read : AreRead (pure_points pipeline schedule wanted reader func x y)
       are_read = record {
         roots = λ k standing before there root.
             pure_reads_of_funcs_lie pipeline schedule boxes rules is reader func own at.func_is at.box_is k standing before there.standing there.reached (subst (λ (p : Place). IsComputed k p) (sym root) tt)
-            None (ap (λ (p : Place). host_in schedule boxes.funcs p) root) own refl wanted words values below no_below x y lies;
-        hosted = λ k w loop e.
-            let same = of_host k w loop e in
-            pure_reads_in_loops_lie pipeline schedule boxes rules accepted is k w.own loop w.there.standing w.there.reached e host_func host_plan hosting
-            (ap (λ (n : ℕ). slice_get pipeline.funcs n) same ∙ host_at.func_is) (ap (λ (n : ℕ). slice_get schedule.funcs n) same ∙ host_at.plan_is) (ap (λ (n : ℕ). slice_get boxes.funcs n) same ∙ host_at.box_is)
+            None (ap (λ (p : Place). consumer_in schedule boxes.funcs p) root) own refl wanted words values below no_below x y lies;
+        produced = λ k w loop e.
+            let same = of_consumer k w loop e in
+            pure_reads_in_loops_lie pipeline schedule boxes rules accepted is k w.own loop w.there.standing w.there.reached e consumer_func consumer_plan consuming
+            (ap (λ (n : ℕ). slice_get pipeline.funcs n) same ∙ consumer_at.func_is) (ap (λ (n : ℕ). slice_get schedule.funcs n) same ∙ consumer_at.plan_is) (ap (λ (n : ℕ). slice_get boxes.funcs n) same ∙ consumer_at.box_is)
             reader func at.standing own w.before at.func_is at.there.standing at.there.reached at.box_is wanted words turned x y
-            (subst (λ (p : Place). MayBeArguments host_func host_plan hosting loop.inside turned p own x y) (sym at.placed_is) (may_be k w loop e));
+            (subst (λ (p : Place). MayBeArguments consumer_func consumer_plan consuming loop.inside turned p own x y) (sym at.placed_is) (may_be k w loop e));
         through = pure_points_are_read_through pipeline schedule rules reader func at.func_is wanted x y;
       }
 
@@ -242,7 +240,7 @@ module _ (pipeline : Pipeline) (schedule : Schedule) (boxes : Boxes) (rules : Is
 
     record AreReadBeside (list : List Point) : Type 0 where
       roots : (k : ℕ) (standing : Standing) → k < reader → IsReached schedule.standings k standing → standing.place ≡ places.Root → AreBoxed no_loops (sources.Func k) (slice_get boxes.funcs k) list
-      hosted : (k : ℕ) (w : IsReadWithin schedule reader k) (loop : LoopPlace) → w.own.place ≡ places.At loop → AreBoxed (values_in host_plan loop.inside turned) (sources.Func k) (slice_get boxes.funcs k) list
+      produced : (k : ℕ) (w : IsReadWithin schedule reader k) (loop : LoopPlace) → w.own.place ≡ places.At loop → AreBoxed (values_in consumer_plan loop.inside turned) (sources.Func k) (slice_get boxes.funcs k) list
       through : AreReadThrough pipeline schedule.standings reader (suc reader) list
 
     one_beside : (s : Source) (a b : ℕ) (list : List Point) → AreReadBeside (record { source = s; x = a; y = b } ∷ list) → IsReadThrough pipeline schedule.standings reader (suc reader) s
@@ -254,7 +252,7 @@ module _ (pipeline : Pipeline) (schedule : Schedule) (boxes : Boxes) (rules : Is
         one_through k a b
         (record {
           roots = λ standing before there root. (r.roots k standing before there root).0 (same_self k);
-          hosted = λ w loop e. (r.hosted k w loop e).0 (same_self k);
+          produced = λ w loop e. (r.produced k w loop e).0 (same_self k);
         })
         plain through
 
@@ -265,17 +263,17 @@ module _ (pipeline : Pipeline) (schedule : Schedule) (boxes : Boxes) (rules : Is
       one_beside point.source point.x point.y list r r.through.0,
       all_beside list (record {
         roots = λ k standing before there root. (r.roots k standing before there root).1;
-        hosted = λ k w loop e. (r.hosted k w loop e).1;
+        produced = λ k w loop e. (r.produced k w loop e).1;
         through = r.through.1;
       }),
     )
 
     module _ (values : List ℕ) (below : Below values own.lasts) (x y : ℕ) (lies : LiesIn values own x y)
-        (may_be : (k : ℕ) (w : IsReadWithin schedule reader k) (loop : LoopPlace) → w.own.place ≡ places.At loop → MayBeArguments host_func host_plan hosting loop.inside turned placed_at own x y)
+        (may_be : (k : ℕ) (w : IsReadWithin schedule reader k) (loop : LoopPlace) → w.own.place ≡ places.At loop → MayBeArguments consumer_func consumer_plan consuming loop.inside turned placed_at own x y)
         (number_at : ℕ) (update : Update) (update_is : slice_get func.updates number_at ≡ Some update) (number : ℕ) (few : number < pixel.points update)
         (reads : Reads) (read_words : AnswerWords pipeline.inputs reads) where
       near : IsNear x × IsNear y
-      near = points_are_near own (boxes_are_hosted pipeline schedule boxes is reader at.standing at.there.standing at.there.reached reader_computed own at.box_is).box values below x y lies
+      near = points_are_near own (boxes_are_produced pipeline schedule boxes is reader at.standing at.there.standing at.there.reached reader_computed own at.box_is).box values below x y lies
 
       unflagged : flagged (flags_of schedule.standings) reader ≡ false
       unflagged = flag_is schedule.standings reader at.standing at.there.standing ∙ (ap is_inlined at.placed_is ∙ not_inlined reader placed_at here)
@@ -284,13 +282,13 @@ module _ (pipeline : Pipeline) (schedule : Schedule) (boxes : Boxes) (rules : Is
       update_read = record {
         roots = λ k standing before there root.
             update_reads_of_funcs_lie pipeline schedule boxes rules is reader func own at.func_is at.box_is number_at update update_is k standing before there.standing there.reached
-            (subst (λ (p : Place). IsComputed k p) (sym root) tt) None (ap (λ (p : Place). host_in schedule boxes.funcs p) root) own refl reads read_words values below no_below x y lies near.0 near.1 number few;
-        hosted = λ k w loop e.
-            let same = of_host k w loop e in
-            update_reads_in_loops_lie pipeline schedule boxes rules accepted is k w.own loop w.there.standing w.there.reached e host_func host_plan hosting
-            (ap (λ (n : ℕ). slice_get pipeline.funcs n) same ∙ host_at.func_is) (ap (λ (n : ℕ). slice_get schedule.funcs n) same ∙ host_at.plan_is) (ap (λ (n : ℕ). slice_get boxes.funcs n) same ∙ host_at.box_is)
+            (subst (λ (p : Place). IsComputed k p) (sym root) tt) None (ap (λ (p : Place). consumer_in schedule boxes.funcs p) root) own refl reads read_words values below no_below x y lies near.0 near.1 number few;
+        produced = λ k w loop e.
+            let same = of_consumer k w loop e in
+            update_reads_in_loops_lie pipeline schedule boxes rules accepted is k w.own loop w.there.standing w.there.reached e consumer_func consumer_plan consuming
+            (ap (λ (n : ℕ). slice_get pipeline.funcs n) same ∙ consumer_at.func_is) (ap (λ (n : ℕ). slice_get schedule.funcs n) same ∙ consumer_at.plan_is) (ap (λ (n : ℕ). slice_get boxes.funcs n) same ∙ consumer_at.box_is)
             reader func at.standing own w.before at.func_is at.there.standing at.there.reached at.box_is number_at update update_is reads read_words turned x y
-            (subst (λ (p : Place). MayBeArguments host_func host_plan hosting loop.inside turned p own x y) (sym at.placed_is) (may_be k w loop e)) near.0 near.1 number few;
+            (subst (λ (p : Place). MayBeArguments consumer_func consumer_plan consuming loop.inside turned p own x y) (sym at.placed_is) (may_be k w loop e)) near.0 near.1 number few;
         through = update_points_are_read_through pipeline schedule rules reader func at.func_is unflagged number_at update update_is reads number x y;
       }
 

@@ -10,22 +10,21 @@ use Rattle.halide_pipeline.specs.declared.definitions.Update.{Update}
 use Rattle.halide_pipeline.specs.declared.expressions.Variable.{Variable}
 use Rattle.halide_pipeline.specs.declared.expressions.Variable.TheVariants as variables
 use Rattle.halide_pipeline.specs.Expressions.{same_variable}
-use Rattle.halide_pipeline.specs.Definitions.{is_first_in_place, is_second_in_place}
+use Rattle.halide_pipeline.specs.WellFormed.{is_first_in_place, is_second_in_place}
 use Rattle.schedule_lines.specs.declared.lines.SplitLine.{SplitLine}
 use Rattle.schedule_lines.specs.declared.stages.Loop.{Loop}
 use Rattle.schedule_lines.specs.declared.stages.LoopId.{LoopId}
 use Rattle.schedule_lines.specs.declared.stages.LoopId.TheVariants as ids
 use Rattle.schedule_lines.specs.declared.stages.Split.{Split}
 use Rattle.schedule_lines.specs.declared.stages.Stage.{Stage}
-use Rattle.schedule_lines.specs.Directives.{is_shift, parts}
-use Rattle.schedule_lines.specs.Loops.{is_reduction, same_id}
+use Rattle.schedule_lines.specs.Directives.{is_shift, parts, is_reduction, same_id}
 use Rattle.schedule_lines.specs.Making.{IsSplit, total}
 use Rattle.schedule.specs.declared.legality.LoopRule.TheVariants as rules_of
 use Rattle.schedule.specs.Accepted.{keeps}
 use Rattle.schedule.specs.Plans.{with_loop, with_second, with_reduction, reduction_loops, with_first_in_place}
 use Rattle.schedule.specs.Legal.{is_vector_length, is_empty, breaks}
 use Rattle.schedule_loops.specs.declared.extents.Extents.{Extents}
-use Rattle.schedule_loops.specs.Counts.{Values, counts, more_counts, whole_counts, strides, more_strides, whole_strides, is_uneven, more_uneven}
+use Rattle.schedule_loops.specs.Visits.{Values, counts, more_counts, whole_counts, strides, more_strides, whole_strides, is_uneven, more_uneven}
 use Rattle.schedule_loops.specs.Stages.{IsStageOf, KeepsRules, first_loops, has_variable}
 use Rattle.schedule_loops.proofs.FirstLoops.{plain, sound}
 use Rattle.schedule_loops.proofs.Ids.{is_old, same_variable-self, old_apart, inner_new, outer_new, same_id-self}
@@ -35,7 +34,7 @@ use Rattle.schedule_loops.proofs.Nesting.{has_id, has_same}
 use Rattle.bounds_laws.proofs.Callers.{or_right}
 use Rattle.schedule_loops.proofs.Selecting.{Unique}
 use Rattle.loop_ir.specs.Rounds.{is_round_count}
-use Rattle.lowering_nests.specs.Rounds.{is_vectorized_loop}
+use Rattle.schedule_loops.specs.Runs.{is_vectorized_loop}
 
 -- ---- what is asked of loops
 

@@ -9,7 +9,7 @@ use Rattle.schedule_lines.specs.declared.stages.LoopId.{LoopId}
 use Rattle.schedule_lines.specs.declared.stages.Mark.TheVariants as marks
 use Rattle.schedule_lines.specs.declared.stages.Split.{Split}
 use Rattle.schedule_lines.specs.declared.stages.Stage.{Stage}
-use Rattle.schedule_lines.specs.Loops.{is_marked, same_id}
+use Rattle.schedule_lines.specs.Directives.{is_marked, same_id}
 use Rattle.schedule_lines.specs.Making.{IsStage, total}
 use Rattle.schedule.specs.declared.plans.FuncPlan.{FuncPlan}
 use Rattle.schedule.specs.declared.schedules.Schedule.{Schedule}
@@ -18,14 +18,13 @@ use Rattle.schedule.specs.declared.standings.Place.TheVariants as places
 use Rattle.schedule.specs.declared.standings.Standing.{Standing}
 use Rattle.schedule.specs.Accepted.{IsAccepted, IsPlan, IsUpdateStage, Pairwise}
 use Rattle.schedule.specs.Plans.{pure_loops, update_loops, with_loop, with_second, with_reduction}
-use Rattle.halide_pipeline.specs.Definitions.{is_first_in_place, is_second_in_place}
+use Rattle.halide_pipeline.specs.WellFormed.{is_first_in_place, is_second_in_place}
 use Rattle.halide_pipeline.specs.declared.definitions.Reduction.{Reduction}
 use Rattle.halide_pipeline.specs.declared.expressions.Variable.{Variable}
 use Rattle.halide_pipeline.specs.declared.expressions.Variable.TheVariants as variables
 use Rattle.schedule.specs.Standing.{pure_loops_of}
 use Rattle.schedule_loops.proofs.Making.{Stays, by_making, total_parts, bare_total}
-use Rattle.bounds_weights.specs.Copies.{copies, all_copies, copies_from, host_copies, factor_of}
-use Rattle.bounds_weights.specs.Weight.{flags_of, is_computed, nodes_in, update_nodes, stage_weight, updates_weight, func_weight, computed_weight, funcs_weight, weight}
+use Rattle.bounds_weights.specs.Weight.{copies, all_copies, copies_from, consumer_copies, factor_of, flags_of, is_computed, nodes_in, update_nodes, stage_weight, updates_weight, func_weight, computed_weight, funcs_weight, weight}
 use Rattle.bounds.specs.declared.verdict.Boxes.{Boxes}
 use Rattle.loop_ir.specs.declared.statements.Phase.{Phase}
 use Rattle.lowering.specs.Lowered.{AreLowered}
@@ -69,7 +68,7 @@ module _ (flags : List Bool) (all : List Func) where
   func-most plans func plan own is =
       let s = shares-are func plan (length func.updates) in
       let u = updates-most func func.updates plan.updates is.updates (length func.updates) in
-      times-most (func_share flags all func plan) (stage_weight (nodes_in flags all func.pure) plan.pure + updates_weight flags all func.updates plan.updates) (host_copies plans own.place) (omega (arith, s, u))
+      times-most (func_share flags all func plan) (stage_weight (nodes_in flags all func.pure) plan.pure + updates_weight flags all func.updates plan.updates) (consumer_copies plans own.place) (omega (arith, s, u))
 
 -- ---- all that is computed
 

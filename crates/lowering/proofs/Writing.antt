@@ -17,7 +17,7 @@ use Rattle.schedule.specs.declared.schedules.Schedule.{Schedule}
 use Rattle.schedule.specs.declared.standings.Place.{Place}
 use Rattle.schedule.specs.Accepted.{IsAccepted}
 use Rattle.schedule_loops.specs.declared.extents.Extents.{Extents}
-use Rattle.schedule_loops.specs.Counts as loops
+use Rattle.schedule_loops.specs.Visits as loops
 use Rattle.schedule_loops.specs.Stages.{IsVisitOf}
 use Rattle.schedule_loops.specs.Visits.{visit_of}
 use Rattle.bounds_inlining.specs.Inlining.{inlined, flagged}
@@ -27,12 +27,12 @@ use Rattle.bounds_ranges.specs.Laws.{Below}
 use Rattle.bounds_weights.specs.Weight.{flags_of}
 use Rattle.bounds.specs.declared.boxes.SourceBox.{SourceBox}
 use Rattle.bounds.specs.declared.verdict.Boxes.{Boxes}
-use Rattle.bounds.specs.Boxes.{IsBox, extent}
+use Rattle.bounds.specs.Boxes.{IsBox}
+use Rattle.bounds.specs.Extents.{extent, extents_of}
 use Rattle.bounds.specs.Verdict.{inferred}
-use Rattle.bounds.specs.Views.{extents_of}
-use Rattle.bounds_laws.specs.HostLaws.{IsFrom}
+use Rattle.bounds_laws.specs.ConsumerLaws.{IsFrom}
 use Rattle.bounds_laws.specs.Laws.{LiesIn, IsComputed, pure_points}
-use Rattle.bounds_laws.proofs.BoxesHosted.{visits_lie}
+use Rattle.bounds_laws.proofs.BoxesProduced.{visits_lie}
 use Rattle.loop_ir.specs.declared.statements.Stmt.{Stmt}
 use Rattle.loop_ir.specs.Buffers.{Points, put}
 use Rattle.loop_ir.specs.Counters.{Values}
@@ -42,9 +42,10 @@ use Rattle.loop_ir.specs.Soundness.{is_sound}
 use Rattle.lowering_nests.specs.Nests.{put_loops}
 use Rattle.lowering_expressions.specs.Lowering.{placed, place as place_in}
 use Rattle.lowering.specs.Corners.{first_of, turns_for}
-use Rattle.lowering.specs.Hosting.{Keeps}
+use Rattle.lowering.specs.Consuming.{Keeps}
 use Rattle.lowering.specs.Planes.{box_points}
-use Rattle.lowering.specs.PurePhases.{IsComputedAt, IsStoreOf, whole_at}
+use Rattle.lowering.specs.PurePhases.{IsStoreOf, whole_at}
+use Rattle.bounds.specs.Stages.{IsComputedAt}
 use Rattle.lowering.proofs.Covered.{parts_of, point_there}
 use Rattle.lowering.proofs.Facts.{is_box, few}
 use Rattle.lowering.proofs.Offsets.{from_first_on, add_turned}

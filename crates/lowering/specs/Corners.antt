@@ -1,7 +1,7 @@
--- Where boxes begin, while loops of hosts are in given turns.
+-- Where boxes begin, while loops of consumers are in given turns.
 --
 -- The box of a Func at root begins at one point. That of a Func at a loop begins at another point in each iteration: the ends of its ranges
--- are counted from bases, multiples of the turns of its host's loops from that one outward.
+-- are counted from bases, multiples of the turns of its consumer's loops from that one outward.
 -- This project's own.
 use Rattle.std.specs.Prelude.{◌≡◌, ℕ, ◌%◌, ◌^◌, List, [], ◌∷◌, slice_get, Option, Some, None}
 use Rattle.halide_pipeline.specs.Words as word
@@ -11,16 +11,16 @@ use Rattle.schedule.specs.declared.standings.Place.{Place}
 use Rattle.schedule.specs.declared.standings.Place.TheVariants as places
 use Rattle.schedule.specs.declared.standings.Standing.{Standing}
 use Rattle.bounds_ranges.specs.declared.ranges.Range.{Range}
-use Rattle.bounds_ranges.specs.Bases.{more_sum, less_sum}
+use Rattle.bounds_ranges.specs.Ranges.{more_sum, less_sum}
 use Rattle.bounds.specs.declared.boxes.SourceBox.{SourceBox}
 use Rattle.bounds.specs.Boxes.{no_loops}
-use Rattle.bounds_laws.specs.HostLaws.{values_in}
+use Rattle.bounds_laws.specs.ConsumerLaws.{values_in}
 use Rattle.loop_ir.specs.declared.expressions.Counter.{Counter}
 use Rattle.loop_ir.specs.Counters.{Values}
 use Rattle.loop_ir.specs.Expressions.{linear_value}
 use Rattle.lowering_nests.specs.Nests.{loops_of}
 use Rattle.lowering_expressions.specs.declared.calls.Corner.{Corner}
-use Rattle.lowering.specs.Planes.{word_at}
+use Rattle.bounds.specs.Extents.{word_at}
 
 -- ---- while loops have these values
 

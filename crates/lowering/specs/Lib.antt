@@ -7,9 +7,9 @@ pub mod Corners
 pub mod Stages
 pub mod Stored
 pub mod Touching
-pub mod HostedFuncs
+pub mod ProducedFuncs
 pub mod PurePhases
-pub mod Hosting
+pub mod Consuming
 pub mod Updates
 pub mod Lowered
 pub mod Using

@@ -12,19 +12,19 @@ use Rattle.schedule_lines.specs.declared.stages.Stage.{Stage}
 use Rattle.schedule.specs.declared.plans.FuncPlan.{FuncPlan}
 use Rattle.schedule.specs.declared.schedules.Schedule.{Schedule}
 use Rattle.schedule.specs.Accepted.{IsAccepted}
-use Rattle.schedule_loops.specs.Iterations.{iteration_count}
+use Rattle.schedule_loops.specs.Visits.{iteration_count, owns}
 use Rattle.bounds_ranges.specs.Laws.{AnswerWords}
 use Rattle.bounds.specs.declared.boxes.SourceBox.{SourceBox}
 use Rattle.bounds.specs.declared.verdict.Boxes.{Boxes}
-use Rattle.bounds.specs.Boxes.{box_in}
+use Rattle.bounds.specs.Extents.{box_in, extents_of, update_extents, corner_of}
 use Rattle.bounds.specs.Verdict.{inferred}
-use Rattle.bounds.specs.Views.{extents_of}
 use Rattle.loop_ir.specs.declared.statements.Phase.{Phase}
 use Rattle.loop_ir.specs.Running.{run_task}
 use Rattle.lowering.specs.Order.{Tasks, DoneInOrder, DoPhases, AgreeThere}
-use Rattle.lowering.specs.HostedFuncs.{hosted_from}
-use Rattle.lowering.specs.Planes.{corner_of, held, box_points, owns}
-use Rattle.lowering.specs.PurePhases.{IsAtRoot, byte_places}
+use Rattle.lowering.specs.ProducedFuncs.{produced_from}
+use Rattle.lowering.specs.Planes.{held, box_points}
+use Rattle.lowering.specs.PurePhases.{byte_places}
+use Rattle.bounds.specs.Stages.{IsAtRoot}
 use Rattle.lowering.specs.Registers.{TakesFew}
 use Rattle.lowering.specs.Rounds.{RoundsMayBeAtOnce}
 use Rattle.lowering.specs.Runs.{StoresInRuns}
@@ -32,7 +32,7 @@ use Rattle.lowering.specs.Sizes.{IsLight}
 use Rattle.lowering.specs.Stages.{is_private, DoesStage}
 use Rattle.lowering.specs.Stored.{StoresItsOwn, StoresWhatItNames}
 use Rattle.lowering.specs.Touching.{TouchesItsOwn}
-use Rattle.lowering.specs.Updates.{IsUpdateAt, update_extents, owns_update}
+use Rattle.lowering.specs.Updates.{IsUpdateAt, owns_update}
 
 -- ---- which phases there are
 
@@ -41,7 +41,7 @@ module _ (pipeline : Pipeline) (schedule : Schedule) (boxes : Boxes) where
   -- inputs are bytes, what its tasks touch, that they take few registers and few words of code, which points its tasks store at, that the
   -- rounds of vectorized loops may be done at once, and which points a run of a pure definition's vectorized loop stores at.
   pub data IsStagePhase (place : ℕ) (func : Func) (plan : FuncPlan) (own : SourceBox) : ℕ → Phase → Type 0 where
-    Pure : (phase : Phase) → phase.tasks ≡ iteration_count (extents_of own) plan.pure → phase.private ≡ hosted_from place 0 schedule.standings
+    Pure : (phase : Phase) → phase.tasks ≡ iteration_count (extents_of own) plan.pure → phase.private ≡ produced_from place 0 schedule.standings
         → phase.bytes ≡ byte_places 0 pipeline.inputs
         → DoesStage pipeline schedule boxes place func 0 (owns (extents_of own) plan.pure) phase
         → TouchesItsOwn pipeline schedule boxes place (owns (extents_of own) plan.pure) phase → TakesFew pipeline schedule phase × IsLight pipeline schedule place func plan 0 phase

@@ -2,7 +2,7 @@
 -- This project's own.
 use Rattle.std.specs.Prelude.{◌≡◌, ℕ, Bool, false, true, List, [], ◌∷◌}
 use Rattle.halide_pipeline.specs.Pixel.{Planes}
-use Rattle.schedule_loops.specs.Iterations.{IsOrder}
+use Rattle.schedule_loops.specs.Visits.{IsOrder}
 use Rattle.loop_ir.specs.Buffers.{Points}
 use Rattle.lowering.specs.Phases.{DoesPhase, Done}
 

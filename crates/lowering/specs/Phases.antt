@@ -7,7 +7,7 @@
 -- This project's own.
 use Rattle.std.specs.Prelude.{◌≡◌, ◌<◌, ℕ, Bool, true, false, List, [], ◌∷◌}
 use Rattle.halide_pipeline.specs.Pixel.{Planes}
-use Rattle.schedule_loops.specs.Iterations.{IsOrder}
+use Rattle.schedule_loops.specs.Visits.{IsOrder}
 use Rattle.loop_ir.specs.Buffers.{Points}
 
 -- The points of a Func that pass a test hold these planes, and so do all points of other Funcs, private ones apart.

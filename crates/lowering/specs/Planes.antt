@@ -2,35 +2,13 @@
 --
 -- The buffer of a Func has the points of the Func's box, counted from the box's corner: the corner itself is 0, 0.
 -- This project's own.
-use Rattle.std.specs.Prelude.{ℕ, ◌+◌, ◌-◌, ◌%◌, ◌^◌, ◌&&◌, Bool, false, nat_lt, List, Option, Some, None, slice_get}
-use Rattle.std.specs.List.{list_any}
+use Rattle.std.specs.Prelude.{ℕ, ◌&&◌, Bool, false, nat_lt, List, Option, Some, None, slice_get}
 use Rattle.halide_pipeline.specs.declared.definitions.Func.{Func}
 use Rattle.halide_pipeline.specs.Words as word
 use Rattle.halide_pipeline.specs.Pixel.{Plane, Planes, with_plane, pure_plane, pixels}
-use Rattle.schedule_lines.specs.declared.stages.Stage.{Stage}
-use Rattle.schedule_loops.specs.declared.extents.Extents.{Extents}
-use Rattle.schedule_loops.specs.Iterations.{iteration}
-use Rattle.schedule_loops.specs.Visits.{is_slice}
 use Rattle.loop_ir.specs.Buffers.{Points}
-use Rattle.bounds_ranges.specs.Ranges.{least}
 use Rattle.bounds.specs.declared.boxes.SourceBox.{SourceBox}
-use Rattle.bounds.specs.Boxes.{box_in, extent}
-
--- ---- corners
-
--- the word that stands at an end of a range: ends are numbers counted from the least one
-abbrev pub word_at : ℕ → ℕ
-word_at end = (end - least + 2 ^ 31) % 2 ^ 32
-
--- the first point of a box
-pub record BoxCorner : Type 0 where
-  pub x : ℕ
-  pub y : ℕ
-
--- 0, 0 where there is no box
-abbrev pub corner_of : Option SourceBox → BoxCorner
-corner_of None = record { x = 0; y = 0 }
-corner_of (Some own) = record { x = word_at own.x.low; y = word_at own.y.low }
+use Rattle.bounds.specs.Extents.{box_in, extent, BoxCorner, corner_of}
 
 -- ---- what buffers hold
 
@@ -53,9 +31,3 @@ box_points boxes place = has_point (box_in (slice_get boxes place))
 -- the pixels of the Funcs before this one, with those of its own pure definition
 abbrev pub with_pure : List Func → Planes → ℕ → Func → Planes
 with_pure funcs inputs place func = with_plane place (pure_plane func.pure inputs (pixels funcs inputs place)) (pixels funcs inputs place)
-
--- ---- owners
-
--- The task with this number owns the point: its iteration visits it.
-abbrev pub owns : Extents → Stage → ℕ → ℕ → ℕ → Bool
-owns extents stage number x y = list_any (is_slice x y) (iteration extents stage number)

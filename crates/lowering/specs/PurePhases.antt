@@ -1,6 +1,6 @@
 -- The phase of a pure definition of a Func that is computed at root, with the Funcs computed at its loops in it.
 -- This project's own.
-use Rattle.std.specs.Prelude.{◌≡◌, ℕ, suc, not, ◌-◌, ◌%◌, ◌^◌, ◌==◌, ◌&&◌, ◌||◌, Bool, true, false, if◌then◌else◌, List, [], ◌∷◌, take, length, slice_get, Option, Some, None}
+use Rattle.std.specs.Prelude.{◌≡◌, ℕ, suc, not, ◌-◌, ◌%◌, ◌^◌, ◌==◌, ◌&&◌, ◌||◌, Bool, true, false, if◌then◌else◌, List, [], ◌∷◌, take, length, Option, Some, None}
 use Rattle.halide_pipeline.specs.declared.definitions.Func.{Func}
 use Rattle.halide_pipeline.specs.declared.definitions.Input.{Input}
 use Rattle.halide_pipeline.specs.declared.expressions.Expr.{Expr}
@@ -27,7 +27,7 @@ use Rattle.bounds_ranges.specs.Laws.{AnswerWords}
 use Rattle.bounds_weights.specs.Weight.{flags_of}
 use Rattle.bounds.specs.declared.boxes.SourceBox.{SourceBox}
 use Rattle.bounds.specs.declared.verdict.Boxes.{Boxes}
-use Rattle.bounds.specs.Views.{extents_of}
+use Rattle.bounds.specs.Extents.{extents_of}
 use Rattle.loop_ir.specs.declared.expressions.Counter.{Counter}
 use Rattle.loop_ir.specs.declared.statements.Phase.{Phase}
 use Rattle.loop_ir.specs.declared.statements.Stmt.{Stmt}
@@ -43,21 +43,10 @@ use Rattle.lowering_expressions.specs.declared.calls.Corner.{Corner}
 use Rattle.lowering_expressions.specs.Lowering.{placed, place as place_in}
 use Rattle.lowering.specs.Phases.{DoesPhase}
 use Rattle.lowering.specs.Corners.{IsCorner, AreCorners}
-use Rattle.lowering.specs.Planes.{held, box_points, with_pure, owns}
+use Rattle.lowering.specs.Planes.{held, box_points, with_pure}
+use Rattle.schedule_loops.specs.Visits.{owns}
 
 -- ---- which Func it is
-
--- A Func that the output reaches and that is computed there, with its loops and its box.
-pub record IsComputedAt (pipeline : Pipeline) (schedule : Schedule) (boxes : Boxes) (placed : Place) (place : ℕ) (func : Func) (plan : FuncPlan) (own : SourceBox) : Type 0 where
-  pub func_is : slice_get pipeline.funcs place ≡ Some func
-  pub plan_is : slice_get schedule.funcs place ≡ Some plan
-  pub box_is : slice_get boxes.funcs place ≡ Some (Some own)
-  pub standing : Standing
-  pub there : IsReached schedule.standings place standing
-  pub placed_is : standing.place ≡ placed
-
-abbrev pub IsAtRoot : Pipeline → Schedule → Boxes → ℕ → Func → FuncPlan → SourceBox → Type 0
-IsAtRoot pipeline schedule boxes = IsComputedAt pipeline schedule boxes places.Root
 
 abbrev pub is_at_root : Standing → Bool
 is_at_root own = own.is_reached && is_root own.place
@@ -67,9 +56,9 @@ abbrev pub RootsAreShared : List Standing → (ℕ → Bool) → Type 0
 RootsAreShared standings is_private = (other : ℕ) (own : Standing) → IsReached standings other own → own.place ≡ places.Root → is_private other ≡ false
 
 -- The buffers of Funcs that are computed at its loops are private.
-abbrev pub HostedArePrivate : List Standing → (ℕ → Bool) → ℕ → Type 0
-HostedArePrivate standings is_private host = (place : ℕ) (own : Standing) (at : LoopPlace)
-    → IsReached standings place own → own.place ≡ places.At at → at.func ≡ host → is_private place ≡ true
+abbrev pub ProducedArePrivate : List Standing → (ℕ → Bool) → ℕ → Type 0
+ProducedArePrivate standings is_private consumer = (place : ℕ) (own : Standing) (at : LoopPlace)
+    → IsReached standings place own → own.place ≡ places.At at → at.func ≡ consumer → is_private place ≡ true
 
 -- ---- what its phase does
 
@@ -77,7 +66,7 @@ HostedArePrivate standings is_private host = (place : ℕ) (own : Standing) (at 
 -- is computed at its loops has buffers of its own.
 abbrev pub DoesPure : Pipeline → Schedule → Boxes → ℕ → Func → FuncPlan → SourceBox → Phase → Type 0
 DoesPure pipeline schedule boxes place func plan own phase =
-    (is_private : ℕ → Bool) → RootsAreShared schedule.standings is_private → HostedArePrivate schedule.standings is_private place
+    (is_private : ℕ → Bool) → RootsAreShared schedule.standings is_private → ProducedArePrivate schedule.standings is_private place
     → (inputs : Planes) → AnswerWords pipeline.inputs (reads_of inputs (pixels pipeline.funcs inputs 0))
     → DoesPhase (box_points boxes.funcs) is_private place
     (held boxes.funcs (pixels pipeline.funcs inputs place)) (held boxes.funcs (with_pure pipeline.funcs inputs place func))

@@ -8,7 +8,7 @@ use Rattle.halide_pipeline.specs.declared.expressions.Expr.{Expr}
 use Rattle.halide_pipeline.specs.Pipelines.{Pipeline}
 use Rattle.schedule.specs.declared.schedules.Schedule.{Schedule}
 use Rattle.bounds_inlining.specs.Inlining.{inlined, flagged}
-use Rattle.bounds_weights.specs.Need.{needs}
+use Rattle.bounds_weights.specs.Weight.{needs}
 use Rattle.loop_ir.specs.declared.statements.Phase.{Phase}
 use Rattle.loop_ir.specs.Depths.{task_depth}
 use Rattle.loop_ir.specs.Needs.{greatest_need}
@@ -35,7 +35,7 @@ update_taken flags funcs place update =
 abbrev pub most_need : Pipeline → Schedule → ℕ
 most_need pipeline schedule = max 1 (needs pipeline schedule).greatest
 
--- At most so many counters stand around a store, the task's own among them: five loops of a host, and five loops and four values of split
+-- At most so many counters stand around a store, the task's own among them: five loops of a consumer, and five loops and four values of split
 -- ones of a Func at the innermost. Its expressions need no more than the most, and harts can count its tasks in a word.
 abbrev pub TakesFew : Pipeline → Schedule → Phase → Type 0
 TakesFew pipeline schedule phase = (task_depth phase ≤ 14) × ((greatest_need phase.body ≤ most_need pipeline schedule) × (phase.tasks ≤ 2 ^ 31))

@@ -1,5 +1,5 @@
 -- How many words of code the phases of a schedule ask for: no more than 64 for each unit that its stages weigh. A stage's share in the weight
--- is the nodes of its expressions and its loops, in each copy of its code that its unrolled loops make; that of a Func at a loop of a host counts
+-- is the nodes of its expressions and its loops, in each copy of its code that its unrolled loops make; that of a Func at a loop of a consumer counts
 -- in each copy of the code around it too.
 -- This project's own.
 use Rattle.std.specs.Prelude.{◌≡◌, ◌≤◌, ℕ, zero, suc, ◌+◌, ◌*◌, Bool, if◌then◌else◌, List, [], ◌∷◌, length, slice_get, Option, Some, None}
@@ -11,16 +11,14 @@ use Rattle.schedule_lines.specs.declared.stages.Stage.{Stage}
 use Rattle.schedule.specs.declared.plans.FuncPlan.{FuncPlan}
 use Rattle.schedule.specs.declared.schedules.Schedule.{Schedule}
 use Rattle.schedule.specs.declared.standings.Standing.{Standing}
-use Rattle.bounds_inlining.specs.Inlining.{inlined, flagged}
-use Rattle.bounds_inlining.specs.Weights.{counting}
-use Rattle.bounds_weights.specs.Copies.{host_copies}
-use Rattle.bounds_weights.specs.Weight.{flags_of, nodes_in, update_nodes, stage_weight}
+use Rattle.bounds_inlining.specs.Inlining.{inlined, flagged, counting}
+use Rattle.bounds_weights.specs.Weight.{consumer_copies, flags_of, nodes_in, update_nodes, stage_weight}
 use Rattle.loop_ir.specs.declared.expressions.Expr as loop
 use Rattle.loop_ir.specs.declared.expressions.Expr.TheVariants as e
 use Rattle.loop_ir.specs.declared.statements.Phase.{Phase}
 use Rattle.loop_ir.specs.Sizes.{size, whole_size}
 use Rattle.lowering_expressions.specs.Sizing.{IsGiven}
-use Rattle.lowering.specs.HostedFuncs.{is_hosted}
+use Rattle.lowering.specs.ProducedFuncs.{is_produced}
 
 -- ---- stores
 
@@ -57,7 +55,7 @@ shares flags funcs func plan (suc n) = shares flags funcs func plan n + update_s
 abbrev pub func_share : List Bool → List Func → Func → FuncPlan → ℕ
 func_share flags funcs func plan = shares flags funcs func plan (length func.updates)
 
--- ---- Funcs at the loops of a host
+-- ---- Funcs at the loops of a consumer
 
 -- over so many places, from one on
 abbrev pub summed : (ℕ → ℕ) → ℕ → ℕ → ℕ
@@ -66,18 +64,18 @@ summed f at (suc n) = f at + summed f (suc at) n
 
 -- in each copy of the code around it
 abbrev pub placed_share : List Bool → List Func → List FuncPlan → Func → FuncPlan → Standing → ℕ
-placed_share flags funcs plans func plan own = func_share flags funcs func plan * host_copies plans own.place
+placed_share flags funcs plans func plan own = func_share flags funcs func plan * consumer_copies plans own.place
 
-abbrev pub hosted_share : List Bool → List Func → List FuncPlan → ℕ → Option Func → Option FuncPlan → Option Standing → ℕ
-hosted_share flags funcs plans host None plan own = 0
-hosted_share flags funcs plans host (Some func) None own = 0
-hosted_share flags funcs plans host (Some func) (Some plan) None = 0
-hosted_share flags funcs plans host (Some func) (Some plan) (Some own) = if is_hosted host own then placed_share flags funcs plans func plan own else 0
+abbrev pub produced_share : List Bool → List Func → List FuncPlan → ℕ → Option Func → Option FuncPlan → Option Standing → ℕ
+produced_share flags funcs plans consumer None plan own = 0
+produced_share flags funcs plans consumer (Some func) None own = 0
+produced_share flags funcs plans consumer (Some func) (Some plan) None = 0
+produced_share flags funcs plans consumer (Some func) (Some plan) (Some own) = if is_produced consumer own then placed_share flags funcs plans func plan own else 0
 
--- of all Funcs that are computed at loops of the host
-abbrev pub hosted_shares : Pipeline → Schedule → ℕ → ℕ
-hosted_shares pipeline schedule host =
-    summed (λ place. hosted_share (flags_of schedule.standings) pipeline.funcs schedule.funcs host (slice_get pipeline.funcs place) (slice_get schedule.funcs place) (slice_get schedule.standings place)) 0 (length schedule.standings)
+-- of all Funcs that are computed at loops of the consumer
+abbrev pub produced_shares : Pipeline → Schedule → ℕ → ℕ
+produced_shares pipeline schedule consumer =
+    summed (λ place. produced_share (flags_of schedule.standings) pipeline.funcs schedule.funcs consumer (slice_get pipeline.funcs place) (slice_get schedule.funcs place) (slice_get schedule.standings place)) 0 (length schedule.standings)
 
 -- ---- phases
 
@@ -85,7 +83,7 @@ hosted_shares pipeline schedule host =
 abbrev pub phase_share : Pipeline → Schedule → ℕ → Func → FuncPlan → ℕ → ℕ
 phase_share pipeline schedule place func plan zero =
     stage_weight (nodes_in (flags_of schedule.standings) pipeline.funcs func.pure) plan.pure
-    + hosted_shares pipeline schedule place
+    + produced_shares pipeline schedule place
 phase_share pipeline schedule place func plan (suc at) = update_share (flags_of schedule.standings) pipeline.funcs (slice_get func.updates at) (slice_get plan.updates at)
 
 -- Its task has no more words than 64 for each of these, with 24 that stand around it in a program.

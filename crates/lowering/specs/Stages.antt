@@ -27,7 +27,7 @@ abbrev pub is_private_in : Option Standing → Bool
 is_private_in None = false
 is_private_in (Some own) = own.is_reached && is_at_loop own.place
 
--- Each hart has buffers of its own of Funcs that are computed at loops, of whichever host.
+-- Each hart has buffers of its own of Funcs that are computed at loops, of whichever consumer.
 abbrev pub is_private : List Standing → ℕ → Bool
 is_private standings place = is_private_in (slice_get standings place)
 

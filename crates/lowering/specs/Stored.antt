@@ -3,26 +3,23 @@
 -- They are the points of the box that its iteration writes: of a pure definition those that the iteration visits; of an update those that the
 -- left side names at some reduction point, where arguments in place lie inside the iteration. Left sides read no pixel of their own Func.
 -- This project's own.
-use Rattle.std.specs.Prelude.{◌≡◌, ◌<◌, ℕ, suc, ◌==◌, ◌&&◌, Bool, true, Some}
-use Rattle.std.specs.List.{list_any}
+use Rattle.std.specs.Prelude.{◌≡◌, ◌<◌, ℕ, suc, Bool, true}
 use Rattle.halide_pipeline.specs.declared.definitions.Func.{Func}
 use Rattle.halide_pipeline.specs.declared.definitions.Update.{Update}
 use Rattle.halide_pipeline.specs.Pipelines.{Pipeline}
-use Rattle.halide_pipeline.specs.Words as word
-use Rattle.halide_pipeline.specs.Pixel.{Planes, Reads, value, index_value, at_reduction, reads_of, pixels}
+use Rattle.halide_pipeline.specs.Pixel.{Planes, reads_of, pixels}
 use Rattle.schedule_lines.specs.declared.stages.Stage.{Stage}
 use Rattle.schedule.specs.declared.schedules.Schedule.{Schedule}
-use Rattle.schedule_loops.specs.Iterations.{points_written}
-use Rattle.schedule_loops.specs.Visits.{Visit}
 use Rattle.bounds_ranges.specs.Laws.{AnswerWords}
 use Rattle.bounds.specs.declared.boxes.SourceBox.{SourceBox}
 use Rattle.bounds.specs.declared.verdict.Boxes.{Boxes}
 use Rattle.loop_ir.specs.declared.statements.Phase.{Phase}
 use Rattle.loop_ir.specs.Stores.{is_stored_by_task}
 use Rattle.lowering.specs.Phases.{Hold}
-use Rattle.lowering.specs.Planes.{BoxCorner, corner_of, held, box_points}
+use Rattle.lowering.specs.Planes.{held, box_points}
+use Rattle.bounds.specs.Stages.{names}
 use Rattle.lowering.specs.Stages.{is_private, after_stages}
-use Rattle.lowering.specs.Updates.{update_extents, owns_update}
+use Rattle.lowering.specs.Updates.{owns_update}
 
 -- ---- pure definitions
 
@@ -33,21 +30,6 @@ StoresItsOwn boxes place owned phase =
     (inputs funcs : Planes) (task : ℕ) → task < phase.tasks → (x y : ℕ) → is_stored_by_task (box_points boxes.funcs) inputs phase task place x y funcs ≡ owned task x y
 
 -- ---- updates
-
--- the point that the left side names at a visit, counted from the corner of the box
-abbrev pub named_point : Reads → BoxCorner → Update → Visit → ℕ × ℕ
-named_point reads corner update visit = (
-  word.subtract (value reads (at_reduction update visit.number (word.add visit.x corner.x) (word.add visit.y corner.y)) update.left_x) corner.x,
-  word.subtract (index_value reads (at_reduction update visit.number (word.add visit.x corner.x) (word.add visit.y corner.y)) update.left_y) corner.y,
-)
-
-abbrev pub is_point : ℕ → ℕ → ℕ × ℕ → Bool
-is_point x y point = point.0 == x && point.1 == y
-
--- The left side names the point at a visit of the iteration with this number, where Funcs have their pixels.
-abbrev pub names : Pipeline → Planes → ℕ → SourceBox → Update → Stage → ℕ → ℕ → ℕ → Bool
-names pipeline inputs place own update stage number x y =
-    list_any (is_point x y) (points_written (named_point (reads_of inputs (pixels pipeline.funcs inputs place)) (corner_of (Some own)) update) (update_extents own update) stage number)
 
 -- Each task stores at a point exactly if the left side names it, from buffers that hold the start, at the points of the own Func that the task
 -- owns and at all points of others; and it owns what the left side names.

@@ -11,11 +11,11 @@ use Rattle.halide_pipeline.specs.declared.definitions.Update.{Update}
 use Rattle.halide_pipeline.specs.declared.expressions.Expr.{Expr}
 use Rattle.halide_pipeline.specs.declared.expressions.Source.TheVariants as sources
 use Rattle.halide_pipeline.specs.declared.expressions.Variable.TheVariants as variables
-use Rattle.halide_pipeline.specs.Definitions.{is_first_in_place, is_second_in_place}
+use Rattle.halide_pipeline.specs.WellFormed.{is_first_in_place, is_second_in_place}
 use Rattle.halide_pipeline.specs.Pipelines.{Pipeline}
 use Rattle.halide_pipeline.specs.Words as word
 use Rattle.halide_pipeline.specs.declared.environments.Environment.{Environment}
-use Rattle.halide_pipeline.specs.Pixel.{Plane, Planes, Reads, variable, reads_of, with_plane, points, second_extent, stage, pixels}
+use Rattle.halide_pipeline.specs.Pixel.{Plane, Planes, Reads, variable, reads_of, with_plane, points, stage, pixels}
 use Rattle.halide_pipeline.specs.Points.{Point, Hold}
 use Rattle.schedule_lines.specs.declared.stages.LoopId.{LoopId}
 use Rattle.schedule_lines.specs.declared.stages.Stage.{Stage}
@@ -24,22 +24,20 @@ use Rattle.schedule.specs.declared.schedules.Schedule.{Schedule}
 use Rattle.schedule.specs.declared.standings.Place.TheVariants as places
 use Rattle.schedule.specs.declared.standings.Standing.{Standing}
 use Rattle.schedule.specs.Uses.{IsReached}
-use Rattle.schedule_loops.specs.declared.extents.Extents.{Extents}
-use Rattle.schedule_loops.specs.Counts as loops
-use Rattle.schedule_loops.specs.Iterations.{iteration}
-use Rattle.schedule_loops.specs.Visits.{Visit, is_slice}
+use Rattle.schedule_loops.specs.Visits as loops
+use Rattle.schedule_loops.specs.Visits.{iteration, Visit, is_slice}
 use Rattle.bounds_inlining.specs.Inlining.{inlined, flagged}
 use Rattle.bounds_inlining.specs.Laws.{seen_variable}
 use Rattle.bounds_inlining.specs.Values.{values as valuing, seeing}
 use Rattle.bounds_ranges.specs.Laws.{Below, AnswerWords}
 use Rattle.bounds_weights.specs.Weight.{flags_of}
-use Rattle.bounds.specs.declared.boxes.HostLoop.{HostLoop}
+use Rattle.bounds.specs.declared.boxes.ConsumerLoop.{ConsumerLoop}
 use Rattle.bounds.specs.declared.boxes.SourceBox.{SourceBox}
 use Rattle.bounds.specs.declared.verdict.Boxes.{Boxes}
-use Rattle.bounds.specs.Boxes.{extent, lasts_of}
-use Rattle.bounds.specs.Sources.{same_source}
-use Rattle.bounds_laws.specs.HostLaws.{IsFrom}
-use Rattle.bounds_laws.specs.Laws.{LiesIn, values_for, host_in, IsComputed, update_points}
+use Rattle.bounds.specs.Boxes.{lasts_of, same_source}
+use Rattle.bounds.specs.Extents.{update_extents, BoxCorner}
+use Rattle.bounds_laws.specs.ConsumerLaws.{IsFrom}
+use Rattle.bounds_laws.specs.Laws.{LiesIn, values_for, consumer_in, IsComputed, update_points}
 use Rattle.loop_ir.specs.declared.statements.Stmt.{Stmt}
 use Rattle.loop_ir.specs.Buffers.{Points, put}
 use Rattle.loop_ir.specs.Counters.{Values}
@@ -50,7 +48,7 @@ use Rattle.loop_ir.specs.Stores.{Trace, trace}
 use Rattle.lowering_nests.specs.Nests.{loops_of, put_loops}
 use Rattle.lowering_expressions.specs.declared.calls.Corner.{Corner}
 use Rattle.lowering_expressions.specs.Lowering.{placed, place as place_in}
-use Rattle.lowering.specs.Planes.{BoxCorner, from_corner, has_point, box_points}
+use Rattle.lowering.specs.Planes.{from_corner, has_point, box_points}
 use Rattle.lowering.specs.Corners.{IsCorner, AreCorners}
 use Rattle.lowering.specs.PurePhases.{whole_at}
 
@@ -145,15 +143,6 @@ pub record IsUpdateStoreOf (pipeline : Pipeline) (schedule : Schedule) (boxes : 
 
 -- ---- slices
 
--- how many values its variables take
-abbrev pub update_extents : SourceBox → Update → Extents
-update_extents own update = record {
-  first_argument = extent own.x;
-  second_argument = extent own.y;
-  first_reduction = update.first.extent;
-  second_reduction = second_extent update.second;
-}
-
 -- An argument in place tells slices apart; no loop is over any other, which stays 0.
 abbrev pub in_place : Bool → ℕ → ℕ
 in_place true n = n
@@ -174,7 +163,7 @@ abbrev pub IsCornerAt : ℕ → Values → Corner → BoxCorner → Type 0
 IsCornerAt place values corner own = (inner : loops.Values)
     → (linear_value (put_loops place inner values) corner.x ≡ own.x) × (linear_value (put_loops place inner values) corner.y ≡ own.y)
 
--- The point is that of the box's corner, while loops of the host have these values.
+-- The point is that of the box's corner, while loops of the consumer have these values.
 pub record IsBegin (values : List ℕ) (own : SourceBox) (corner : BoxCorner) : Type 0 where
   pub x : IsFrom values own.x 0 corner.x
   pub y : IsFrom values own.y 0 corner.y
@@ -206,22 +195,22 @@ pub record Leaves (place : ℕ) (own : SourceBox) (result : Plane) (funcs after 
   pub keeps : (other x y : ℕ) → (other ≡ place → has_point (Some own) x y ≡ false) → after other x y ≡ funcs other x y
 
 -- the loop at which the Func is computed, if it is computed at one
-abbrev pub host_at : Schedule → Boxes → Standing → Option HostLoop
-host_at schedule boxes standing = host_in schedule boxes.funcs standing.place
+abbrev pub consumer_at : Schedule → Boxes → Standing → Option ConsumerLoop
+consumer_at schedule boxes standing = consumer_in schedule boxes.funcs standing.place
 
--- what loops of the host stand at, where there is a host
-abbrev pub hosted_turns : Schedule → Boxes → Standing → List ℕ → List ℕ
-hosted_turns schedule boxes standing turns = values_for (host_at schedule boxes standing) turns
+-- what loops of the consumer stand at, where there is a consumer
+abbrev pub produced_turns : Schedule → Boxes → Standing → List ℕ → List ℕ
+produced_turns schedule boxes standing turns = values_for (consumer_at schedule boxes standing) turns
 
--- So it is under all values of loops, of which the Func's own haven't begun, wherever those of the host take the Func's box.
+-- So it is under all values of loops, of which the Func's own haven't begun, wherever those of the consumer take the Func's box.
 abbrev pub DoesUpdate : Pipeline → Schedule → Boxes → List Corner → ℕ → Func → Corner → SourceBox → ℕ → Update → Stmt → Type 0
 DoesUpdate pipeline schedule boxes corners place func corner own at update made =
     (inputs : Planes) → AnswerWords pipeline.inputs (reads_of inputs (pixels pipeline.funcs inputs 0))
     → (standing : Standing) → IsReached schedule.standings place standing
-    → (turns : List ℕ) → Below (hosted_turns schedule boxes standing turns) (lasts_of (host_at schedule boxes standing))
-    → (begin : BoxCorner) → IsBegin (hosted_turns schedule boxes standing turns) own begin
+    → (turns : List ℕ) → Below (produced_turns schedule boxes standing turns) (lasts_of (consumer_at schedule boxes standing))
+    → (begin : BoxCorner) → IsBegin (produced_turns schedule boxes standing turns) own begin
     → (values : Values) → IsCornerAt place values corner begin → ((id : LoopId) → loops_of place values id ≡ 0)
-    → (funcs : Planes) → ReadsPixels pipeline schedule corners place update (hosted_turns schedule boxes standing turns) own inputs values funcs
+    → (funcs : Planes) → ReadsPixels pipeline schedule corners place update (produced_turns schedule boxes standing turns) own inputs values funcs
     → ((x y : ℕ) → has_point (Some own) x y ≡ true → funcs place x y ≡ stage_from pipeline inputs place func begin at x y)
     → Leaves place own (stage_from pipeline inputs place func begin (suc at)) funcs (run (box_points boxes.funcs) inputs made values funcs)
 
@@ -233,8 +222,8 @@ AreSoundLoops pipeline schedule boxes corners place corner own update made =
     → ((x y : ℕ) → has_point (Some own) x y ≡ true → written place x y ≡ true)
     → ((x y : ℕ) → has_point (Some own) x y ≡ true → loaded (record { source = sources.Func place; x = x; y = y }) ≡ true)
     → (standing : Standing) → IsReached schedule.standings place standing
-    → (turns : List ℕ) → Below (hosted_turns schedule boxes standing turns) (lasts_of (host_at schedule boxes standing))
-    → (begin : BoxCorner) → IsBegin (hosted_turns schedule boxes standing turns) own begin
+    → (turns : List ℕ) → Below (produced_turns schedule boxes standing turns) (lasts_of (consumer_at schedule boxes standing))
+    → (begin : BoxCorner) → IsBegin (produced_turns schedule boxes standing turns) own begin
     → (values : Values) → IsCornerAt place values corner begin → ((id : LoopId) → loops_of place values id ≡ 0)
-    → LoadsOthers pipeline schedule corners place update (hosted_turns schedule boxes standing turns) own reads loaded values
+    → LoadsOthers pipeline schedule corners place update (produced_turns schedule boxes standing turns) own reads loaded values
     → is_sound reads written loaded made values ≡ true

@@ -7,10 +7,10 @@ use Rattle.halide_pipeline.specs.declared.definitions.Input.{Input}
 use Rattle.halide_pipeline.specs.Picture.{IsPicture}
 use Rattle.halide_pipeline.specs.Contents.{PictureContents}
 use Rattle.halide_pipeline.specs.Pixel.{Planes, input_planes, reads_of, pixels}
-use Rattle.schedule_loops.specs.Iterations.{IsOrder}
+use Rattle.schedule_loops.specs.Visits.{IsOrder}
 use Rattle.bounds_ranges.specs.Laws.{AnswerWords}
 use Rattle.bounds.specs.declared.boxes.SourceBox.{SourceBox}
-use Rattle.bounds.specs.Boxes.{extent}
+use Rattle.bounds.specs.Extents.{extent}
 use Rattle.loop_ir.specs.Buffers.{BufferContents, points_of}
 use Rattle.loop_ir.specs.Running.{turns}
 use Rattle.lowering.specs.Phases.{Done}

@@ -3,14 +3,14 @@
 ghost use Rattle.std.specs.Prelude.{◌≡◌, ◌≤◌, ◌+◌, ◌*◌, ◌%◌, ◌^◌, List, IfOk, OnOk, length, slice_get};
 ghost use Rattle.std.specs.Option.{option_copied};
 ghost use Rattle.bounds.specs.Boxes as bounds_boxes;
-ghost use Rattle.bounds_laws.specs.HostLaws.{turn_at, values_in};
+ghost use Rattle.bounds_laws.specs.ConsumerLaws.{turn_at, values_in};
 ghost use Rattle.lowering_expressions.specs.Sizing.{AreShort, IsShort};
 ghost use Rattle.loop_ir.specs.Counters.{Values};
 ghost use Rattle.loop_ir.specs.Expressions.{linear_value, sum_of};
 ghost use Rattle.lowering.specs.Corners as spec;
-ghost use Rattle.lowering.specs.Planes as planes;
+ghost use Rattle.bounds.specs.Extents as planes;
 ghost use Rattle.lowering_nests.specs.Nests.{loops_of};
-ghost use Rattle.bounds_ranges.specs.Bases.{less_sum, more_sum};
+ghost use Rattle.bounds_ranges.specs.Ranges.{less_sum, more_sum};
 
 use bounds::SourceBox;
 use bounds::views::inner_count;

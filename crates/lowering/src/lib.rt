@@ -4,7 +4,7 @@
 //!   leave the result of the last one (`specs/Order.antt`).
 //! - [`phases`]: **all phases of a pipeline, which leave its output's pixels** (`specs/Lowered.antt`).
 //! - [`pure_phases`]: **the phase of a pure definition** (`specs/PurePhases.antt`).
-//! - [`hosting`]: loops of a host, with the nests of the Funcs computed at them (`specs/Hosting.antt`).
+//! - [`consuming`]: loops of a consumer, with the nests of the Funcs computed at them (`specs/Consuming.antt`).
 //! - [`nests`]: **the nest of a pure definition** of a Func that is computed at a loop fills its box of one iteration.
 //! - [`computed`]: a Func that is lowered, with what is known of it.
 //! - [`corners`]: corners of boxes, also of those that begin elsewhere in each iteration (`specs/Corners.antt`).
@@ -17,8 +17,8 @@
 #![tactic(auto)]
 
 pub mod computed;
+pub mod consuming;
 pub mod corners;
-pub mod hosting;
 pub mod laws;
 pub mod nests;
 pub mod phases;

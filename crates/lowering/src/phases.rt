@@ -6,13 +6,13 @@ ghost use Rattle.bounds.specs.Verdict.{inferred};
 ghost use Rattle.loop_ir.specs.declared.statements.Phase.{Phase as MadePhase};
 ghost use Rattle.bounds.specs.Plans.{IsPlan};
 ghost use Rattle.lowering.specs.Lowered as spec;
-ghost use Rattle.lowering.specs.PurePhases.{IsAtRoot};
+ghost use Rattle.bounds.specs.Stages.{IsAtRoot};
 ghost use Rattle.lowering.specs.Registers.{TakeFew};
 ghost use Rattle.lowering.specs.Sizes.{words_of};
 ghost use Rattle.bounds_weights.specs.Weight.{weight};
 
 use crate::computed::ComputedFunc;
-use crate::hosting::box_at;
+use crate::consuming::box_at;
 use crate::pure_phases::{is_at_root, pure_phase};
 use crate::updates::{UpdateOf, update_phase};
 use bounds::{Boxes, Plan};

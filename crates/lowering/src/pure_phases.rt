@@ -1,16 +1,17 @@
 //! Phases of pure definitions.
 
 ghost use Rattle.std.specs.Prelude.{◌≡◌, ◌+◌, ◌<◌, ◌≤◌, ◌^◌, ◌++◌, IfOk, OnOk, length};
-ghost use Rattle.schedule_loops.specs.Counts.{AreSplits};
-ghost use Rattle.schedule_loops.specs.Iterations as iterations;
-ghost use Rattle.bounds.specs.Views as views;
+ghost use Rattle.schedule_loops.specs.Visits.{AreSplits};
+ghost use Rattle.schedule_loops.specs.Visits as iterations;
+ghost use Rattle.bounds.specs.Extents as views;
 ghost use Rattle.loop_ir.specs.Depths.{task_depth};
 ghost use Rattle.loop_ir.specs.Needs.{greatest_need};
 ghost use Rattle.lowering_nests.specs.Nests.{AreFew};
 ghost use Rattle.bounds.specs.Plans.{IsPlan};
-ghost use Rattle.lowering.specs.HostedFuncs.{hosted_from};
-ghost use Rattle.lowering.specs.Planes.{owns};
+ghost use Rattle.lowering.specs.ProducedFuncs.{produced_from};
+ghost use Rattle.schedule_loops.specs.Visits.{owns};
 ghost use Rattle.lowering.specs.PurePhases as spec;
+ghost use Rattle.bounds.specs.Stages as spec_stages;
 ghost use Rattle.lowering.specs.Registers.{most_need};
 ghost use Rattle.lowering.specs.Sizes.{IsLight};
 ghost use Rattle.lowering.specs.Rounds.{RoundsMayBeAtOnce};
@@ -20,7 +21,7 @@ ghost use Rattle.lowering.specs.Stored.{StoresItsOwn};
 ghost use Rattle.lowering.specs.Touching.{TouchesItsOwn};
 
 use crate::computed::ComputedFunc;
-use crate::hosting::{body_of, hosted_places};
+use crate::consuming::{body_of, produced_places};
 use crate::nests::store_of;
 use bounds::Plan;
 use bounds::boxes::extents_of;
@@ -97,11 +98,11 @@ pub fn pure_phase(
     computed: &ComputedFunc<'_>,
 ) -> Result<Phase, AllocError>
     requires plan { IsPlan plan.now }
-    requires at { spec.IsAtRoot plan.now.pipeline.now plan.now.schedule.now plan.now.boxes.now
+    requires at { spec_stages.IsAtRoot plan.now.pipeline.now plan.now.schedule.now plan.now.boxes.now
         computed.now.place computed.now.func.now computed.now.plan.now computed.now.own.now }
     ensures tasks { IfOk result (λ phase. phase.tasks ≡ iterations.iteration_count
         (views.extents_of computed.now.own.now) computed.now.plan.now.pure) }
-    ensures private { IfOk result (λ phase. phase.private ≡ hosted_from computed.now.place 0
+    ensures private { IfOk result (λ phase. phase.private ≡ produced_from computed.now.place 0
         plan.now.schedule.now.standings) }
     ensures bytes { IfOk result (λ phase. phase.bytes ≡ spec.byte_places 0 plan.now.pipeline.now.inputs) }
     ensures does { IfOk result (spec.DoesPure plan.now.pipeline.now plan.now.schedule.now plan.now.boxes.now
@@ -131,7 +132,7 @@ pub fn pure_phase(
     let tasks = task_count(alloc, stage, extents)?;
     let bytes = byte_inputs(alloc, plan.pipeline.inputs())?;
     let counter = task_counter(computed.place, stage);
-    let private = hosted_places(alloc, computed.place, plan.schedule.standings.as_slice())?;
+    let private = produced_places(alloc, computed.place, plan.schedule.standings.as_slice())?;
     Ok(Phase {
         tasks,
         counter,

@@ -3,8 +3,8 @@
 ghost use Rattle.std.specs.Prelude.{◌≡◌, ◌+◌, ◌<◌, ◌≤◌, ◌^◌, List, [], IfOk, Some, length, slice_get, suc, true};
 ghost use Rattle.std.specs.Prelude.{◌*◌};
 ghost use Rattle.halide_pipeline.specs.Pixel as meaning;
-ghost use Rattle.schedule_loops.specs.Counts.{AreSplits, counts};
-ghost use Rattle.schedule_loops.specs.Iterations as iterations;
+ghost use Rattle.schedule_loops.specs.Visits.{AreSplits, counts};
+ghost use Rattle.schedule_loops.specs.Visits as iterations;
 ghost use Rattle.schedule_loops.specs.Reach.{wholes};
 ghost use Rattle.bounds_inlining.specs.Inlining.{flagged};
 ghost use Rattle.bounds_weights.specs.Weight.{flags_of, stage_weight, update_nodes};
@@ -19,8 +19,9 @@ ghost use Rattle.lowering_nests.specs.Rounds.{IsLeaf, MayBeAtOnce, MayBeUnder};
 ghost use Rattle.lowering_nests.specs.Sizes.{nest_size};
 ghost use Rattle.schedule_lines.specs.declared.stages.Loop.{Loop};
 ghost use Rattle.bounds.specs.Plans.{IsPlan};
-ghost use Rattle.lowering.specs.Hosting.{StoresInIt};
+ghost use Rattle.lowering.specs.Consuming.{StoresInIt};
 ghost use Rattle.lowering.specs.PurePhases as pure;
+ghost use Rattle.bounds.specs.Stages as pure_stages;
 ghost use Rattle.lowering.specs.Registers.{most_need, update_taken};
 ghost use Rattle.lowering.specs.Sizes.{update_counted};
 ghost use Rattle.lowering.specs.Rounds.{MayAlwaysBeAtOnce, RoundsMayBeAtOnce};
@@ -28,10 +29,11 @@ ghost use Rattle.lowering.specs.Stages.{DoesStage};
 ghost use Rattle.lowering.specs.Stored.{StoresWhatItNames};
 ghost use Rattle.lowering.specs.Touching.{TouchesItsOwn};
 ghost use Rattle.lowering.specs.Updates as spec;
+ghost use Rattle.bounds.specs.Extents as spec_extents;
 
 use crate::computed::ComputedFunc;
+use crate::consuming::inside_parallel;
 use crate::corners::{corner_of, corners_of};
-use crate::hosting::inside_parallel;
 use crate::pure_phases::{byte_inputs, task_count, task_counter};
 use crate::stores::LoweredFunc;
 use crate::update_stores::update_store;
@@ -71,7 +73,7 @@ fn second_extent(second: &Option<Reduction>) -> u32
 /// How many values the variables of an update take in a box.
 fn update_extents(own: &SourceBox, update: &Update) -> Extents
     requires { IsBox own.now }
-    ensures { result ≡ spec.update_extents own.now update.now }
+    ensures { result ≡ spec_extents.update_extents own.now update.now }
 {
     let pure = extents_of(own);
     Extents {
@@ -214,12 +216,12 @@ fn nest_of(
 /// Memory ran out.
 pub fn update_phase(alloc: Global, plan: &Plan<'_>, of: &UpdateOf<'_>) -> Result<Phase, AllocError>
     requires plan { IsPlan plan.now }
-    requires root { pure.IsAtRoot plan.now.pipeline.now plan.now.schedule.now plan.now.boxes.now
+    requires root { pure_stages.IsAtRoot plan.now.pipeline.now plan.now.schedule.now plan.now.boxes.now
         of.now.computed.place of.now.computed.func.now of.now.computed.plan.now of.now.computed.own.now }
     requires at { spec.IsUpdateAt plan.now.schedule.now of.now.computed.place of.now.computed.func.now
         of.now.computed.plan.now of.now.at of.now.update.now of.now.stage.now }
     ensures tasks { IfOk result (λ phase. phase.tasks
-        ≡ iterations.iteration_count (spec.update_extents of.now.computed.own.now of.now.update.now) of.now.stage.now) }
+        ≡ iterations.iteration_count (spec_extents.update_extents of.now.computed.own.now of.now.update.now) of.now.stage.now) }
     ensures private { IfOk result (λ phase. phase.private ≡ []) }
     ensures bytes { IfOk result (λ phase. phase.bytes ≡ pure.byte_places 0 plan.now.pipeline.now.inputs) }
     ensures does { IfOk result (DoesStage plan.now.pipeline.now plan.now.schedule.now plan.now.boxes.now

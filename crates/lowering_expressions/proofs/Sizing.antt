@@ -9,8 +9,7 @@ use Rattle.halide_pipeline.specs.declared.expressions.Variable.{Variable}
 use Rattle.halide_pipeline.specs.declared.expressions.Variable.TheVariants as variables
 use Rattle.halide_pipeline.specs.declared.expressions.Expr as definition
 use Rattle.halide_pipeline.specs.declared.expressions.Expr.TheVariants as d
-use Rattle.bounds_inlining.specs.Inlining.{Inside, answer, answered, arguments, func_in, inside, made_in, made_of, second_of, through}
-use Rattle.bounds_inlining.specs.Weights.{counting}
+use Rattle.bounds_inlining.specs.Inlining.{Inside, answer, answered, arguments, func_in, inside, made_in, made_of, second_of, through, counting}
 use Rattle.bounds_inlining.proofs.Steps.{inside_is, of_number, of_variable, of_binary, of_divide, of_remainder, of_select, of_call1, of_call2}
 use Rattle.loop_ir.specs.declared.expressions.Expr.{Expr}
 use Rattle.loop_ir.specs.declared.expressions.Expr.TheVariants as e

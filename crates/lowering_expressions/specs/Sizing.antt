@@ -10,7 +10,7 @@ use Rattle.lowering_expressions.specs.declared.lowering.Arguments.{Arguments}
 abbrev pub IsGiven : ℕ → ℕ → Type 0
 IsGiven words nodes = words + 38 ≤ 64 * nodes
 
--- A corner counts the loops of a host, of which there are at most five,
+-- A corner counts the loops of a consumer, of which there are at most five,
 abbrev pub IsShort : Corner → Type 0
 IsShort corner = (length corner.x.terms ≤ 5) × (length corner.y.terms ≤ 5)
 

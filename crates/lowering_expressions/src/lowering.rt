@@ -11,7 +11,7 @@ ghost use Rattle.bounds_inlining.specs.Values.{values as valuing, seeing};
 ghost use Rattle.loop_ir.specs.declared.expressions.Expr.TheVariants as sum;
 ghost use Rattle.loop_ir.specs.Counters.{Values};
 ghost use Rattle.loop_ir.specs.Expressions.{value, loads};
-ghost use Rattle.bounds_inlining.specs.Weights.{counting};
+ghost use Rattle.bounds_inlining.specs.Inlining.{counting};
 ghost use Rattle.loop_ir.specs.Needs.{need};
 ghost use Rattle.loop_ir.specs.Sizes.{size};
 ghost use Rattle.lowering_expressions.specs.Lowering.{environment, place, placed};

@@ -6,10 +6,9 @@ use Rattle.halide_pipeline.proofs.Seeing.{all_parts}
 use Rattle.schedule_lines.specs.declared.stages.LoopId.{LoopId}
 use Rattle.schedule_lines.specs.declared.stages.LoopId.TheVariants as ids
 use Rattle.schedule_lines.specs.declared.stages.Split.{Split}
-use Rattle.schedule_lines.specs.Loops.{same_id}
+use Rattle.schedule_lines.specs.Directives.{same_id}
 use Rattle.schedule_loops.specs.declared.extents.Extents.{Extents}
-use Rattle.schedule_loops.specs.Counts.{Values, rounds, whole_counts, more_counts, counts_from, counts, IsFactor, AreSplits}
-use Rattle.schedule_loops.specs.Visits.{split_body, split_bodies, over_loops}
+use Rattle.schedule_loops.specs.Visits.{Values, rounds, whole_counts, more_counts, counts_from, counts, IsFactor, AreSplits, split_body, split_bodies, over_loops}
 use Rattle.lowering_nests.specs.Nests.{AreFew}
 
 -- ---- rounds

@@ -3,7 +3,7 @@ use Rattle.std.proofs.Common.{◌≡◌, ℕ, ◌-◌, ◌≤◌, List, [], ◌�
 use Rattle.schedule_lines.specs.declared.stages.Loop.{Loop}
 use Rattle.schedule_lines.specs.declared.stages.Split.{Split}
 use Rattle.schedule_loops.proofs.Lists.{first_of_rest}
-use Rattle.schedule_loops.specs.Counts as loops
+use Rattle.schedule_loops.specs.Visits as loops
 use Rattle.schedule_loops.specs.Reach.{wholes}
 use Rattle.schedule_loops.specs.Sizes.{SizedLoops}
 use Rattle.schedule_loops.specs.Visits.{upto, nest, split_body, over_loops}

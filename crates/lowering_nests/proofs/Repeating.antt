@@ -10,8 +10,8 @@ use Rattle.halide_pipeline.specs.Points.{Point}
 use Rattle.schedule_lines.specs.declared.stages.LoopId.{LoopId}
 use Rattle.schedule_lines.specs.declared.stages.LoopId.TheVariants as ids
 use Rattle.schedule_lines.specs.declared.stages.Split.{Split}
-use Rattle.schedule_lines.specs.Loops.{same_id}
-use Rattle.schedule_loops.specs.Counts as loops
+use Rattle.schedule_lines.specs.Directives.{same_id}
+use Rattle.schedule_loops.specs.Visits as loops
 use Rattle.schedule_loops.specs.Visits.{upto, begin_of, whole_of, split_body}
 use Rattle.loop_ir.specs.declared.expressions.Counter.{Counter}
 use Rattle.loop_ir.specs.declared.statements.Stmt.{Stmt}

@@ -13,12 +13,13 @@ use Rattle.schedule_lines.specs.declared.stages.LoopId.TheVariants as ids
 use Rattle.schedule_lines.specs.declared.stages.Split.{Split}
 use Rattle.schedule_lines.specs.declared.stages.Tail.{Tail}
 use Rattle.schedule_lines.specs.declared.stages.Tail.TheVariants as tails
-use Rattle.schedule_lines.specs.Loops.{same_id}
+use Rattle.schedule_lines.specs.Directives.{same_id}
 use Rattle.schedule_loops.proofs.Ids.{same_id-true, same_id-self}
 use Rattle.schedule_loops.proofs.Lists.{first_of_rest}
 use Rattle.schedule_loops.specs.declared.extents.Extents.{Extents}
-use Rattle.schedule_loops.specs.Counts as loops
-use Rattle.schedule_loops.specs.Reach.{AreTurns, wholes}
+use Rattle.schedule_loops.specs.Visits as loops
+use Rattle.schedule_loops.specs.Reach.{wholes}
+use Rattle.schedule_loops.specs.Runs.{AreTurns, is_vectorized_loop}
 use Rattle.schedule_loops.specs.Visits.{begin_of, whole_of, split_body, split_bodies}
 use Rattle.loop_ir.specs.declared.expressions.Counter.{Counter}
 use Rattle.loop_ir.specs.declared.statements.LoopKind.{LoopKind}
@@ -31,7 +32,7 @@ use Rattle.loop_ir.specs.Running.{whole_value}
 use Rattle.loop_ir.specs.Soundness.{every, is_sound}
 use Rattle.loop_ir.proofs.Rounds.{touches_are}
 use Rattle.lowering_nests.specs.Nests.{loops_of, put_loops, AreSmall, Repeats}
-use Rattle.lowering_nests.specs.Rounds.{AllAreSmall, NeverFall, StepsUp, is_vectorized_loop, IsLeaf, MayBeAtOnce, LoadsNoneOf, MayBeVectorized, GoesAround, MayBeAround, StoreMayBeVectorized, MayBeUnder}
+use Rattle.lowering_nests.specs.Rounds.{AllAreSmall, NeverFall, StepsUp, IsLeaf, MayBeAtOnce, LoadsNoneOf, MayBeVectorized, GoesAround, MayBeAround, StoreMayBeVectorized, MayBeUnder}
 use Rattle.lowering_nests.proofs.Repeating.{loops_with, sound_with}
 
 -- ---- tests

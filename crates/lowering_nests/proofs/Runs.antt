@@ -5,7 +5,7 @@ use Rattle.std.proofs.lemmas.Bool.{eq-eqb}
 use mathlib.Core.Path.{fun_ext}
 use Rattle.halide_pipeline.specs.Pixel.{Reads}
 use Rattle.schedule_lines.specs.declared.stages.Loop.{Loop}
-use Rattle.schedule_loops.specs.Counts as loops
+use Rattle.schedule_loops.specs.Visits as loops
 use Rattle.loop_ir.specs.declared.expressions.Counter.{Counter}
 use Rattle.loop_ir.specs.declared.statements.LoopKind.{LoopKind}
 use Rattle.loop_ir.specs.declared.statements.Stmt.{Stmt}
@@ -15,7 +15,7 @@ use Rattle.loop_ir.specs.Rounds.{is_vectorized, all_but, all_points}
 use Rattle.loop_ir.specs.Runs.{Runs, is_about, is_about_at, runs, runs_at, are_same, point_of, stores_in_runs}
 use Rattle.loop_ir.specs.Soundness.{every, is_sound}
 use Rattle.loop_ir.proofs.Runs.{misses_are}
-use Rattle.lowering_nests.specs.Rounds.{is_vectorized_loop}
+use Rattle.schedule_loops.specs.Runs.{is_vectorized_loop}
 use Rattle.lowering_nests.specs.Runs.{RunsAround}
 
 module _ (func : ℕ) (counts : loops.Values) (own : Loop) (body made : Stmt) (kind : LoopKind) (kind_is : is_vectorized kind ≡ is_vectorized_loop own) (count : ℕ) (count_is : count ≡ counts own.id) where

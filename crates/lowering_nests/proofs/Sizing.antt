@@ -2,9 +2,9 @@
 use Rattle.std.proofs.Common.{◌≡◌, ℕ, ◌-◌, ◌≤◌, Bool, List, ◌∷◌, length, get_or, take, drop, sym, ap, subst, ◌∙◌}
 use Rattle.schedule_lines.specs.declared.stages.Loop.{Loop}
 use Rattle.schedule_lines.specs.declared.stages.Mark.TheVariants as marks
-use Rattle.schedule_lines.specs.Loops.{is_marked}
+use Rattle.schedule_lines.specs.Directives.{is_marked}
 use Rattle.schedule_loops.proofs.Lists.{first_of_rest}
-use Rattle.schedule_loops.specs.Counts as loops
+use Rattle.schedule_loops.specs.Visits as loops
 use Rattle.loop_ir.specs.declared.statements.LoopKind.{LoopKind}
 use Rattle.loop_ir.specs.Sizes.{is_laid_out, loop_room}
 use Rattle.lowering_nests.specs.Sizes.{nest_size}

@@ -2,16 +2,15 @@
 --
 -- Where the schedule marks a loop so, the loop is the innermost one of its stage.
 -- This project's own.
-use Rattle.std.specs.Prelude.{◌≤◌, ◌≡◌, ◌<◌, ◌^◌, ◌++◌, ℕ, Bool, true, false, List, [], ◌∷◌}
+use Rattle.std.specs.Prelude.{◌≤◌, ◌≡◌, ◌<◌, ◌^◌, ◌++◌, ℕ, true, false, List, [], ◌∷◌}
 use Rattle.std.specs.List.{AllByRecursion}
 use Rattle.halide_pipeline.specs.Pixel.{Reads}
 use Rattle.schedule_lines.specs.declared.stages.Loop.{Loop}
-use Rattle.schedule_lines.specs.declared.stages.Mark.TheVariants as marks
 use Rattle.schedule_lines.specs.declared.stages.Split.{Split}
-use Rattle.schedule_lines.specs.Loops.{is_marked}
 use Rattle.schedule_loops.specs.declared.extents.Extents.{Extents}
-use Rattle.schedule_loops.specs.Counts as loops
-use Rattle.schedule_loops.specs.Reach.{AreTurns, wholes}
+use Rattle.schedule_loops.specs.Visits as loops
+use Rattle.schedule_loops.specs.Reach.{wholes}
+use Rattle.schedule_loops.specs.Runs.{AreTurns, is_vectorized_loop}
 use Rattle.loop_ir.specs.declared.expressions.Counter.{Counter}
 use Rattle.loop_ir.specs.declared.statements.Stmt.{Stmt}
 use Rattle.loop_ir.specs.Counters.{Values, with}
@@ -21,9 +20,6 @@ use Rattle.lowering_nests.specs.Nests.{loops_of, put_loops}
 
 abbrev pub AllAreSmall : Values → Type 0
 AllAreSmall values = (counter : Counter) → values counter < 2 ^ 25
-
-abbrev pub is_vectorized_loop : Loop → Bool
-is_vectorized_loop own = is_marked marks.Vectorized own
 
 -- No counter stands lower in the second than in the first.
 abbrev pub NeverFall : Values → Values → Type 0

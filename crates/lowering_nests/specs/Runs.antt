@@ -3,13 +3,13 @@
 use Rattle.std.specs.Prelude.{◌≡◌, ℕ, not, Bool, true, false}
 use Rattle.halide_pipeline.specs.Pixel.{Reads}
 use Rattle.schedule_lines.specs.declared.stages.Loop.{Loop}
-use Rattle.schedule_loops.specs.Counts as loops
+use Rattle.schedule_loops.specs.Visits as loops
 use Rattle.loop_ir.specs.declared.statements.Stmt.{Stmt}
 use Rattle.loop_ir.specs.Counters.{Values, with}
 use Rattle.loop_ir.specs.Rounds.{all_but, all_points}
 use Rattle.loop_ir.specs.Runs.{are_same, point_of, stores_in_runs}
 use Rattle.loop_ir.specs.Soundness.{every, is_sound}
-use Rattle.lowering_nests.specs.Rounds.{is_vectorized_loop}
+use Rattle.schedule_loops.specs.Runs.{is_vectorized_loop}
 
 -- A loop of the Func around a body: where it isn't vectorized, the body stores in runs in each of its turns; else a point is stored by the run
 -- exactly if some round stores there.

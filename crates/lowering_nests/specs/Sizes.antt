@@ -2,8 +2,8 @@
 use Rattle.std.specs.Prelude.{ℕ, List, [], ◌∷◌}
 use Rattle.schedule_lines.specs.declared.stages.Loop.{Loop}
 use Rattle.schedule_lines.specs.declared.stages.Mark.TheVariants as marks
-use Rattle.schedule_lines.specs.Loops.{is_marked}
-use Rattle.schedule_loops.specs.Counts.{Values}
+use Rattle.schedule_lines.specs.Directives.{is_marked}
+use Rattle.schedule_loops.specs.Visits.{Values}
 use Rattle.loop_ir.specs.Sizes.{loop_room}
 
 -- the innermost first, around a body of so many words

@@ -16,13 +16,14 @@ ghost use Rattle.loop_ir.specs.Stores.{Trace, trace};
 ghost use Rattle.loop_ir.specs.declared.statements.Stmt.TheOpen as layer;
 ghost use Rattle.loop_ir.specs.declared.statements.Stmt.{Stmt};
 ghost use Rattle.lowering_nests.specs.Nests.{AreFew, Repeats};
-ghost use Rattle.lowering_nests.specs.Rounds.{GoesAround, MayBeAround, MayBeAtOnce, is_vectorized_loop};
+ghost use Rattle.lowering_nests.specs.Rounds.{GoesAround, MayBeAround, MayBeAtOnce};
+ghost use Rattle.schedule_loops.specs.Runs.{is_vectorized_loop};
 ghost use Rattle.lowering_nests.specs.Runs.{RunsAround};
 ghost use Rattle.lowering_nests.specs.Sizes.{nest_size};
-ghost use Rattle.schedule_lines.specs.Loops.{is_marked};
+ghost use Rattle.schedule_lines.specs.Directives.{is_marked};
 ghost use Rattle.schedule_lines.specs.declared.stages.Loop.{Loop};
 ghost use Rattle.schedule_lines.specs.declared.stages.Mark.TheVariants as marks;
-ghost use Rattle.schedule_loops.specs.Counts as counts;
+ghost use Rattle.schedule_loops.specs.Visits as counts;
 ghost use Rattle.schedule_loops.specs.Visits.{nest, upto};
 
 use crate::splits::extent_of;

@@ -9,7 +9,7 @@ ghost use Rattle.lowering_nests.specs.Nests.{AreFew, Repeats};
 ghost use Rattle.lowering_nests.specs.Rounds.{IsLeaf, MayBeAtOnce, MayBeUnder};
 ghost use Rattle.lowering_nests.specs.Sizes.{nest_size};
 ghost use Rattle.schedule_lines.specs.declared.stages.Loop.{Loop};
-ghost use Rattle.schedule_loops.specs.Counts as counts;
+ghost use Rattle.schedule_loops.specs.Visits as counts;
 ghost use Rattle.schedule_loops.specs.Reach.{wholes};
 
 use crate::loops::with_loops;

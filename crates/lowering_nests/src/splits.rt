@@ -18,7 +18,7 @@ ghost use Rattle.loop_ir.specs.declared.statements.Stmt.TheOpen as layer;
 ghost use Rattle.loop_ir.specs.declared.statements.Stmt.{Stmt};
 ghost use Rattle.lowering_nests.specs.Nests.{AreFew, AreSmall, Repeats, loops_of};
 ghost use Rattle.lowering_nests.specs.Rounds.{IsLeaf};
-ghost use Rattle.schedule_loops.specs.Counts as counts;
+ghost use Rattle.schedule_loops.specs.Visits as counts;
 ghost use Rattle.schedule_loops.specs.Visits.{begin_of, over_loops, split_body};
 
 use loop_ir::expressions::Counter;

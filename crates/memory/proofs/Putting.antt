@@ -3,7 +3,7 @@ use Rattle.std.proofs.Common.{◌≡◌, ℕ, ◌-◌, ◌≤◌, List, [], ◌�
 use Rattle.std.specs.Prelude.{◌≢◌, nat_lt, cond}
 use Rattle.std.proofs.lemmas.List.{set_comm}
 use Rattle.std.proofs.lemmas.Bool.{ltb-false, cond_both}
-use Rattle.memory.specs.Addresses.{data_start, byte_at, put, put_byte, NotIn}
+use Rattle.memory.specs.Access.{data_start, byte_at, put, put_byte, NotIn}
 
 pub length-put_byte : (memory : List ℕ) (place byte : ℕ) → length (put_byte memory place byte) ≡ length memory
 length-put_byte memory place byte = grind (arith, length-set {A = ℕ})

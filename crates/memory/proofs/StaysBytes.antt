@@ -2,8 +2,7 @@
 use Rattle.std.proofs.Common.{ℕ, zero, suc, ◌-◌, ◌%◌, ◌^◌, ◌<◌, List, [], ◌∷◌, ◌++◌, get_or, set, Bool, true, false, arith}
 use Rattle.std.specs.Prelude.{◌/◌, nat_lt, cond}
 use Rattle.std.proofs.lemmas.Nat.{mod_below}
-use Rattle.memory.specs.Addresses.{data_start, put, put_byte, AreBytes}
-use Rattle.memory.specs.Access.{Size, Byte, Half, Word, Access, bytes_of, spread}
+use Rattle.memory.specs.Access.{data_start, put, put_byte, AreBytes, Size, Byte, Half, Word, Access, bytes_of, spread}
 
 set-bytes : (memory : List ℕ) (i byte j : ℕ) → byte < 256 → get_or memory j 0 < 256 → get_or (set memory i byte) j 0 < 256
 set-bytes [] i byte j l h = h

@@ -5,8 +5,7 @@ use Rattle.std.specs.Int.{w32, from_le_bytes, to_le_bytes}
 use Rattle.std.proofs.lemmas.Bool.Decides.{nat_tests}
 use Rattle.std.proofs.lemmas.Nat.{from_le_bytes-to_le_bytes_4}
 use Rattle.std.proofs.lemmas.List.{get_or-set_same}
-use Rattle.memory.specs.Addresses.{data_start, byte_at, put, put_byte, NotIn}
-use Rattle.memory.specs.Access.{Size, Byte, Half, Word, bytes_in, bytes_of, access_at, places_of, put_number, word_at}
+use Rattle.memory.specs.Access.{data_start, byte_at, put, put_byte, NotIn, Size, Byte, Half, Word, bytes_in, bytes_of, access_at, places_of, put_number, word_at}
 use Rattle.memory.proofs.Putting.{length-put_byte, byte-put}
 
 -- ---- one byte

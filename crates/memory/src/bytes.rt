@@ -1,7 +1,7 @@
 //! What a memory must do.
 
 ghost use Rattle.std.specs.Prelude.{◌≡◌, ◌%◌, ℕ, List, length, IsTrue};
-ghost use Rattle.memory.specs.Addresses.{fetched, byte_at, covers_load, in_data, put_byte};
+ghost use Rattle.memory.specs.Access.{fetched, byte_at, covers_load, in_data, put_byte};
 ghost use Rattle.memory.specs.Access.{Half, Word, number_in, put_number};
 
 /// The address of the first text word.

@@ -1,7 +1,7 @@
 //! Laws of memory, each the contract of a function that does nothing: its caller learns the law.
 
 ghost use Rattle.std.specs.Prelude.{◌≡◌, ◌<◌, ◌≤◌, ◌⊎◌, ◌+◌, ◌^◌, ℕ, List, length, map};
-ghost use Rattle.memory.specs.Addresses.{data_start, byte_at, put, AreBytes, NotIn};
+ghost use Rattle.memory.specs.Access.{data_start, byte_at, put, AreBytes, NotIn};
 ghost use Rattle.memory.specs.Access.{Size, Word, Access, spread, bytes_in, bytes_of, access_at, places_of, put_number};
 ghost use Rattle.memory.specs.Access.{word_at};
 

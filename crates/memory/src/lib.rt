@@ -6,8 +6,7 @@
 //! 16 and 32 bits with their lowest byte first, and refuse a misaligned address before one that lies
 //! outside.
 //!
-//! `specs/Addresses.antt` says where text and data lie and what stands at an address,
-//! `specs/Access.antt` has the numbers and the traps.
+//! `specs/Access.antt` says where text and data lie and what stands at an address, and has the numbers and the traps.
 #![tactic(auto)]
 
 pub mod bytes;

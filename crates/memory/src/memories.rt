@@ -1,7 +1,7 @@
 //! The plain memory.
 
 ghost use Rattle.std.specs.Prelude.{◌≡◌, ◌≤◌, ◌%◌, IsTrue, length};
-ghost use Rattle.memory.specs.Addresses.{most_words, most_bytes, covers_load};
+ghost use Rattle.memory.specs.Access.{most_words, most_bytes, covers_load};
 ghost use Rattle.memory.specs.Access.{Word, number_in};
 
 use crate::bytes::{Bytes, DATA_START, TEXT_START};
@@ -18,7 +18,7 @@ pub struct Memory {
 impl Model for Memory {
     ghost use Rattle.std.specs.Prelude.{length, ◌≤◌};
     ghost use Rattle.std.specs.Box.{boxed_slice_items};
-    ghost use Rattle.memory.specs.Addresses.{Contents, most_words, most_bytes};
+    ghost use Rattle.memory.specs.Access.{Contents, most_words, most_bytes};
 
     ghost Value = { Contents };
 

@@ -2,7 +2,7 @@
 use Rattle.std.proofs.Common.{◌≡◌, ℕ, zero, suc, ◌<◌, List, length, get_or, replicate, refl, ap, sym, subst, ◌∙◌, set-set}
 use Rattle.std.specs.Prelude.{slice_set}
 use Rattle.std.proofs.lemmas.List.{get_or_default, get_or-set_same, set-get_or, length-set}
-use Rattle.memory.specs.Addresses.{Contents}
+use Rattle.memory.specs.Access.{Contents}
 use Rattle.hart_core.specs.HartState.{HartState, opening_hart}
 use Rattle.hart_core.specs.Turn.{step}
 use Rattle.multi_hart.specs.Run.{State, turn, turned, told, put_back, outcome, run, hart_at}

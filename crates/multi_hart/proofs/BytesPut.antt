@@ -3,7 +3,7 @@ use Rattle.std.proofs.Common.{◌≡◌, ℕ, ◌+◌, ◌-◌, ◌<◌, ◌≤�
 use Rattle.std.specs.Prelude.{◌≢◌, nat_lt, cond, slice_index}
 use Rattle.std.proofs.lemmas.List.{get_or-set_same}
 use Rattle.std.proofs.lemmas.Bool.{ltb-false, ltb-true, cond_both, cases_lt}
-use Rattle.memory.specs.Addresses.{data_start, put_byte}
+use Rattle.memory.specs.Access.{data_start, put_byte}
 
 -- a byte that is put at an address of data
 pub put-at : (memory : List ℕ) (at byte : ℕ) → put_byte memory (data_start + at) byte ≡ set memory at byte

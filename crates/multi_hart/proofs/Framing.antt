@@ -2,14 +2,12 @@
 use Rattle.std.proofs.Common.{◌≡◌, ℕ, zero, suc, List, [], ◌∷◌, ◌++◌, length, set, true, Option, Some, None, refl, ap, ◌∙◌, sym, subst}
 use Rattle.std.specs.Prelude.{◌≢◌, map, slice_get}
 use Rattle.std.proofs.lemmas.List.{set_comm}
-use Rattle.memory.specs.Addresses.{byte_at, put, put_byte}
-use Rattle.memory.specs.Access.{Access, touched, places_of, number_of, number_at, read_by}
+use Rattle.memory.specs.Access.{byte_at, put, put_byte, Access, touched, places_of, number_of, number_at, read_by}
 use Rattle.hart_core.specs.HartState.{HartState}
 use Rattle.hart_core.specs.Scalar.{kind_of, accesses}
 use Rattle.hart_core.specs.Turn.{Next, Rests, Traps, Does, next_of, made, done, effect, applied, step}
-use Rattle.multi_hart.specs.Run.{State, turn, turned, put_back}
+use Rattle.multi_hart.specs.Run.{State, turn, turned, put_back, reads, writes, Agree, Within, Apart, Frame, FrameWithin, TurnIs, PlacesAre, OthersStay, Commute}
 use Rattle.memory.proofs.Putting.{length-put, byte-put, put-past}
-use Rattle.multi_hart.specs.Frame.{reads, writes, Agree, Within, Apart, Frame, FrameWithin, TurnIs, PlacesAre, OthersStay, Commute}
 
 -- ---- what is read
 

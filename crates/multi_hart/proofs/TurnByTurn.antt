@@ -6,8 +6,7 @@ use Rattle.hart_core.specs.HartState.{HartState}
 use Rattle.multi_hart.specs.Run.{State, turn, turned, run, KeepsShape, opening_harts}
 use Rattle.hart_core.specs.Turn.{Next, Rests, Traps, Does, next_of, made, numbers_read, effect}
 use Rattle.hart_core.specs.Scalar.{kind_of, accesses, stored}
-use Rattle.memory.specs.Access.{written_by}
-use Rattle.memory.specs.Addresses.{AreBytes}
+use Rattle.memory.specs.Access.{written_by, AreBytes}
 use Rattle.memory.proofs.StaysBytes.{none-bytes, put-bytes, spread-bytes}
 use Rattle.memory.proofs.Putting.{length-put}
 

@@ -5,7 +5,7 @@ use Rattle.std.specs.Slice.{IsItemAt}
 use Rattle.std.proofs.lemmas.Nat.{or_comm, or_shifted}
 use Rattle.std.proofs.lemmas.Bool.{ltb-true, ltb-false}
 use Rattle.std.proofs.lemmas.Option.{slice_get_past, slice_get_read}
-use Rattle.memory.specs.Addresses.{text_start, most_words, fetched}
+use Rattle.memory.specs.Access.{text_start, most_words, fetched}
 
 low-highest : (n : ℕ) → n * 2 ^ 30 % 2 ^ 32 ≡ n % 4 * 2 ^ 30
 low-highest n = omega arith

@@ -1,5 +1,3 @@
-pub mod Finished
-pub mod Frame
 pub mod Parts
 pub mod Run
 pub mod Snapshots

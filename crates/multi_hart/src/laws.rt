@@ -4,8 +4,8 @@
 //! of every row of the instruction table.
 
 ghost use Rattle.std.specs.Prelude.{ℕ, List};
-ghost use Rattle.memory.specs.Addresses.{AreBytes};
-ghost use Rattle.multi_hart.specs.Frame.{Frame, FrameWithin, TurnIs, PlacesAre, OthersStay, Commute};
+ghost use Rattle.memory.specs.Access.{AreBytes};
+ghost use Rattle.multi_hart.specs.Run.{Frame, FrameWithin, TurnIs, PlacesAre, OthersStay, Commute};
 ghost use Rattle.multi_hart.specs.Run.{State, turn, run, KeepsShape};
 
 /// A turn depends on its hart, the text, the size of the data, and on the bytes that it reads alone.

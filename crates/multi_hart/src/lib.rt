@@ -6,7 +6,7 @@
 //! - [`machines`]: the machine, its turns and runs, and what can be read of it.
 //! - [`snapshots`]: copies of what turns change, to go back to; [`parts`]: the same part by part.
 //! - [`laws`]: a turn depends on what it reads alone, turns that don't conflict commute, and what a
-//!   turn leaves (`specs/Frame.antt`).
+//!   turn leaves (`specs/Run.antt`).
 #![tactic(auto)]
 
 pub mod laws;

@@ -2,11 +2,11 @@
 
 ghost use Rattle.std.specs.Prelude.{◌≡◌, ◌+◌, ◌-◌, ◌*◌, ◌/◌, ◌%◌, ◌^◌, ◌<◌, ◌≤◌, ℕ, List, length, map, option_map};
 ghost use Rattle.std.specs.Prelude.{take, replicate, slice_index, OnOk, IfOk, IfErr, All, IsTrue};
-ghost use Rattle.memory.specs.Addresses.{most_words, most_bytes, text_start, is_text_word, fetched};
+ghost use Rattle.memory.specs.Access.{most_words, most_bytes, text_start, is_text_word, fetched};
 ghost use Rattle.rv_encoding.specs.Decoding.{decoded};
 ghost use Rattle.hart_core.specs.HartState.{register, vector};
 ghost use Rattle.hart_core.specs.Meanings.{insn_of, word_meaning};
-ghost use Rattle.multi_hart.specs.Finished.{all_finished};
+ghost use Rattle.multi_hart.specs.Run.{all_finished};
 ghost use Rattle.multi_hart.specs.inner.Alone.{alone};
 ghost use Rattle.multi_hart.specs.Run.{opened, turn, outcome, run, KeepsShape, hart_at, word_in};
 ghost use Rattle.multi_hart.specs.Stretches.{IsStretch};
@@ -46,7 +46,7 @@ pub struct Machine {
 impl Model for Machine {
     ghost use Rattle.std.specs.Prelude.{◌≡◌, ◌≤◌, length, map};
     ghost use Rattle.std.specs.Box.{boxed_slice_items};
-    ghost use Rattle.memory.specs.Addresses.{most_words};
+    ghost use Rattle.memory.specs.Access.{most_words};
     ghost use Rattle.hart_core.specs.Meanings.{word_meaning};
     ghost use Rattle.multi_hart.specs.Run.{State};
 

@@ -1,7 +1,7 @@
 //! Data and harts of a machine, part by part: what turns change, to be copied and put back.
 
 ghost use Rattle.std.specs.Prelude.{◌≡◌, ◌+◌, ◌≤◌, length, IfOk};
-ghost use Rattle.memory.specs.Addresses.{most_bytes};
+ghost use Rattle.memory.specs.Access.{most_bytes};
 ghost use Rattle.multi_hart.specs.Parts.{IsPut, with_data, with_harts};
 
 use crate::machines::Machine;

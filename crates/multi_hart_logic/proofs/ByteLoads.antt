@@ -5,20 +5,17 @@ use Rattle.std.proofs.Math.Nat.{mod-eq_of_lt}
 use Rattle.std.proofs.lemmas.Bool.{cases_eq, cases_lt}
 use Rattle.std.proofs.lemmas.Bool.Decides.{nat_tests}
 use Rattle.lanes.specs.Words as word
-use Rattle.lanes.specs.Registers.{element, with_element}
-use Rattle.lanes.specs.Masks.{mask_bit}
+use Rattle.lanes.specs.Words.{element, with_element, mask_bit}
 use Rattle.rv_insn.specs.declared.outcomes.Trap.TheVariants.{IllegalInstruction}
 use Rattle.rv_insn.specs.declared.instructions.Insn.TheVariants.{Vector}
 use Rattle.rv_insn.specs.declared.vector_instructions.VectorInsn.TheVariants as v
 use Rattle.rv_insn.specs.declared.vector_instructions.Addressing.TheVariants as addressings
 use Rattle.rv_insn.specs.declared.vector_operations.ElementWidth.TheVariants as widths
-use Rattle.memory.specs.Addresses.{AreBytes}
-use Rattle.memory.specs.Access.{Byte, Reads, access_at, number_at, number_in, first_fault, or_else, touched}
-use Rattle.multi_hart.specs.Frame.{Within}
-use Rattle.hart_core.specs.Alu.{one_if}
+use Rattle.memory.specs.Access.{AreBytes, Byte, Reads, access_at, number_at, number_in, first_fault, or_else, touched}
+use Rattle.multi_hart.specs.Run.{Within}
+use Rattle.hart_core.specs.Scalar.{one_if}
 use Rattle.hart_core.specs.HartState.{HartState, register, vector, vectors_of, with_vectors, advanced, at_pc}
-use Rattle.vector_unit.specs.VectorState.{Vectors, register as group_register, with_register, group_of}
-use Rattle.vector_unit.specs.Vector.{width, active_in, group_at, is_unfit, is_refused}
+use Rattle.vector_unit.specs.Vector.{Vectors, register as group_register, with_register, group_of, width, active_in, group_at, is_unfit, is_refused}
 use Rattle.vector_unit.specs.Accesses.{spacing_of, offset, addresses_by, with_element_from, filled_from}
 use Rattle.multi_hart_logic.specs.Uses.{MayRead}
 use Rattle.multi_hart_logic.specs.Alone.{World}

@@ -2,13 +2,12 @@
 use Rattle.std.proofs.Common.{◌≡◌, ℕ, zero, suc, ◌*◌, ◌%◌, ◌^◌, ◌<◌, ◌≤◌, List, [], ◌∷◌, length, get_or, true, refl, ap, ◌∙◌, arith}
 use Rattle.std.specs.Prelude.{◌/◌, replicate, slice_index}
 use Rattle.std.proofs.lemmas.List.FromFn.{length-map-range_with_len, get_or-map-range_with_len}
-use Rattle.lanes.specs.Registers.{element}
+use Rattle.lanes.specs.Words.{element}
 use Rattle.rv_insn.specs.declared.instructions.Insn.TheVariants.{Vector}
 use Rattle.rv_insn.specs.declared.vector_instructions.VectorInsn.TheVariants as v
-use Rattle.memory.specs.Addresses.{AreBytes}
+use Rattle.memory.specs.Access.{AreBytes}
 use Rattle.hart_core.specs.HartState.{HartState, vector, vectors_of}
-use Rattle.vector_unit.specs.VectorState.{register as group_register}
-use Rattle.vector_unit.specs.Vector.{count, bytes_of_register}
+use Rattle.vector_unit.specs.Vector.{register as group_register, count, bytes_of_register}
 use Rattle.multi_hart_logic.specs.Alone.{World}
 use Rattle.multi_hart_logic.specs.Paths.{lane, vl_number, write_lanes, LanesConfigured, IsGroup, At, Line}
 use Rattle.multi_hart_logic.proofs.LaneRows.{or-either}

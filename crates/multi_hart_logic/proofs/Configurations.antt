@@ -10,7 +10,7 @@ use Rattle.rv_insn.specs.declared.instructions.Insn.TheVariants.{Vector}
 use Rattle.rv_insn.specs.declared.vector_instructions.VectorInsn.TheVariants.{Vsetvli, Vsetivli}
 use Rattle.hart_core.specs.HartState.{HartState, register, vectors_of, with_vectors, given}
 use Rattle.hart_core.specs.VectorRows.{configured_by}
-use Rattle.vector_unit.specs.VectorState.{Vectors, width_of, group_of, is_supported, most_elements, asked_by, is_illegal_configuration, configured}
+use Rattle.vector_unit.specs.Vector.{Vectors, width_of, group_of, is_supported, most_elements, asked_by, is_illegal_configuration, configured}
 use Rattle.vector_unit.specs.declared.configuration.Asked.TheVariants.{AtMost, AsBefore}
 use Rattle.multi_hart_logic.specs.Alone.{World}
 use Rattle.multi_hart_logic.specs.Paths.{lane, bit, update, At, Comes, Line, configure, LanesConfigured}

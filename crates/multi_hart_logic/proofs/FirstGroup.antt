@@ -7,13 +7,11 @@ use Rattle.std.proofs.lemmas.Bool.{cases_eq, cases_lt}
 use Rattle.std.proofs.lemmas.Bool.Decides.{nat_tests}
 use Rattle.std.proofs.lemmas.Nat.{mod-pow-add}
 use Rattle.std.proofs.lemmas.Nat.Bits.{bit_at-suc, bit_at-lt, bit_at_lowest, bit_at_cat_low, bit_at_cat_high}
-use Rattle.memory.specs.Addresses.{AreBytes}
-use Rattle.lanes.specs.Registers.{element}
-use Rattle.lanes.specs.Masks.{mask_bit}
-use Rattle.hart_core.specs.Alu.{one_if}
+use Rattle.memory.specs.Access.{AreBytes}
+use Rattle.lanes.specs.Words.{element, mask_bit}
+use Rattle.hart_core.specs.Scalar.{one_if}
 use Rattle.hart_core.specs.HartState.{HartState, vector, vectors_of, with_vectors, advanced}
-use Rattle.vector_unit.specs.VectorState.{Vectors, register as group_register}
-use Rattle.vector_unit.specs.Vector.{element_from}
+use Rattle.vector_unit.specs.Vector.{Vectors, register as group_register, element_from}
 use Rattle.multi_hart_logic.specs.Paths.{lane, bit, write_lanes, of_bytes, LanesConfigured, At}
 use Rattle.multi_hart_logic.specs.FirstGroup.{spelled, first_lane, held, write_first, write_group, AnyLanesGiven, GroupsHold}
 use Rattle.multi_hart_logic.proofs.Groups.{group-holds}

@@ -4,11 +4,9 @@ use Rattle.std.specs.Prelude.{◌&&◌, nat_lt, map}
 use Rattle.std.proofs.lemmas.Bool.{cases_lt}
 use Rattle.std.proofs.lemmas.Bool.Decides.{nat_tests}
 use Rattle.std.proofs.lemmas.List.FromFn.{length-map-range_with_len, get_or-map-range_with_len}
-use Rattle.lanes.specs.Masks.{active, is_active}
-use Rattle.lanes.specs.Elementwise.{chosen_of}
+use Rattle.lanes.specs.Words.{active, is_active, chosen_of}
 use Rattle.hart_core.specs.HartState.{HartState, vectors_of}
-use Rattle.vector_unit.specs.VectorState.{register as group_register}
-use Rattle.vector_unit.specs.Vector.{count, active_in}
+use Rattle.vector_unit.specs.Vector.{register as group_register, count, active_in}
 use Rattle.multi_hart_logic.specs.Paths.{LanesConfigured, At}
 use Rattle.multi_hart_logic.specs.LaneMemory.{firsts}
 use Rattle.multi_hart_logic.proofs.VectorRows.{count-is}

@@ -2,7 +2,7 @@
 use Rattle.std.proofs.Common.{◌≡◌, ℕ, zero, suc, ◌+◌, ◌-◌, ◌*◌, ◌%◌, ◌^◌, ◌<◌, List, [], ◌∷◌, length, get_or, refl, ap, ◌∙◌, sym, arith, inl, inr, length-set}
 use Rattle.std.specs.Prelude.{◌≢◌, slice_index_or, slice_set, replicate, take, drop}
 use Rattle.std.proofs.lemmas.Bool.{cases_eq}
-use Rattle.lanes.specs.Registers.{element, register_of}
+use Rattle.lanes.specs.Words.{element, register_of}
 use Rattle.vector_unit.specs.Vector.{with_registers}
 use Rattle.multi_hart_logic.specs.Groups.{GroupHolds, OthersStay, SizeStays}
 

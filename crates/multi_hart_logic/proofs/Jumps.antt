@@ -8,12 +8,10 @@ use Rattle.rv_insn.specs.declared.operations.BranchOp.{BranchOp}
 use Rattle.rv_insn.specs.declared.operations.LoadOp.{LoadOp}
 use Rattle.rv_insn.specs.declared.operations.StoreOp.{StoreOp}
 use Rattle.rv_insn.specs.declared.outcomes.Trap.TheVariants.{MisalignedTarget}
-use Rattle.memory.specs.Addresses.{data_start}
-use Rattle.memory.specs.Access.{Size, Byte, Half, Word, Reads, Writes as WritesKind, bytes_in, touched, number_in, first_fault, or_else}
+use Rattle.memory.specs.Access.{data_start, Size, Byte, Half, Word, Reads, Writes as WritesKind, bytes_in, touched, number_in, first_fault, or_else}
 use Rattle.hart_core.specs.HartState.{HartState, register, advanced, given, at_pc}
-use Rattle.hart_core.specs.Alu.{plus, is_taken, load_size, loaded, store_size, kept}
-use Rattle.hart_core.specs.Scalar.{one_access, offset_from, jump_of, jump_fault, jumped}
-use Rattle.multi_hart.specs.Frame.{Within, is_in, writes}
+use Rattle.hart_core.specs.Scalar.{plus, is_taken, load_size, loaded, store_size, kept, one_access, offset_from, jump_of, jump_fault, jumped}
+use Rattle.multi_hart.specs.Run.{Within, is_in, writes}
 use Rattle.multi_hart_logic.specs.Uses.{MayRead, MayWrite}
 use Rattle.multi_hart_logic.specs.Alone.{World, Says, Keeps}
 use Rattle.multi_hart_logic.specs.Paths.{update, At, Comes, Path, Line, Writes, Readable, Writable, stored_at}

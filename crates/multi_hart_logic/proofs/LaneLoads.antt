@@ -4,22 +4,19 @@ use Rattle.std.specs.Prelude.{◌⊎◌, ◌≢◌, ◌/◌, ◌-◌, cond, map,
 use Rattle.std.proofs.Math.Nat.{mod-eq_of_lt}
 use Rattle.std.proofs.lemmas.Bool.{cases_eq, cases_lt}
 use Rattle.lanes.specs.Words as word
-use Rattle.lanes.specs.Registers.{element, with_element}
-use Rattle.lanes.specs.Masks.{mask_bit}
+use Rattle.lanes.specs.Words.{element, with_element, mask_bit}
 use Rattle.rv_insn.specs.declared.outcomes.Trap.TheVariants.{IllegalInstruction}
 use Rattle.rv_insn.specs.declared.instructions.Insn.TheVariants.{Vector}
 use Rattle.rv_insn.specs.declared.vector_instructions.VectorInsn.TheVariants as v
 use Rattle.rv_insn.specs.declared.vector_instructions.Addressing.{Addressing}
 use Rattle.rv_insn.specs.declared.vector_instructions.Addressing.TheVariants as addressings
 use Rattle.rv_insn.specs.declared.vector_operations.ElementWidth.TheVariants as widths
-use Rattle.memory.specs.Addresses.{AreBytes}
-use Rattle.memory.specs.Access.{Size, Word, Reads, access_at, number_at, number_in, first_fault, or_else, touched}
+use Rattle.memory.specs.Access.{AreBytes, Size, Word, Reads, access_at, number_at, number_in, first_fault, or_else, touched}
 use Rattle.memory.proofs.StaysBytes.{append-bytes}
-use Rattle.multi_hart.specs.Frame.{Within}
-use Rattle.hart_core.specs.Alu.{one_if}
+use Rattle.multi_hart.specs.Run.{Within}
+use Rattle.hart_core.specs.Scalar.{one_if}
 use Rattle.hart_core.specs.HartState.{HartState, register, vector, vectors_of, with_vectors, advanced, at_pc}
-use Rattle.vector_unit.specs.VectorState.{Vectors, register as group_register}
-use Rattle.vector_unit.specs.Vector.{active_in, is_refused}
+use Rattle.vector_unit.specs.Vector.{Vectors, register as group_register, active_in, is_refused}
 use Rattle.vector_unit.specs.Accesses.{spacing_of, addresses_by, with_element_from, filled_from}
 use Rattle.multi_hart_logic.specs.Uses.{MayRead}
 use Rattle.multi_hart_logic.specs.Alone.{World}

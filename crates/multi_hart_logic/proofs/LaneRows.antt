@@ -6,15 +6,12 @@ use Rattle.std.proofs.Math.Nat.{mod-eq_of_lt}
 use Rattle.std.proofs.lemmas.Bool.{cases_eq, cases_lt}
 use Rattle.std.proofs.lemmas.Bool.Decides.{nat_tests}
 use Rattle.std.proofs.lemmas.List.FromFn.{length-map-range_with_len, get_or-map-range_with_len}
-use Rattle.memory.specs.Addresses.{AreBytes}
+use Rattle.memory.specs.Access.{AreBytes}
 use Rattle.memory.proofs.StaysBytes.{none-bytes, more-bytes, append-bytes}
-use Rattle.lanes.specs.Registers.{element, register_of, lowest_bytes, little_endian}
-use Rattle.lanes.specs.Masks.{mask_bit, active, is_active}
-use Rattle.lanes.specs.Elementwise.{merged}
+use Rattle.lanes.specs.Words.{element, register_of, lowest_bytes, little_endian, merged, mask_bit, active, is_active}
 use Rattle.hart_core.specs.HartState.{HartState, vector, vectors_of, with_vectors, advanced}
-use Rattle.hart_core.specs.Alu.{one_if}
-use Rattle.vector_unit.specs.VectorState.{Vectors, register, width_of, group_of, most_elements}
-use Rattle.vector_unit.specs.Vector.{with_registers, with_elements, element_from}
+use Rattle.hart_core.specs.Scalar.{one_if}
+use Rattle.vector_unit.specs.Vector.{Vectors, register, width_of, group_of, most_elements, with_registers, with_elements, element_from}
 use Rattle.multi_hart_logic.specs.Paths.{lane, bit, write_lanes, LanesConfigured, At}
 use Rattle.multi_hart_logic.specs.Groups.{LanesGiven}
 use Rattle.multi_hart_logic.proofs.Groups.{group-holds, others-stay, size-stays, index-same, index-other}

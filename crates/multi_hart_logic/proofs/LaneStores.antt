@@ -6,7 +6,7 @@ use Rattle.std.proofs.Math.Nat.{mod-eq_of_lt}
 use Rattle.std.proofs.lemmas.Bool.Decides.{nat_tests}
 use Rattle.std.proofs.lemmas.List.FromFn.{length-map-range_with_len, get_or-map-range_with_len}
 use Rattle.lanes.specs.Words as word
-use Rattle.lanes.specs.Elementwise.{chosen_of}
+use Rattle.lanes.specs.Words.{chosen_of}
 use Rattle.rv_insn.specs.declared.outcomes.Trap.{Trap}
 use Rattle.rv_insn.specs.declared.outcomes.Trap.TheVariants.{IllegalInstruction}
 use Rattle.rv_insn.specs.declared.instructions.Insn.TheVariants.{Vector}
@@ -14,14 +14,12 @@ use Rattle.rv_insn.specs.declared.vector_instructions.VectorInsn.TheVariants as 
 use Rattle.rv_insn.specs.declared.vector_instructions.Addressing.{Addressing}
 use Rattle.rv_insn.specs.declared.vector_instructions.Addressing.TheVariants as addressings
 use Rattle.rv_insn.specs.declared.vector_operations.ElementWidth.TheVariants as widths
-use Rattle.memory.specs.Addresses.{put}
-use Rattle.memory.specs.Access.{Size, Byte, Half, Word, Writes as WritesKind, Kind, access_at, first_fault, or_else, touched, spread}
-use Rattle.multi_hart.specs.Frame.{Within, is_in, writes}
+use Rattle.memory.specs.Access.{put, Size, Byte, Half, Word, Writes as WritesKind, Kind, access_at, first_fault, or_else, touched, spread}
+use Rattle.multi_hart.specs.Run.{Within, is_in, writes}
 use Rattle.hart_core.specs.HartState.{HartState, register, vectors_of, advanced, at_pc}
 use Rattle.hart_core.specs.Scalar.{one_access}
 use Rattle.hart_core.specs.Turn.{fault}
-use Rattle.vector_unit.specs.VectorState.{group_of}
-use Rattle.vector_unit.specs.Vector.{element_from, width, count, active_in, group_at, is_unfit, is_refused, is_other_width}
+use Rattle.vector_unit.specs.Vector.{group_of, element_from, width, count, active_in, group_at, is_unfit, is_refused, is_other_width}
 use Rattle.vector_unit.specs.Accesses.{spacing_of, offset, addresses_by, active_numbers}
 use Rattle.multi_hart_logic.specs.Uses.{MayWrite}
 use Rattle.multi_hart_logic.specs.Alone.{World, Says, Keeps}

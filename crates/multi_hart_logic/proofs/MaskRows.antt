@@ -6,12 +6,10 @@ use Rattle.std.proofs.lemmas.Bool.{cases_lt, cases_eq}
 use Rattle.std.proofs.lemmas.Bool.Decides.{nat_tests}
 use Rattle.std.proofs.lemmas.Nat.{pow_below, or_of_8, and_le_l}
 use Rattle.std.proofs.lemmas.List.FromFn.{length-map-range_with_len, get_or-map-range_with_len}
-use Rattle.memory.specs.Addresses.{AreBytes}
+use Rattle.memory.specs.Access.{AreBytes, NoAccess, or_else}
 use Rattle.memory.proofs.StaysBytes.{more-bytes}
 use Rattle.lanes.specs.Words as word
-use Rattle.lanes.specs.Registers.{element}
-use Rattle.lanes.specs.Masks.{mask_bit, mask_bits, active, with_bit, with_mask_bit, with_mask_bits_from}
-use Rattle.lanes.specs.Elementwise.{zip_with}
+use Rattle.lanes.specs.Words.{element, zip_with, mask_bit, mask_bits, active, with_bit, with_mask_bit, with_mask_bits_from}
 use Rattle.lanes.proofs.MaskReadings.{mask_bits_back}
 use Rattle.rv_insn.specs.declared.outcomes.Trap.TheVariants.{IllegalInstruction}
 use Rattle.rv_insn.specs.declared.instructions.Insn.TheVariants.{Vector}
@@ -20,14 +18,11 @@ use Rattle.rv_insn.specs.declared.vector_instructions.VectorInsn.TheVariants as 
 use Rattle.rv_insn.specs.declared.vector_operations.CompareVvOp.{CompareVvOp}
 use Rattle.rv_insn.specs.declared.vector_operations.CompareVxOp.{CompareVxOp}
 use Rattle.rv_insn.specs.declared.vector_operations.CompareViOp.{CompareViOp}
-use Rattle.memory.specs.Access.{NoAccess, or_else}
-use Rattle.multi_hart.specs.Frame.{Within}
-use Rattle.hart_core.specs.Alu.{one_if}
+use Rattle.multi_hart.specs.Run.{Within}
+use Rattle.hart_core.specs.Scalar.{one_if, kind_of, after}
 use Rattle.hart_core.specs.HartState.{HartState, register, vector, vectors_of, with_vectors, advanced}
-use Rattle.hart_core.specs.Scalar.{kind_of, after}
 use Rattle.hart_core.specs.Turn.{fault}
-use Rattle.vector_unit.specs.VectorState.{register as group_register, vlmul_of, vsew_of}
-use Rattle.vector_unit.specs.Vector.{of_group, of_scalar, of_immediate, width, count, with_bits, merged_by_mask, is_refused, overwrites_mask, fixed_width, is_other_width, groups_in, moved_in, is_unfit}
+use Rattle.vector_unit.specs.Vector.{register as group_register, vlmul_of, vsew_of, of_group, of_scalar, of_immediate, width, count, with_bits, merged_by_mask, is_refused, overwrites_mask, fixed_width, is_other_width, groups_in, moved_in, is_unfit}
 use Rattle.vector_unit.specs.Operations as op
 use Rattle.multi_hart_logic.specs.Alone.{World}
 use Rattle.multi_hart_logic.specs.Paths.{lane, bit, vl_number, vtype_number, write_lanes, write_bits, LanesConfigured, IsGroup, At, Line}

@@ -6,13 +6,11 @@ use Rattle.rv_insn.specs.declared.instructions.Insn.TheVariants.{Lui, AluImm, Sh
 use Rattle.rv_insn.specs.declared.operations.AluImmOp.{AluImmOp}
 use Rattle.rv_insn.specs.declared.operations.ShiftOp.{ShiftOp}
 use Rattle.rv_insn.specs.declared.operations.AluOp.{AluOp}
-use Rattle.memory.specs.Addresses.{put}
-use Rattle.memory.specs.Access.{NoAccess, touched, spread, read_by, written_by}
+use Rattle.memory.specs.Access.{put, NoAccess, touched, spread, read_by, written_by}
 use Rattle.hart_core.specs.HartState.{HartState, register, given}
-use Rattle.hart_core.specs.Alu.{extended, computed, computed_with_immediate, shifted}
-use Rattle.hart_core.specs.Scalar.{kind_of, accesses, after, stored}
+use Rattle.hart_core.specs.Scalar.{extended, computed, computed_with_immediate, shifted, kind_of, accesses, after, stored}
 use Rattle.hart_core.specs.Turn.{fault, numbers_read}
-use Rattle.multi_hart.specs.Frame.{Within}
+use Rattle.multi_hart.specs.Run.{Within}
 use Rattle.multi_hart_logic.specs.Uses.{MayRead, MayWrite}
 use Rattle.multi_hart_logic.specs.Alone.{World, Keeps}
 use Rattle.multi_hart_logic.specs.Paths.{update, At, Comes, Line}

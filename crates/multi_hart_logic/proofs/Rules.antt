@@ -4,13 +4,12 @@ use Rattle.std.specs.Prelude.{◌-◌, ◌/◌, ◌||◌, slice_get, nat_lt, con
 use Rattle.std.proofs.lemmas.Bool.Decides.{nat_tests}
 use Rattle.rv_insn.specs.declared.instructions.Insn.{Insn}
 use Rattle.rv_encoding.specs.Decoding.{decoded}
-use Rattle.memory.specs.Addresses.{text_start, fetched}
-use Rattle.memory.specs.Access.{touched, read_by, written_by}
+use Rattle.memory.specs.Access.{text_start, fetched, touched, read_by, written_by}
 use Rattle.hart_core.specs.declared.harts.Status.TheVariants.{Running}
 use Rattle.hart_core.specs.HartState.{HartState}
 use Rattle.hart_core.specs.Scalar.{kind_of, accesses}
 use Rattle.hart_core.specs.Turn.{Next, Does, next_of, effect, made, done, numbers_read, applied, step, if_running, due, meant, judged, fault}
-use Rattle.multi_hart.specs.Frame.{reads, writes, Within}
+use Rattle.multi_hart.specs.Run.{reads, writes, Within}
 use Rattle.multi_hart_logic.specs.Uses.{MayRead, MayWrite}
 use Rattle.multi_hart_logic.specs.Alone.{World, Says, Keeps, Soon}
 

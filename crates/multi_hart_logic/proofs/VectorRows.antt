@@ -6,8 +6,7 @@ use Rattle.std.proofs.lemmas.Bool.{cases_lt}
 use Rattle.std.proofs.lemmas.List.{length-replicate, get_or-replicate}
 use Rattle.std.proofs.lemmas.List.FromFn.{length-range_with_len, get_or-range_with_len, length-map-range_with_len, get_or-map-range_with_len}
 use Rattle.lanes.specs.Words as word
-use Rattle.lanes.specs.Registers.{element}
-use Rattle.lanes.specs.Elementwise.{zip_with}
+use Rattle.lanes.specs.Words.{element, zip_with}
 use Rattle.rv_insn.specs.declared.outcomes.Trap.TheVariants.{IllegalInstruction}
 use Rattle.rv_insn.specs.declared.instructions.Insn.TheVariants.{Vector}
 use Rattle.rv_insn.specs.declared.vector_instructions.VectorInsn.{VectorInsn}
@@ -17,14 +16,12 @@ use Rattle.rv_insn.specs.declared.vector_operations.ArithmeticVxOp.{ArithmeticVx
 use Rattle.rv_insn.specs.declared.vector_operations.ArithmeticViOp.{ArithmeticViOp}
 use Rattle.rv_insn.specs.declared.vector_operations.ShiftViOp.{ShiftViOp}
 use Rattle.rv_insn.specs.declared.vector_operations.MultiplyOp.{MultiplyOp}
-use Rattle.memory.specs.Addresses.{put}
-use Rattle.memory.specs.Access.{NoAccess, or_else, touched, spread, read_by, written_by}
-use Rattle.multi_hart.specs.Frame.{Within}
+use Rattle.memory.specs.Access.{put, NoAccess, or_else, touched, spread, read_by, written_by}
+use Rattle.multi_hart.specs.Run.{Within}
 use Rattle.hart_core.specs.HartState.{HartState, register, vector, vectors_of, with_vectors, advanced}
 use Rattle.hart_core.specs.Scalar.{kind_of, accesses, after, stored}
 use Rattle.hart_core.specs.Turn.{fault, numbers_read}
-use Rattle.vector_unit.specs.VectorState.{Vectors, register as group_register, width_of, group_of, most_elements, is_supported, has_vill}
-use Rattle.vector_unit.specs.Vector.{element_from, of_group, of_scalar, of_immediate, width, count, group, with_elements, is_refused, overwrites_mask, fixed_width, is_other_width, groups_in, is_misplaced, moved_in, is_unfit}
+use Rattle.vector_unit.specs.Vector.{Vectors, register as group_register, width_of, group_of, most_elements, is_supported, has_vill, element_from, of_group, of_scalar, of_immediate, width, count, group, with_elements, is_refused, overwrites_mask, fixed_width, is_other_width, groups_in, is_misplaced, moved_in, is_unfit}
 use Rattle.vector_unit.specs.Operations as op
 use Rattle.multi_hart_logic.specs.Uses.{MayRead, MayWrite}
 use Rattle.multi_hart_logic.specs.Alone.{World, Keeps}

@@ -3,10 +3,10 @@
 use Rattle.std.specs.Prelude.{◌≡◌, ◌⊎◌, ℕ, zero, suc, ◌||◌, Bool, true, false, List, [], ◌∷◌, Some}
 use Rattle.rv_insn.specs.declared.instructions.Insn.{Insn}
 use Rattle.rv_encoding.specs.Decoding.{decoded}
-use Rattle.memory.specs.Addresses.{fetched}
+use Rattle.memory.specs.Access.{fetched}
 use Rattle.hart_core.specs.HartState.{HartState}
 use Rattle.hart_core.specs.Turn.{Does, next_of, step}
-use Rattle.multi_hart.specs.Frame.{is_in, reads, writes, Within}
+use Rattle.multi_hart.specs.Run.{is_in, reads, writes, Within}
 use Rattle.multi_hart_logic.specs.Uses.{Use, Owned, Job, MayRead, MayWrite}
 
 -- where a hart runs alone: the text, how many data bytes there are, what each byte is for, what the places are to meet that one

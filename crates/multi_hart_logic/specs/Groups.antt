@@ -1,8 +1,7 @@
 -- What a group of vector registers holds after numbers of 32 bits were written to it, one register after the other. This project's own.
 use Rattle.std.specs.Prelude.{◌≡◌, ◌<◌, ◌≤◌, ◌⊎◌, ℕ, ◌+◌, ◌-◌, ◌*◌, ◌%◌, ◌^◌, List, length, slice_index, true}
-use Rattle.lanes.specs.Registers.{element}
-use Rattle.vector_unit.specs.VectorState.{Vectors, register}
-use Rattle.vector_unit.specs.Vector.{with_registers, with_elements}
+use Rattle.lanes.specs.Words.{element}
+use Rattle.vector_unit.specs.Vector.{Vectors, register, with_registers, with_elements}
 use Rattle.hart_core.specs.HartState.{HartState, vectors_of, with_vectors, advanced}
 use Rattle.multi_hart_logic.specs.Paths.{At, LanesConfigured, write_lanes, vl_number}
 

@@ -3,10 +3,9 @@ use Rattle.std.specs.Prelude.{◌≡◌, ◌<◌, ◌≤◌, ℕ, zero, suc, ◌
 use Rattle.lanes.specs.Words as word
 use Rattle.rv_insn.specs.declared.vector_instructions.Addressing.{Addressing}
 use Rattle.rv_insn.specs.declared.vector_instructions.Addressing.TheVariants as addressings
-use Rattle.memory.specs.Addresses.{data_start}
-use Rattle.memory.specs.Access.{Size, Access, access_at, bytes_in, touched}
+use Rattle.memory.specs.Access.{data_start, Size, Access, access_at, bytes_in, touched}
 use Rattle.hart_core.specs.Scalar.{one_access}
-use Rattle.multi_hart.specs.Frame.{Within}
+use Rattle.multi_hart.specs.Run.{Within}
 use Rattle.multi_hart_logic.specs.Uses.{MayRead, MayWrite}
 use Rattle.multi_hart_logic.specs.Alone.{World, Keeps}
 use Rattle.multi_hart_logic.specs.Paths.{stored_at, lane, IsGroup}

@@ -2,16 +2,13 @@
 -- many turns of the hart alone. This project's own.
 use Rattle.std.specs.Prelude.{◌≡◌, ◌<◌, ◌≤◌, ℕ, ◌+◌, ◌*◌, ◌/◌, ◌%◌, ◌^◌, ◌==◌, ◌-◌, ◌&&◌, nat_le, nat_lt, if◌then◌else◌, List, [], ◌∷◌, length, true}
 use Rattle.rv_insn.specs.declared.instructions.Insn.{Insn}
-use Rattle.memory.specs.Addresses.{data_start, AreBytes, put}
-use Rattle.memory.specs.Access.{Size, bytes_in, touched, spread}
-use Rattle.lanes.specs.Registers.{element}
-use Rattle.lanes.specs.Masks.{mask_bit}
+use Rattle.memory.specs.Access.{data_start, AreBytes, put, Size, bytes_in, touched, spread}
+use Rattle.lanes.specs.Words.{element, mask_bit}
 use Rattle.hart_core.specs.declared.harts.Status.TheVariants.{Running}
 use Rattle.hart_core.specs.HartState.{HartState, register, vector}
-use Rattle.hart_core.specs.Alu.{one_if}
-use Rattle.hart_core.specs.Scalar.{one_access}
-use Rattle.multi_hart.specs.Frame.{Within}
-use Rattle.vector_unit.specs.VectorState.{width_of, group_of, most_elements, is_supported}
+use Rattle.hart_core.specs.Scalar.{one_if, one_access}
+use Rattle.multi_hart.specs.Run.{Within}
+use Rattle.vector_unit.specs.Vector.{width_of, group_of, most_elements, is_supported}
 use Rattle.multi_hart_logic.specs.Uses.{MayRead, MayWrite}
 use Rattle.multi_hart_logic.specs.Alone.{World, Says, Keeps, Soon, Covers}
 

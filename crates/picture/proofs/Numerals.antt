@@ -8,9 +8,7 @@ use Rattle.std.proofs.Math.Seq.{take-append_seam, drop-append_seam}
 use Rattle.std.proofs.lemmas.List.{take-append-drop}
 use Rattle.std.proofs.lemmas.Fmt.{decimal_nonempty, first_decimal, decimal_digit, decimal-digits_value}
 use Rattle.std.proofs.lemmas.Str.Parse.{IsNumeralModel, numerals_by_fold}
-use Rattle.line_text.specs.Classes.{is_digit}
-use Rattle.line_text.specs.Numbers.{decimal_number}
-use Rattle.line_text.specs.Reading.{◌>>=◌}
+use Rattle.line_text.specs.Lines.{is_digit, decimal_number, ◌>>=◌}
 use Rattle.line_text.proofs.Numerals.{decimal_digits}
 use Rattle.line_text.proofs.SpanLaws.{prefix_len-front}
 use Rattle.picture.specs.declared.faults.PictureFault.TheVariants as PictureFault

@@ -8,16 +8,14 @@ use Rattle.std.proofs.lemmas.Bool.{and_parts, leb-true, ltb-true, lt-ltb, le-ltb
 use Rattle.std.proofs.lemmas.List.Elements.{All-from_recursion}
 use Rattle.std.proofs.lemmas.List.{take-append-drop, append-nil}
 use Rattle.std.proofs.Math.Nat.{mul_comm}
-use Rattle.line_text.specs.Numbers.{decimal_number}
-use Rattle.line_text.specs.Reading.{Gives}
+use Rattle.line_text.specs.Lines.{decimal_number, Gives}
 use Rattle.line_text.specs.declared.read_errors.ReadError.{ReadError}
 use Rattle.picture.specs.declared.faults.PictureFault.{PictureFault}
 use Rattle.picture.specs.declared.faults.PictureFault.TheVariants.{Syntax, Extents, Number}
 use Rattle.halide_pipeline.specs.WellFormed.{is_width, is_height, most_extent, most_points}
 use Rattle.halide_pipeline.specs.Picture.{IsPicture}
 use Rattle.halide_pipeline.specs.Contents.{PictureContents}
-use Rattle.picture.specs.Spelling.{number_text, rows_text, heading, spelled}
-use Rattle.picture.specs.Reading.{Numeral, separator, pixel_of, pixel_then, pixels_at, heading_at, extent_at, extent_of, picture_at, picture_of, ended, behind, numeral_at}
+use Rattle.picture.specs.Reading.{number_text, rows_text, heading, spelled, Numeral, separator, pixel_of, pixel_then, pixels_at, heading_at, extent_at, extent_of, picture_at, picture_of, ended, behind, numeral_at}
 use Rattle.picture.proofs.Numerals.{cond-Ok, then-Ok, sign, HasNumeral, numeral_at-Ok, decimal-decimal_number, some_below_zero}
 use Rattle.picture.proofs.Rows.{pixels_text, rows_flat}
 use Rattle.picture.proofs.SpelledBack.{picture_of-spelled}

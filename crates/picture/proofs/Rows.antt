@@ -6,8 +6,7 @@ use Rattle.std.proofs.lemmas.Bool.{ne_eqb}
 use Rattle.std.proofs.lemmas.List.{take-append-drop, length-take, length-drop, length-append, drop_all, append-nil}
 use Rattle.std.proofs.Math.Seq.{drop-cons}
 use Rattle.std.proofs.Math.Nat.{mul-mod_left, mul-add-mod_self_right, mod-eq_of_lt}
-use Rattle.picture.specs.Spelling.{number_text, row_text, rows_text}
-use Rattle.picture.specs.Reading.{separator}
+use Rattle.picture.specs.Reading.{number_text, row_text, rows_text, separator}
 
 unfoldable pub pixels_text : ℕ → List ℕ → List ℕ
 pixels_text width [] = []

@@ -10,7 +10,7 @@ use Rattle.halide_pipeline.specs.declared.expressions.Variable.TheVariants as va
 use Rattle.halide_pipeline.specs.declared.definitions.Func.{Func}
 use Rattle.halide_pipeline.specs.declared.definitions.Update.{Update}
 use Rattle.halide_pipeline.specs.declared.environments.Environment.{Environment}
-use Rattle.halide_pipeline.specs.Definitions.{is_first_in_place, is_second_in_place}
+use Rattle.halide_pipeline.specs.WellFormed.{is_first_in_place, is_second_in_place}
 use Rattle.halide_pipeline.specs.Pixel.{Plane, Reads, after, at_point, at_reduction, index_value, is_hit, points, reads_of, stage, value, variable}
 use Rattle.picture.specs.Slices.{is_forward, mentions}
 use Rattle.picture.specs.declared.scenes.Pass.{Pass}

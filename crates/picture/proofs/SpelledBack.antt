@@ -8,13 +8,12 @@ use Rattle.std.proofs.lemmas.Bool.Decides.{nat_tests}
 use Rattle.std.proofs.lemmas.List.Elements.{recursion_from_All}
 use Rattle.std.proofs.lemmas.List.{append-nil}
 use Rattle.std.proofs.Math.Nat.{mul_comm}
-use Rattle.line_text.specs.Classes.{is_digit}
+use Rattle.line_text.specs.Lines.{is_digit}
 use Rattle.line_text.proofs.Numerals.{decimal_value}
 use Rattle.halide_pipeline.specs.WellFormed.{is_width, is_height, most_extent, most_points}
 use Rattle.halide_pipeline.specs.Picture.{IsPicture, is_picture}
 use Rattle.halide_pipeline.specs.Contents.{PictureContents}
-use Rattle.picture.specs.Spelling.{number_text, rows_text, heading, spelled}
-use Rattle.picture.specs.Reading.{separator, pixel_then, pixels_at, heading_at, extent_at, picture_at, picture_of, ended, behind, numeral_at}
+use Rattle.picture.specs.Reading.{number_text, rows_text, heading, spelled, separator, pixel_then, pixels_at, heading_at, extent_at, picture_at, picture_of, ended, behind, numeral_at}
 use Rattle.picture.proofs.Numerals.{numeral_at-decimal, numeral_at-signed}
 use Rattle.picture.proofs.Rows.{pixels_text, rows_flat}
 

@@ -1,6 +1,5 @@
 pub mod Evaluated
 pub mod Reading
 pub mod Slices
-pub mod Spelling
 pub mod Writes
 pub mod inner

@@ -2,11 +2,10 @@
 -- first place that is faulty decides. A number is judged as a whole, where it begins: its digits are
 -- all that stand there, and they are judged before the byte behind them.
 -- The format is this project's own.
-use Rattle.std.specs.Prelude.{◌≡◌, ℕ, zero, suc, ◌-◌, ◌*◌, ◌%◌, ◌^◌, ◌==◌, ◌&&◌, not, Bool, true, false, nat_eq, nat_lt, nat_le, if◌then◌else◌, List, [], ◌∷◌, length, take, drop, codes, Result, Ok, Err}
-use Rattle.std.specs.List.{prefix_len, starts_with}
-use Rattle.line_text.specs.Classes.{is_digit}
-use Rattle.line_text.specs.Numbers.{decimal_number}
-use Rattle.line_text.specs.Reading.{◌>>=◌}
+use Rattle.std.specs.Prelude.{◌≡◌, ℕ, zero, suc, ◌-◌, ◌*◌, ◌%◌, ◌^◌, ◌==◌, ◌&&◌, not, Bool, true, false, nat_eq, nat_lt, nat_le, if◌then◌else◌, List, [], ◌∷◌, length, take, drop, codes, Result, Ok, Err, ◌++◌, map}
+use Rattle.std.specs.List.{prefix_len, starts_with, join_with_byte}
+use Rattle.std.specs.Fmt.{decimal}
+use Rattle.line_text.specs.Lines.{is_digit, decimal_number, ◌>>=◌}
 use Rattle.picture.specs.declared.faults.PictureFault.{PictureFault}
 use Rattle.picture.specs.declared.faults.PictureFault.TheVariants.{Syntax, Extents, Number}
 use Rattle.halide_pipeline.specs.WellFormed.{is_width, is_height}
@@ -127,3 +126,27 @@ picture_of text = picture_at text >>= λ picture. ended picture.0 picture.1
 abbrev pub Shows : {A B F : Type 0} → (A → B) → Result A F → Result B F → Type 0
 Shows view (Ok value) wanted = wanted ≡ Ok (view value)
 Shows view (Err fault) wanted = wanted ≡ Err fault
+
+-- ---- The text of a picture: `picture W H`, and a line for each row of pixels. A picture has this one
+-- spelling.
+-- The format is this project's own.
+
+-- the signed number of a pixel in decimal digits, behind a `-` where it is below 0
+unfoldable pub number_text : ℕ → List ℕ
+number_text pixel = if nat_lt pixel (2 ^ 31) then decimal pixel else codes "-" ++ decimal (2 ^ 32 - pixel)
+
+-- the numbers of a row, joined by one space, and a line feed
+abbrev pub row_text : List ℕ → List ℕ
+row_text row = join_with_byte 32 (map number_text row) ++ codes "\n"
+
+-- so many rows, each of this width
+unfoldable pub rows_text : ℕ → ℕ → List ℕ → List ℕ
+rows_text width zero pixels = []
+rows_text width (suc rows) pixels = row_text (take width pixels) ++ rows_text width rows (drop width pixels)
+
+-- `picture W H`
+unfoldable pub heading : ℕ → ℕ → List ℕ
+heading width height = codes "picture " ++ decimal width ++ codes " " ++ decimal height ++ codes "\n"
+
+unfoldable pub spelled : PictureContents → List ℕ
+spelled picture = heading picture.width picture.height ++ rows_text picture.width picture.height picture.pixels

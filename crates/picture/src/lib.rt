@@ -1,7 +1,7 @@
 //! Pictures, and the picture that a pipeline makes of others.
 //!
-//! `halide_pipeline` has what a picture holds, `specs/Spelling.antt` its text and
-//! `specs/Reading.antt` what a text is read as: [`Picture::read`] reads exactly what is spelled so
+//! `halide_pipeline` has what a picture holds, `specs/Reading.antt` its text and what a text is read as:
+//! [`Picture::read`] reads exactly what is spelled so
 //! and else names the first fault, [`Picture::write`] spells a picture, and [`one_spelling`] is the
 //! law that each picture has one spelling and no spelling begins another.
 //!

@@ -1,11 +1,11 @@
 //! Reading pictures from texts.
 
 ghost use Rattle.std.specs.Prelude.{◌≡◌, ◌+◌, ◌*◌, ◌<◌, ◌≤◌, ℕ, length, IfOk, IsTrue, Ok, codes, vec_len};
-ghost use Rattle.line_text.specs.Reading.{Gives};
+ghost use Rattle.line_text.specs.Lines.{Gives};
 ghost use Rattle.halide_pipeline.specs.WellFormed.{is_width, is_height};
 ghost use Rattle.halide_pipeline.specs.Picture.{IsPicture};
 ghost use Rattle.halide_pipeline.specs.Contents.{PictureContents};
-ghost use Rattle.picture.specs.Spelling.{spelled};
+ghost use Rattle.picture.specs.Reading.{spelled};
 ghost use Rattle.picture.specs.Reading as spec;
 
 use crate::faults::PictureFault;

@@ -4,7 +4,7 @@ ghost use Rattle.std.specs.Fmt.{decimal};
 ghost use Rattle.std.specs.Prelude.{◌≡◌, ◌+◌, ◌*◌, ◌<◌, ◌≤◌, ◌++◌, ℕ, List, OnOk, OnErr, length, vec_len, vec_capacity};
 ghost use Rattle.halide_pipeline.specs.Picture.{IsPicture};
 ghost use Rattle.halide_pipeline.specs.Contents.{PictureContents};
-ghost use Rattle.picture.specs.Spelling.{number_text, rows_text, heading, spelled};
+ghost use Rattle.picture.specs.Reading.{number_text, rows_text, heading, spelled};
 
 use crate::pictures::Picture;
 use crate::readings::separator;
@@ -39,7 +39,7 @@ fn push_decimal(out: &mut Vec<u8>, number: u32)
 }
 
 /// Appends the signed number of a pixel, where there is room for it.
-#[tactic(auto, unfolding(crate::specs::Spelling::number_text))]
+#[tactic(auto, unfolding(crate::specs::Reading::number_text))]
 fn push_number(out: &mut Vec<u8>, pixel: u32)
     requires { vec_len out.old + 11 ≤ vec_capacity out.old }
     ensures items { out.new.items ≡ out.old.items ++ number_text pixel }
@@ -55,7 +55,7 @@ fn push_number(out: &mut Vec<u8>, pixel: u32)
 }
 
 /// Appends `picture W H` and a line feed, where there is room for them.
-#[tactic(auto, unfolding(crate::specs::Spelling::heading))]
+#[tactic(auto, unfolding(crate::specs::Reading::heading))]
 fn push_heading(out: &mut Vec<u8>, width: u32, height: u32)
     requires { vec_len out.old + 30 ≤ vec_capacity out.old }
     ensures items { out.new.items ≡ out.old.items ++ heading width height }
@@ -85,7 +85,7 @@ fn push_rows(out: &mut Vec<u8>, width: usize, height: usize, pixels: &[u32])
 impl Picture {
     /// Appends the picture's text. Refused, with what `out` held unchanged, only where memory runs
     /// out; the memory that is taken is at most 12 bytes a pixel and 30 for the heading.
-    #[tactic(auto, unfolding(crate::specs::Spelling::spelled))]
+    #[tactic(auto, unfolding(crate::specs::Reading::spelled))]
     pub fn write(&self, out: &mut Vec<u8>) -> Result<(), AllocError>
         ensures ok { OnOk result (out.new.items ≡ out.old.items ++ spelled self.now) }
         ensures err { OnErr result (out.new.items ≡ out.old.items) }

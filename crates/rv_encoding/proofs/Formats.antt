@@ -1,10 +1,9 @@
 -- Each format both ways: a word with the right parts stands for a row of the format, and a word that stands for one is decoded to its fields.
 use Rattle.std.proofs.Common.{◌≡◌, ℕ, ◌+◌, ◌*◌, ◌^◌, ◌<◌, List, [], ◌∷◌, ◌++◌, length, refl, sym, ◌∙◌, ap, arith, lit<, ℤ, pos, Option, Some, Bool, true, false, nat_eq}
-use Rattle.rv_insn.specs.Encoding.{Holds, number_at, span, fixed, signed, field_of}
+use Rattle.rv_insn.specs.Encoding.{Holds, number_at, span, fixed, signed, field_of, bit_of}
 use Rattle.rv_insn.specs.Encoding.Field.{Unsigned, Signed}
 use Rattle.rv_insn.specs.Table as table
 use Rattle.rv_insn.specs.Table.{i_places, s_places, b_places, u_places, j_places, r_type, i_type, s_type, b_type, u_type, j_type, amo_type, whole_word}
-use Rattle.rv_insn.specs.Encoding.{bit_of}
 use Rattle.rv_insn.specs.declared.instructions.Insn.{Insn}
 use Rattle.rv_encoding.specs.Formats.{Stands}
 use Rattle.rv_encoding.specs.Decoding.{part, rd_of, rs1_of, rs2_of, i_immediate_of, s_immediate_of, b_offset_of, u_immediate_of, j_offset_of, flag_of, by_keys, decoded}

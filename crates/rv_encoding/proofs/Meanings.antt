@@ -3,14 +3,12 @@ use Rattle.std.proofs.Common.{◌≡◌, ℕ, ◌^◌, ◌<◌, List, refl, sym,
 use Rattle.std.specs.Prelude.{Contains, IfSome, IfNone, map, find}
 use Rattle.std.specs.Str.{bytes_eq}
 use Rattle.rv_insn.specs.Encoding.{Holds, field_of, Row, in_parts, fixed, span}
-use Rattle.rv_insn.specs.Table.{table, scalar_table, r_type, i_type, s_type, b_type, u_type, j_type, amo_type, whole_word}
-use Rattle.rv_insn.specs.Meaning.{name_of, fields_of, Means}
+use Rattle.rv_insn.specs.Table.{table, scalar_table, r_type, i_type, s_type, b_type, u_type, j_type, amo_type, whole_word, name_of, fields_of, Means}
 use Rattle.rv_insn.specs.declared.instructions.Insn.{Insn}
 use Rattle.rv_insn.specs.declared.instructions.Insn.TheVariants.{Lui, Auipc, Jal, Jalr, Branch, Load, Store, AluImm, Shift, Alu, AmoaddW, Fence, Ecall, Ebreak, Vector}
 use Rattle.rv_insn.specs.declared.operations.ShiftOp.{ShiftOp}
 use Rattle.rv_insn.specs.VectorTable.{vector_table}
-use Rattle.rv_encoding.specs.Operations.{branch_funct3, branch_of, load_funct3, load_of, store_funct3, store_of, alu_imm_funct3, alu_imm_of, shift_funct3, shift_funct7, shift_of, alu_funct3, alu_funct7, alu_of}
-use Rattle.rv_encoding.specs.Keys.{key_in}
+use Rattle.rv_encoding.specs.Operations.{branch_funct3, branch_of, load_funct3, load_of, store_funct3, store_of, alu_imm_funct3, alu_imm_of, shift_funct3, shift_funct7, shift_of, alu_funct3, alu_funct7, alu_of, key_in}
 use Rattle.rv_encoding.specs.Formats.{Stands, shape_of, StandsFor}
 use Rattle.rv_encoding.specs.Decoding.{part, rd_of, rs1_of, rs2_of, i_immediate_of, s_immediate_of, b_offset_of, with_op, op_imm_from, op_imm_in, decoded}
 use Rattle.rv_encoding.proofs.Formats.{u_made, j_made, i_made, s_made, b_made, r_made, amo_made, whole_made, bit_of-flag, u_case, j_case, i_case, s_case, b_case, r_case, amo_case, whole_case, funct3_of, funct7_of}

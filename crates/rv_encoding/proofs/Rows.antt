@@ -13,8 +13,7 @@ use Rattle.std.proofs.lemmas.Nat.Bits.{same_from_bits_below}
 use Rattle.rv_insn.specs.Encoding.{Holds, number_at, span, fixed, in_parts, signed, Field, field_of, Row}
 use Rattle.rv_insn.specs.Encoding.Field.{Unsigned, Signed}
 use Rattle.rv_insn.specs.VectorTable.{vector_table}
-use Rattle.rv_insn.specs.Table.{table, scalar_table, r_type, i_type, s_type, b_type, u_type, j_type, amo_type, whole_word}
-use Rattle.rv_insn.specs.Meaning.{fields_of, Means}
+use Rattle.rv_insn.specs.Table.{table, scalar_table, r_type, i_type, s_type, b_type, u_type, j_type, amo_type, whole_word, fields_of, Means}
 use Rattle.rv_insn.specs.declared.instructions.Insn.{Insn}
 use Rattle.rv_encoding.proofs.Bits.{number_at-lt}
 use Rattle.rv_encoding.proofs.Lists.{pairs_pass, both_true, one_true, not_true, All-from_test, AllPairs-from_test}

@@ -2,7 +2,7 @@
 use Rattle.std.proofs.Common.{◌≡◌, ℕ, [], ◌∷◌, refl, sym, arith, lit<, Option, Some, None, true, false, cond, nat_eq}
 use Rattle.std.specs.Prelude.{IfSome}
 use Rattle.std.proofs.lemmas.Bool.{eqb-true}
-use Rattle.rv_insn.specs.VectorMeaning.{vector_fields_of}
+use Rattle.rv_insn.specs.VectorTable.{vector_fields_of}
 use Rattle.rv_insn.specs.declared.instructions.Insn.{Insn}
 use Rattle.rv_insn.specs.declared.instructions.Insn.TheVariants.{Vector}
 use Rattle.rv_insn.specs.declared.vector_instructions.VectorInsn.{VectorInsn}
@@ -12,7 +12,7 @@ use Rattle.rv_insn.specs.declared.vector_instructions.Addressing.TheVariants as 
 use Rattle.rv_insn.specs.declared.vector_operations.ElementWidth.{ElementWidth}
 use Rattle.rv_encoding.specs.Formats.{Stands, StandsFor, vector_shape_of}
 use Rattle.rv_encoding.specs.Decoding.{part, rd_of, rs1_of, rs2_of, vector_immediate_of, vtype10_of, vtype11_of, vm_of, with_op, op_or, merge_in, opivv_in, opivx_in, opivi_in, opmvv_in, opmvx_in, config_in, vector_in, addressing_in, with_both, vector_load_in, vector_store_in, decoded}
-use Rattle.rv_encoding.specs.VectorOperations.{arithmetic_vv_funct6, arithmetic_vv_of, arithmetic_vx_funct6, arithmetic_vx_of, arithmetic_vi_funct6, arithmetic_vi_of, shift_vi_funct6, shift_vi_of, compare_vv_funct6, compare_vv_of, compare_vx_funct6, compare_vx_of, compare_vi_funct6, compare_vi_of, multiply_funct6, multiply_of, reduction_funct6, reduction_of, width_funct3, width_of}
+use Rattle.rv_encoding.specs.Operations.{arithmetic_vv_funct6, arithmetic_vv_of, arithmetic_vx_funct6, arithmetic_vx_of, arithmetic_vi_funct6, arithmetic_vi_of, shift_vi_funct6, shift_vi_of, compare_vv_funct6, compare_vv_of, compare_vx_funct6, compare_vx_of, compare_vi_funct6, compare_vi_of, multiply_funct6, multiply_of, reduction_funct6, reduction_of, width_funct3, width_of}
 use Rattle.rv_encoding.proofs.Bits.{parts_read}
 use Rattle.rv_encoding.proofs.Formats.{bit_of-flag}
 use Rattle.rv_encoding.proofs.VectorFormats.{registers_made, immediate_made, merge_made, merge_immediate_made, move_made, move_immediate_made, to_scalar_made, from_scalar_made, numbers_made, extended_made, vsetvl_made, unit_made, offset_made, vsetvli_stands, vsetivli_stands, registers_read, immediate_read_back, merge_read, merge_immediate_read, move_read, move_immediate_read, to_scalar_read, numbers_read, extended_read, vsetvli_read, vsetivli_read, vsetvl_read, unit_read, offset_read}

@@ -1,15 +1,51 @@
 -- The keys that tell the operations of a group apart, which are those of the table, and the operation that has given keys.
 -- A reader need not believe this file: the public clauses speak of rv_insn's `Means` alone.
-use Rattle.std.specs.Prelude.{ℕ, ◌==◌, ◌&&◌, Option, find}
-use Rattle.rv_insn.specs.Table.{scalar_table}
-use Rattle.rv_insn.specs.Meaning.{branch_name, load_name, store_name, alu_imm_name, shift_name, alu_name, all_branches, all_loads, all_stores, all_alu_imms, all_shifts, all_alus}
-use Rattle.rv_encoding.specs.Keys.{key_in}
+use Rattle.std.specs.Prelude.{ℕ, ◌==◌, ◌&&◌, Option, find, zero, suc, ◌+◌, ◌*◌, List, Some, None}
+use Rattle.std.specs.Str.{bytes_eq}
+use Rattle.rv_insn.specs.Table.{scalar_table, branch_name, load_name, store_name, alu_imm_name, shift_name, alu_name, all_branches, all_loads, all_stores, all_alu_imms, all_shifts, all_alus}
 use Rattle.rv_insn.specs.declared.operations.BranchOp.{BranchOp}
 use Rattle.rv_insn.specs.declared.operations.LoadOp.{LoadOp}
 use Rattle.rv_insn.specs.declared.operations.StoreOp.{StoreOp}
 use Rattle.rv_insn.specs.declared.operations.AluImmOp.{AluImmOp}
 use Rattle.rv_insn.specs.declared.operations.ShiftOp.{ShiftOp}
 use Rattle.rv_insn.specs.declared.operations.AluOp.{AluOp}
+use Rattle.rv_insn.specs.VectorTable.{vector_table, arithmetic_vv_name, arithmetic_vx_name, arithmetic_vi_name, shift_vi_name, compare_vv_name, compare_vx_name, compare_vi_name, multiply_vv_name, reduction_name, load_elements_name, all_arithmetic_vvs, all_arithmetic_vxs, all_arithmetic_vis, all_shift_vis, all_compare_vvs, all_compare_vxs, all_compare_vis, all_multiplies, all_reductions, all_widths}
+use Rattle.rv_insn.specs.declared.vector_operations.AddressMode.TheVariants as modes
+use Rattle.rv_insn.specs.declared.vector_operations.ArithmeticVvOp.{ArithmeticVvOp}
+use Rattle.rv_insn.specs.declared.vector_operations.ArithmeticVxOp.{ArithmeticVxOp}
+use Rattle.rv_insn.specs.declared.vector_operations.ArithmeticViOp.{ArithmeticViOp}
+use Rattle.rv_insn.specs.declared.vector_operations.ShiftViOp.{ShiftViOp}
+use Rattle.rv_insn.specs.declared.vector_operations.CompareVvOp.{CompareVvOp}
+use Rattle.rv_insn.specs.declared.vector_operations.CompareVxOp.{CompareVxOp}
+use Rattle.rv_insn.specs.declared.vector_operations.CompareViOp.{CompareViOp}
+use Rattle.rv_insn.specs.declared.vector_operations.MultiplyOp.{MultiplyOp}
+use Rattle.rv_insn.specs.declared.vector_operations.ReductionOp.{ReductionOp}
+use Rattle.rv_insn.specs.declared.vector_operations.ElementWidth.{ElementWidth}
+use Rattle.rv_insn.specs.Encoding.{Row}
+
+-- ---- The numbers that a row of the instruction table fixes, by the row's name.
+-- A reader need not believe this file: the public clauses speak of rv_insn's `Means` alone.
+
+-- the row of a name among some
+abbrev pub row_named : List Row → List ℕ → Option Row
+row_named rows name = find (λ row. bytes_eq name row.name) rows
+
+abbrev pub digit_of : Option (ℕ × ℕ) → ℕ
+digit_of None = 0
+digit_of (Some pair) = pair.1
+
+-- the number whose digits are fixed at so many positions from `low` upwards
+abbrev pub fixed_at : List (ℕ × ℕ) → ℕ → ℕ → ℕ
+fixed_at pairs low zero = 0
+fixed_at pairs low (suc count) = digit_of (find (λ pair. pair.0 == low) pairs) + 2 * fixed_at pairs (low + 1) count
+
+abbrev pub fixed_in : Option Row → ℕ → ℕ → ℕ
+fixed_in None low count = 0
+fixed_in (Some row) low count = fixed_at row.pairs low count
+
+-- the same of the row of a name
+unfoldable pub key_in : List Row → ℕ → ℕ → List ℕ → ℕ
+key_in rows low count name = fixed_in (row_named rows name) low count
 
 -- ---- branches, by funct3
 
@@ -64,3 +100,83 @@ alu_funct7 op = key_in scalar_table 25 7 (alu_name op)
 
 abbrev pub alu_of : ℕ → ℕ → Option AluOp
 alu_of funct3 funct7 = find (λ op. (alu_funct3 op == funct3) && (alu_funct7 op == funct7)) all_alus
+
+-- ---- an operation on two vector registers, by funct6
+
+abbrev pub arithmetic_vv_funct6 : ArithmeticVvOp → ℕ
+arithmetic_vv_funct6 op = key_in vector_table 26 6 (arithmetic_vv_name op)
+
+abbrev pub arithmetic_vv_of : ℕ → Option ArithmeticVvOp
+arithmetic_vv_of funct6 = find (λ op. arithmetic_vv_funct6 op == funct6) all_arithmetic_vvs
+
+-- ---- an operation on a vector and an integer register, by funct6
+
+abbrev pub arithmetic_vx_funct6 : ArithmeticVxOp → ℕ
+arithmetic_vx_funct6 op = key_in vector_table 26 6 (arithmetic_vx_name op)
+
+abbrev pub arithmetic_vx_of : ℕ → Option ArithmeticVxOp
+arithmetic_vx_of funct6 = find (λ op. arithmetic_vx_funct6 op == funct6) all_arithmetic_vxs
+
+-- ---- an operation on a vector register and an immediate, by funct6
+
+abbrev pub arithmetic_vi_funct6 : ArithmeticViOp → ℕ
+arithmetic_vi_funct6 op = key_in vector_table 26 6 (arithmetic_vi_name op)
+
+abbrev pub arithmetic_vi_of : ℕ → Option ArithmeticViOp
+arithmetic_vi_of funct6 = find (λ op. arithmetic_vi_funct6 op == funct6) all_arithmetic_vis
+
+-- ---- a shift by an amount in the word, by funct6
+
+abbrev pub shift_vi_funct6 : ShiftViOp → ℕ
+shift_vi_funct6 op = key_in vector_table 26 6 (shift_vi_name op)
+
+abbrev pub shift_vi_of : ℕ → Option ShiftViOp
+shift_vi_of funct6 = find (λ op. shift_vi_funct6 op == funct6) all_shift_vis
+
+-- ---- a comparison of two vector registers, by funct6
+
+abbrev pub compare_vv_funct6 : CompareVvOp → ℕ
+compare_vv_funct6 op = key_in vector_table 26 6 (compare_vv_name op)
+
+abbrev pub compare_vv_of : ℕ → Option CompareVvOp
+compare_vv_of funct6 = find (λ op. compare_vv_funct6 op == funct6) all_compare_vvs
+
+-- ---- a comparison with an integer register, by funct6
+
+abbrev pub compare_vx_funct6 : CompareVxOp → ℕ
+compare_vx_funct6 op = key_in vector_table 26 6 (compare_vx_name op)
+
+abbrev pub compare_vx_of : ℕ → Option CompareVxOp
+compare_vx_of funct6 = find (λ op. compare_vx_funct6 op == funct6) all_compare_vxs
+
+-- ---- a comparison with an immediate, by funct6
+
+abbrev pub compare_vi_funct6 : CompareViOp → ℕ
+compare_vi_funct6 op = key_in vector_table 26 6 (compare_vi_name op)
+
+abbrev pub compare_vi_of : ℕ → Option CompareViOp
+compare_vi_of funct6 = find (λ op. compare_vi_funct6 op == funct6) all_compare_vis
+
+-- ---- a multiplication or division, by funct6
+
+abbrev pub multiply_funct6 : MultiplyOp → ℕ
+multiply_funct6 op = key_in vector_table 26 6 (multiply_vv_name op)
+
+abbrev pub multiply_of : ℕ → Option MultiplyOp
+multiply_of funct6 = find (λ op. multiply_funct6 op == funct6) all_multiplies
+
+-- ---- a reduction, by funct6
+
+abbrev pub reduction_funct6 : ReductionOp → ℕ
+reduction_funct6 op = key_in vector_table 26 6 (reduction_name op)
+
+abbrev pub reduction_of : ℕ → Option ReductionOp
+reduction_of funct6 = find (λ op. reduction_funct6 op == funct6) all_reductions
+
+-- ---- widths, where funct3 stands
+
+abbrev pub width_funct3 : ElementWidth → ℕ
+width_funct3 width = key_in vector_table 12 3 (load_elements_name modes.UnitStride width)
+
+abbrev pub width_of : ℕ → Option ElementWidth
+width_of funct3 = find (λ width. width_funct3 width == funct3) all_widths

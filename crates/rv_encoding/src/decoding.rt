@@ -1,7 +1,7 @@
 //! Decoding: the instruction that a word means.
 
 ghost use Rattle.std.specs.Prelude.{◌≡◌, ◌/◌, ◌%◌, ◌^◌, IfSome, IfNone};
-ghost use Rattle.rv_insn.specs.Meaning.{Means};
+ghost use Rattle.rv_insn.specs.Table.{Means};
 ghost use Rattle.rv_insn.specs.declared.instructions.Insn.{Insn};
 ghost use Rattle.rv_encoding.specs.Decoding.{part, branch_in, load_in, store_in, op_imm_in, shift_in, alu_in, amo_in};
 ghost use Rattle.rv_encoding.specs.Decoding.{misc_mem_in, jalr_in, system_in, decoded};

@@ -1,7 +1,7 @@
 //! Encoding: the word that means an instruction.
 
 ghost use Rattle.std.specs.Prelude.{◌≡◌, ℕ, pos, ◌^◌, ◌<◌, [], ◌∷◌};
-ghost use Rattle.rv_insn.specs.Meaning.{Means};
+ghost use Rattle.rv_insn.specs.Table.{Means};
 ghost use Rattle.rv_insn.specs.Encoding.{bit_of};
 ghost use Rattle.rv_insn.specs.Table.{r_type, i_type, s_type, b_type, u_type, j_type, amo_type, whole_word};
 ghost use Rattle.rv_encoding.specs.Formats.{Stands, StandsFor};

@@ -10,7 +10,7 @@ ghost use Rattle.rv_encoding.specs.Operations.{alu_funct7 as alu_second_key, alu
 use rv_insn::{AluImmOp, AluOp, BranchOp, LoadOp, ShiftOp, StoreOp};
 
 /// The field funct3 of a branch.
-#[tactic(auto, unfolding(crate::specs::Keys::key_in, rv_insn::specs::Table::scalar_table, rv_insn::specs::Table::r_type, rv_insn::specs::Table::i_type, rv_insn::specs::Table::s_type, rv_insn::specs::Table::b_type, rv_insn::specs::Table::u_type, rv_insn::specs::Table::j_type, rv_insn::specs::Table::amo_type, rv_insn::specs::Table::whole_word, rv_insn::specs::Encoding::fixed, rv_insn::specs::Encoding::span))]
+#[tactic(auto, unfolding(crate::specs::Operations::key_in, rv_insn::specs::Table::scalar_table, rv_insn::specs::Table::r_type, rv_insn::specs::Table::i_type, rv_insn::specs::Table::s_type, rv_insn::specs::Table::b_type, rv_insn::specs::Table::u_type, rv_insn::specs::Table::j_type, rv_insn::specs::Table::amo_type, rv_insn::specs::Table::whole_word, rv_insn::specs::Encoding::fixed, rv_insn::specs::Encoding::span))]
 pub fn branch_funct3(op: BranchOp) -> u32
     ensures value { result ≡ branch_key op }
     ensures in_range { result < 2 ^ 3 }
@@ -26,7 +26,7 @@ pub fn branch_funct3(op: BranchOp) -> u32
 }
 
 /// The branch that has this funct3.
-#[tactic(auto, unfolding(crate::specs::Keys::key_in, rv_insn::specs::Table::scalar_table, rv_insn::specs::Table::r_type, rv_insn::specs::Table::i_type, rv_insn::specs::Table::s_type, rv_insn::specs::Table::b_type, rv_insn::specs::Table::u_type, rv_insn::specs::Table::j_type, rv_insn::specs::Table::amo_type, rv_insn::specs::Table::whole_word, rv_insn::specs::Encoding::fixed, rv_insn::specs::Encoding::span))]
+#[tactic(auto, unfolding(crate::specs::Operations::key_in, rv_insn::specs::Table::scalar_table, rv_insn::specs::Table::r_type, rv_insn::specs::Table::i_type, rv_insn::specs::Table::s_type, rv_insn::specs::Table::b_type, rv_insn::specs::Table::u_type, rv_insn::specs::Table::j_type, rv_insn::specs::Table::amo_type, rv_insn::specs::Table::whole_word, rv_insn::specs::Encoding::fixed, rv_insn::specs::Encoding::span))]
 pub fn branch_op(funct3: u32) -> Option<BranchOp>
     ensures { result ≡ branch_of funct3 }
 {
@@ -42,7 +42,7 @@ pub fn branch_op(funct3: u32) -> Option<BranchOp>
 }
 
 /// The field funct3 of a load.
-#[tactic(auto, unfolding(crate::specs::Keys::key_in, rv_insn::specs::Table::scalar_table, rv_insn::specs::Table::r_type, rv_insn::specs::Table::i_type, rv_insn::specs::Table::s_type, rv_insn::specs::Table::b_type, rv_insn::specs::Table::u_type, rv_insn::specs::Table::j_type, rv_insn::specs::Table::amo_type, rv_insn::specs::Table::whole_word, rv_insn::specs::Encoding::fixed, rv_insn::specs::Encoding::span))]
+#[tactic(auto, unfolding(crate::specs::Operations::key_in, rv_insn::specs::Table::scalar_table, rv_insn::specs::Table::r_type, rv_insn::specs::Table::i_type, rv_insn::specs::Table::s_type, rv_insn::specs::Table::b_type, rv_insn::specs::Table::u_type, rv_insn::specs::Table::j_type, rv_insn::specs::Table::amo_type, rv_insn::specs::Table::whole_word, rv_insn::specs::Encoding::fixed, rv_insn::specs::Encoding::span))]
 pub fn load_funct3(op: LoadOp) -> u32
     ensures value { result ≡ load_key op }
     ensures in_range { result < 2 ^ 3 }
@@ -57,7 +57,7 @@ pub fn load_funct3(op: LoadOp) -> u32
 }
 
 /// The load that has this funct3.
-#[tactic(auto, unfolding(crate::specs::Keys::key_in, rv_insn::specs::Table::scalar_table, rv_insn::specs::Table::r_type, rv_insn::specs::Table::i_type, rv_insn::specs::Table::s_type, rv_insn::specs::Table::b_type, rv_insn::specs::Table::u_type, rv_insn::specs::Table::j_type, rv_insn::specs::Table::amo_type, rv_insn::specs::Table::whole_word, rv_insn::specs::Encoding::fixed, rv_insn::specs::Encoding::span))]
+#[tactic(auto, unfolding(crate::specs::Operations::key_in, rv_insn::specs::Table::scalar_table, rv_insn::specs::Table::r_type, rv_insn::specs::Table::i_type, rv_insn::specs::Table::s_type, rv_insn::specs::Table::b_type, rv_insn::specs::Table::u_type, rv_insn::specs::Table::j_type, rv_insn::specs::Table::amo_type, rv_insn::specs::Table::whole_word, rv_insn::specs::Encoding::fixed, rv_insn::specs::Encoding::span))]
 pub fn load_op(funct3: u32) -> Option<LoadOp>
     ensures { result ≡ load_of funct3 }
 {
@@ -72,7 +72,7 @@ pub fn load_op(funct3: u32) -> Option<LoadOp>
 }
 
 /// The field funct3 of a store.
-#[tactic(auto, unfolding(crate::specs::Keys::key_in, rv_insn::specs::Table::scalar_table, rv_insn::specs::Table::r_type, rv_insn::specs::Table::i_type, rv_insn::specs::Table::s_type, rv_insn::specs::Table::b_type, rv_insn::specs::Table::u_type, rv_insn::specs::Table::j_type, rv_insn::specs::Table::amo_type, rv_insn::specs::Table::whole_word, rv_insn::specs::Encoding::fixed, rv_insn::specs::Encoding::span))]
+#[tactic(auto, unfolding(crate::specs::Operations::key_in, rv_insn::specs::Table::scalar_table, rv_insn::specs::Table::r_type, rv_insn::specs::Table::i_type, rv_insn::specs::Table::s_type, rv_insn::specs::Table::b_type, rv_insn::specs::Table::u_type, rv_insn::specs::Table::j_type, rv_insn::specs::Table::amo_type, rv_insn::specs::Table::whole_word, rv_insn::specs::Encoding::fixed, rv_insn::specs::Encoding::span))]
 pub fn store_funct3(op: StoreOp) -> u32
     ensures value { result ≡ store_key op }
     ensures in_range { result < 2 ^ 3 }
@@ -85,7 +85,7 @@ pub fn store_funct3(op: StoreOp) -> u32
 }
 
 /// The store that has this funct3.
-#[tactic(auto, unfolding(crate::specs::Keys::key_in, rv_insn::specs::Table::scalar_table, rv_insn::specs::Table::r_type, rv_insn::specs::Table::i_type, rv_insn::specs::Table::s_type, rv_insn::specs::Table::b_type, rv_insn::specs::Table::u_type, rv_insn::specs::Table::j_type, rv_insn::specs::Table::amo_type, rv_insn::specs::Table::whole_word, rv_insn::specs::Encoding::fixed, rv_insn::specs::Encoding::span))]
+#[tactic(auto, unfolding(crate::specs::Operations::key_in, rv_insn::specs::Table::scalar_table, rv_insn::specs::Table::r_type, rv_insn::specs::Table::i_type, rv_insn::specs::Table::s_type, rv_insn::specs::Table::b_type, rv_insn::specs::Table::u_type, rv_insn::specs::Table::j_type, rv_insn::specs::Table::amo_type, rv_insn::specs::Table::whole_word, rv_insn::specs::Encoding::fixed, rv_insn::specs::Encoding::span))]
 pub fn store_op(funct3: u32) -> Option<StoreOp>
     ensures { result ≡ store_of funct3 }
 {
@@ -98,7 +98,7 @@ pub fn store_op(funct3: u32) -> Option<StoreOp>
 }
 
 /// The field funct3 of an operation on a register and an immediate.
-#[tactic(auto, unfolding(crate::specs::Keys::key_in, rv_insn::specs::Table::scalar_table, rv_insn::specs::Table::r_type, rv_insn::specs::Table::i_type, rv_insn::specs::Table::s_type, rv_insn::specs::Table::b_type, rv_insn::specs::Table::u_type, rv_insn::specs::Table::j_type, rv_insn::specs::Table::amo_type, rv_insn::specs::Table::whole_word, rv_insn::specs::Encoding::fixed, rv_insn::specs::Encoding::span))]
+#[tactic(auto, unfolding(crate::specs::Operations::key_in, rv_insn::specs::Table::scalar_table, rv_insn::specs::Table::r_type, rv_insn::specs::Table::i_type, rv_insn::specs::Table::s_type, rv_insn::specs::Table::b_type, rv_insn::specs::Table::u_type, rv_insn::specs::Table::j_type, rv_insn::specs::Table::amo_type, rv_insn::specs::Table::whole_word, rv_insn::specs::Encoding::fixed, rv_insn::specs::Encoding::span))]
 pub fn alu_imm_funct3(op: AluImmOp) -> u32
     ensures value { result ≡ alu_imm_key op }
     ensures in_range { result < 2 ^ 3 }
@@ -114,7 +114,7 @@ pub fn alu_imm_funct3(op: AluImmOp) -> u32
 }
 
 /// The operation on a register and an immediate that has this funct3.
-#[tactic(auto, unfolding(crate::specs::Keys::key_in, rv_insn::specs::Table::scalar_table, rv_insn::specs::Table::r_type, rv_insn::specs::Table::i_type, rv_insn::specs::Table::s_type, rv_insn::specs::Table::b_type, rv_insn::specs::Table::u_type, rv_insn::specs::Table::j_type, rv_insn::specs::Table::amo_type, rv_insn::specs::Table::whole_word, rv_insn::specs::Encoding::fixed, rv_insn::specs::Encoding::span))]
+#[tactic(auto, unfolding(crate::specs::Operations::key_in, rv_insn::specs::Table::scalar_table, rv_insn::specs::Table::r_type, rv_insn::specs::Table::i_type, rv_insn::specs::Table::s_type, rv_insn::specs::Table::b_type, rv_insn::specs::Table::u_type, rv_insn::specs::Table::j_type, rv_insn::specs::Table::amo_type, rv_insn::specs::Table::whole_word, rv_insn::specs::Encoding::fixed, rv_insn::specs::Encoding::span))]
 pub fn alu_imm_op(funct3: u32) -> Option<AluImmOp>
     ensures { result ≡ alu_imm_of funct3 }
 {
@@ -130,7 +130,7 @@ pub fn alu_imm_op(funct3: u32) -> Option<AluImmOp>
 }
 
 /// The field funct3 of a shift by an amount in the word.
-#[tactic(auto, unfolding(crate::specs::Keys::key_in, rv_insn::specs::Table::scalar_table, rv_insn::specs::Table::r_type, rv_insn::specs::Table::i_type, rv_insn::specs::Table::s_type, rv_insn::specs::Table::b_type, rv_insn::specs::Table::u_type, rv_insn::specs::Table::j_type, rv_insn::specs::Table::amo_type, rv_insn::specs::Table::whole_word, rv_insn::specs::Encoding::fixed, rv_insn::specs::Encoding::span))]
+#[tactic(auto, unfolding(crate::specs::Operations::key_in, rv_insn::specs::Table::scalar_table, rv_insn::specs::Table::r_type, rv_insn::specs::Table::i_type, rv_insn::specs::Table::s_type, rv_insn::specs::Table::b_type, rv_insn::specs::Table::u_type, rv_insn::specs::Table::j_type, rv_insn::specs::Table::amo_type, rv_insn::specs::Table::whole_word, rv_insn::specs::Encoding::fixed, rv_insn::specs::Encoding::span))]
 pub fn shift_funct3(op: ShiftOp) -> u32
     ensures value { result ≡ shift_key op }
     ensures in_range { result < 2 ^ 3 }
@@ -143,7 +143,7 @@ pub fn shift_funct3(op: ShiftOp) -> u32
 }
 
 /// The field funct7 of a shift by an amount in the word.
-#[tactic(auto, unfolding(crate::specs::Keys::key_in, rv_insn::specs::Table::scalar_table, rv_insn::specs::Table::r_type, rv_insn::specs::Table::i_type, rv_insn::specs::Table::s_type, rv_insn::specs::Table::b_type, rv_insn::specs::Table::u_type, rv_insn::specs::Table::j_type, rv_insn::specs::Table::amo_type, rv_insn::specs::Table::whole_word, rv_insn::specs::Encoding::fixed, rv_insn::specs::Encoding::span))]
+#[tactic(auto, unfolding(crate::specs::Operations::key_in, rv_insn::specs::Table::scalar_table, rv_insn::specs::Table::r_type, rv_insn::specs::Table::i_type, rv_insn::specs::Table::s_type, rv_insn::specs::Table::b_type, rv_insn::specs::Table::u_type, rv_insn::specs::Table::j_type, rv_insn::specs::Table::amo_type, rv_insn::specs::Table::whole_word, rv_insn::specs::Encoding::fixed, rv_insn::specs::Encoding::span))]
 pub fn shift_funct7(op: ShiftOp) -> u32
     ensures value { result ≡ shift_second_key op }
     ensures in_range { result < 2 ^ 7 }
@@ -156,7 +156,7 @@ pub fn shift_funct7(op: ShiftOp) -> u32
 }
 
 /// The shift by an amount in the word that has this funct3 and this funct7.
-#[tactic(auto, unfolding(crate::specs::Keys::key_in, rv_insn::specs::Table::scalar_table, rv_insn::specs::Table::r_type, rv_insn::specs::Table::i_type, rv_insn::specs::Table::s_type, rv_insn::specs::Table::b_type, rv_insn::specs::Table::u_type, rv_insn::specs::Table::j_type, rv_insn::specs::Table::amo_type, rv_insn::specs::Table::whole_word, rv_insn::specs::Encoding::fixed, rv_insn::specs::Encoding::span))]
+#[tactic(auto, unfolding(crate::specs::Operations::key_in, rv_insn::specs::Table::scalar_table, rv_insn::specs::Table::r_type, rv_insn::specs::Table::i_type, rv_insn::specs::Table::s_type, rv_insn::specs::Table::b_type, rv_insn::specs::Table::u_type, rv_insn::specs::Table::j_type, rv_insn::specs::Table::amo_type, rv_insn::specs::Table::whole_word, rv_insn::specs::Encoding::fixed, rv_insn::specs::Encoding::span))]
 pub fn shift_op(funct3: u32, funct7: u32) -> Option<ShiftOp>
     ensures { result ≡ shift_of funct3 funct7 }
 {
@@ -169,7 +169,7 @@ pub fn shift_op(funct3: u32, funct7: u32) -> Option<ShiftOp>
 }
 
 /// The field funct3 of an operation on two registers.
-#[tactic(auto, unfolding(crate::specs::Keys::key_in, rv_insn::specs::Table::scalar_table, rv_insn::specs::Table::r_type, rv_insn::specs::Table::i_type, rv_insn::specs::Table::s_type, rv_insn::specs::Table::b_type, rv_insn::specs::Table::u_type, rv_insn::specs::Table::j_type, rv_insn::specs::Table::amo_type, rv_insn::specs::Table::whole_word, rv_insn::specs::Encoding::fixed, rv_insn::specs::Encoding::span))]
+#[tactic(auto, unfolding(crate::specs::Operations::key_in, rv_insn::specs::Table::scalar_table, rv_insn::specs::Table::r_type, rv_insn::specs::Table::i_type, rv_insn::specs::Table::s_type, rv_insn::specs::Table::b_type, rv_insn::specs::Table::u_type, rv_insn::specs::Table::j_type, rv_insn::specs::Table::amo_type, rv_insn::specs::Table::whole_word, rv_insn::specs::Encoding::fixed, rv_insn::specs::Encoding::span))]
 pub fn alu_funct3(op: AluOp) -> u32
     ensures value { result ≡ alu_key op }
     ensures in_range { result < 2 ^ 3 }
@@ -197,7 +197,7 @@ pub fn alu_funct3(op: AluOp) -> u32
 }
 
 /// The field funct7 of an operation on two registers.
-#[tactic(auto, unfolding(crate::specs::Keys::key_in, rv_insn::specs::Table::scalar_table, rv_insn::specs::Table::r_type, rv_insn::specs::Table::i_type, rv_insn::specs::Table::s_type, rv_insn::specs::Table::b_type, rv_insn::specs::Table::u_type, rv_insn::specs::Table::j_type, rv_insn::specs::Table::amo_type, rv_insn::specs::Table::whole_word, rv_insn::specs::Encoding::fixed, rv_insn::specs::Encoding::span))]
+#[tactic(auto, unfolding(crate::specs::Operations::key_in, rv_insn::specs::Table::scalar_table, rv_insn::specs::Table::r_type, rv_insn::specs::Table::i_type, rv_insn::specs::Table::s_type, rv_insn::specs::Table::b_type, rv_insn::specs::Table::u_type, rv_insn::specs::Table::j_type, rv_insn::specs::Table::amo_type, rv_insn::specs::Table::whole_word, rv_insn::specs::Encoding::fixed, rv_insn::specs::Encoding::span))]
 pub fn alu_funct7(op: AluOp) -> u32
     ensures value { result ≡ alu_second_key op }
     ensures in_range { result < 2 ^ 7 }
@@ -225,7 +225,7 @@ pub fn alu_funct7(op: AluOp) -> u32
 }
 
 /// The operation on two registers that has this funct3 and this funct7.
-#[tactic(auto, unfolding(crate::specs::Keys::key_in, rv_insn::specs::Table::scalar_table, rv_insn::specs::Table::r_type, rv_insn::specs::Table::i_type, rv_insn::specs::Table::s_type, rv_insn::specs::Table::b_type, rv_insn::specs::Table::u_type, rv_insn::specs::Table::j_type, rv_insn::specs::Table::amo_type, rv_insn::specs::Table::whole_word, rv_insn::specs::Encoding::fixed, rv_insn::specs::Encoding::span))]
+#[tactic(auto, unfolding(crate::specs::Operations::key_in, rv_insn::specs::Table::scalar_table, rv_insn::specs::Table::r_type, rv_insn::specs::Table::i_type, rv_insn::specs::Table::s_type, rv_insn::specs::Table::b_type, rv_insn::specs::Table::u_type, rv_insn::specs::Table::j_type, rv_insn::specs::Table::amo_type, rv_insn::specs::Table::whole_word, rv_insn::specs::Encoding::fixed, rv_insn::specs::Encoding::span))]
 pub fn alu_op(funct3: u32, funct7: u32) -> Option<AluOp>
     ensures { result ≡ alu_of funct3 funct7 }
 {

@@ -4,7 +4,7 @@
 ghost use Rattle.std.specs.Prelude.{◌≡◌, ◌≢◌, ℕ, ◌^◌, ◌<◌, ◌↔◌, Some, AllPairs};
 ghost use Rattle.rv_insn.specs.Encoding.{Holds, Row};
 ghost use Rattle.rv_insn.specs.Table.{table};
-ghost use Rattle.rv_insn.specs.Meaning.{Means};
+ghost use Rattle.rv_insn.specs.Table.{Means};
 ghost use Rattle.rv_insn.specs.declared.instructions.Insn.{Insn};
 ghost use Rattle.rv_encoding.specs.Decoding.{decoded};
 

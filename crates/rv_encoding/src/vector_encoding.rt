@@ -2,8 +2,8 @@
 
 ghost use Rattle.std.specs.Prelude.{◌≡◌, ◌<◌, ◌^◌, ℕ, None, Some, IfSome, pos, [], ◌∷◌, ◌++◌};
 ghost use Rattle.rv_insn.specs.Encoding.{bit_of};
-ghost use Rattle.rv_insn.specs.Addressing.{offset_fields};
-ghost use Rattle.rv_insn.specs.VectorMeaning.{vector_fields_of};
+ghost use Rattle.rv_insn.specs.Encoding.{offset_fields};
+ghost use Rattle.rv_insn.specs.VectorTable.{vector_fields_of};
 ghost use Rattle.rv_insn.specs.VectorTable.{opivi_type, merge_vi_type, move_vi_type, to_scalar_type, from_scalar_type};
 ghost use Rattle.rv_insn.specs.VectorTable.{numbers_type, extend_type, vsetvli_type, vsetivli_type, vsetvl_type};
 ghost use Rattle.rv_insn.specs.VectorTable.{unit_type};

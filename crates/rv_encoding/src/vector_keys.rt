@@ -2,7 +2,7 @@
 //! rows, or the width of a load or store.
 
 ghost use Rattle.std.specs.Prelude.{◌≡◌, ◌<◌, ◌^◌};
-ghost use Rattle.rv_encoding.specs.VectorOperations as keys;
+ghost use Rattle.rv_encoding.specs.Operations as keys;
 
 use rv_insn::{
     ArithmeticViOp, ArithmeticVvOp, ArithmeticVxOp, CompareViOp, CompareVvOp, CompareVxOp,
@@ -10,7 +10,7 @@ use rv_insn::{
 };
 
 /// The field funct6 of an operation on two vector registers.
-#[tactic(auto, unfolding(crate::specs::Keys::key_in, rv_insn::specs::VectorTable::vector_table, rv_insn::specs::Encoding::in_parts, rv_insn::specs::Encoding::fixed, rv_insn::specs::Encoding::span))]
+#[tactic(auto, unfolding(crate::specs::Operations::key_in, rv_insn::specs::VectorTable::vector_table, rv_insn::specs::Encoding::in_parts, rv_insn::specs::Encoding::fixed, rv_insn::specs::Encoding::span))]
 pub fn arithmetic_vv_funct6(op: ArithmeticVvOp) -> u32
     ensures value { result ≡ keys.arithmetic_vv_funct6 op }
     ensures in_range { result < 2 ^ 6 }
@@ -32,7 +32,7 @@ pub fn arithmetic_vv_funct6(op: ArithmeticVvOp) -> u32
 }
 
 /// What is an operation on two vector registers by this funct6.
-#[tactic(auto, unfolding(crate::specs::Keys::key_in, rv_insn::specs::VectorTable::vector_table, rv_insn::specs::Encoding::in_parts, rv_insn::specs::Encoding::fixed, rv_insn::specs::Encoding::span))]
+#[tactic(auto, unfolding(crate::specs::Operations::key_in, rv_insn::specs::VectorTable::vector_table, rv_insn::specs::Encoding::in_parts, rv_insn::specs::Encoding::fixed, rv_insn::specs::Encoding::span))]
 pub fn arithmetic_vv_op(funct6: u32) -> Option<ArithmeticVvOp>
     ensures { result ≡ keys.arithmetic_vv_of funct6 }
 {
@@ -54,7 +54,7 @@ pub fn arithmetic_vv_op(funct6: u32) -> Option<ArithmeticVvOp>
 }
 
 /// The field funct6 of an operation on a vector and an integer register.
-#[tactic(auto, unfolding(crate::specs::Keys::key_in, rv_insn::specs::VectorTable::vector_table, rv_insn::specs::Encoding::in_parts, rv_insn::specs::Encoding::fixed, rv_insn::specs::Encoding::span))]
+#[tactic(auto, unfolding(crate::specs::Operations::key_in, rv_insn::specs::VectorTable::vector_table, rv_insn::specs::Encoding::in_parts, rv_insn::specs::Encoding::fixed, rv_insn::specs::Encoding::span))]
 pub fn arithmetic_vx_funct6(op: ArithmeticVxOp) -> u32
     ensures value { result ≡ keys.arithmetic_vx_funct6 op }
     ensures in_range { result < 2 ^ 6 }
@@ -77,7 +77,7 @@ pub fn arithmetic_vx_funct6(op: ArithmeticVxOp) -> u32
 }
 
 /// What is an operation on a vector and an integer register by this funct6.
-#[tactic(auto, unfolding(crate::specs::Keys::key_in, rv_insn::specs::VectorTable::vector_table, rv_insn::specs::Encoding::in_parts, rv_insn::specs::Encoding::fixed, rv_insn::specs::Encoding::span))]
+#[tactic(auto, unfolding(crate::specs::Operations::key_in, rv_insn::specs::VectorTable::vector_table, rv_insn::specs::Encoding::in_parts, rv_insn::specs::Encoding::fixed, rv_insn::specs::Encoding::span))]
 pub fn arithmetic_vx_op(funct6: u32) -> Option<ArithmeticVxOp>
     ensures { result ≡ keys.arithmetic_vx_of funct6 }
 {
@@ -100,7 +100,7 @@ pub fn arithmetic_vx_op(funct6: u32) -> Option<ArithmeticVxOp>
 }
 
 /// The field funct6 of an operation on a vector register and an immediate.
-#[tactic(auto, unfolding(crate::specs::Keys::key_in, rv_insn::specs::VectorTable::vector_table, rv_insn::specs::Encoding::in_parts, rv_insn::specs::Encoding::fixed, rv_insn::specs::Encoding::span))]
+#[tactic(auto, unfolding(crate::specs::Operations::key_in, rv_insn::specs::VectorTable::vector_table, rv_insn::specs::Encoding::in_parts, rv_insn::specs::Encoding::fixed, rv_insn::specs::Encoding::span))]
 pub fn arithmetic_vi_funct6(op: ArithmeticViOp) -> u32
     ensures value { result ≡ keys.arithmetic_vi_funct6 op }
     ensures in_range { result < 2 ^ 6 }
@@ -115,7 +115,7 @@ pub fn arithmetic_vi_funct6(op: ArithmeticViOp) -> u32
 }
 
 /// What is an operation on a vector register and an immediate by this funct6.
-#[tactic(auto, unfolding(crate::specs::Keys::key_in, rv_insn::specs::VectorTable::vector_table, rv_insn::specs::Encoding::in_parts, rv_insn::specs::Encoding::fixed, rv_insn::specs::Encoding::span))]
+#[tactic(auto, unfolding(crate::specs::Operations::key_in, rv_insn::specs::VectorTable::vector_table, rv_insn::specs::Encoding::in_parts, rv_insn::specs::Encoding::fixed, rv_insn::specs::Encoding::span))]
 pub fn arithmetic_vi_op(funct6: u32) -> Option<ArithmeticViOp>
     ensures { result ≡ keys.arithmetic_vi_of funct6 }
 {
@@ -130,7 +130,7 @@ pub fn arithmetic_vi_op(funct6: u32) -> Option<ArithmeticViOp>
 }
 
 /// The field funct6 of a shift by an amount in the word.
-#[tactic(auto, unfolding(crate::specs::Keys::key_in, rv_insn::specs::VectorTable::vector_table, rv_insn::specs::Encoding::in_parts, rv_insn::specs::Encoding::fixed, rv_insn::specs::Encoding::span))]
+#[tactic(auto, unfolding(crate::specs::Operations::key_in, rv_insn::specs::VectorTable::vector_table, rv_insn::specs::Encoding::in_parts, rv_insn::specs::Encoding::fixed, rv_insn::specs::Encoding::span))]
 pub fn shift_vi_funct6(op: ShiftViOp) -> u32
     ensures value { result ≡ keys.shift_vi_funct6 op }
     ensures in_range { result < 2 ^ 6 }
@@ -143,7 +143,7 @@ pub fn shift_vi_funct6(op: ShiftViOp) -> u32
 }
 
 /// What is a shift by an amount in the word by this funct6.
-#[tactic(auto, unfolding(crate::specs::Keys::key_in, rv_insn::specs::VectorTable::vector_table, rv_insn::specs::Encoding::in_parts, rv_insn::specs::Encoding::fixed, rv_insn::specs::Encoding::span))]
+#[tactic(auto, unfolding(crate::specs::Operations::key_in, rv_insn::specs::VectorTable::vector_table, rv_insn::specs::Encoding::in_parts, rv_insn::specs::Encoding::fixed, rv_insn::specs::Encoding::span))]
 pub fn shift_vi_op(funct6: u32) -> Option<ShiftViOp>
     ensures { result ≡ keys.shift_vi_of funct6 }
 {
@@ -156,7 +156,7 @@ pub fn shift_vi_op(funct6: u32) -> Option<ShiftViOp>
 }
 
 /// The field funct6 of a comparison of two vector registers.
-#[tactic(auto, unfolding(crate::specs::Keys::key_in, rv_insn::specs::VectorTable::vector_table, rv_insn::specs::Encoding::in_parts, rv_insn::specs::Encoding::fixed, rv_insn::specs::Encoding::span))]
+#[tactic(auto, unfolding(crate::specs::Operations::key_in, rv_insn::specs::VectorTable::vector_table, rv_insn::specs::Encoding::in_parts, rv_insn::specs::Encoding::fixed, rv_insn::specs::Encoding::span))]
 pub fn compare_vv_funct6(op: CompareVvOp) -> u32
     ensures value { result ≡ keys.compare_vv_funct6 op }
     ensures in_range { result < 2 ^ 6 }
@@ -172,7 +172,7 @@ pub fn compare_vv_funct6(op: CompareVvOp) -> u32
 }
 
 /// What is a comparison of two vector registers by this funct6.
-#[tactic(auto, unfolding(crate::specs::Keys::key_in, rv_insn::specs::VectorTable::vector_table, rv_insn::specs::Encoding::in_parts, rv_insn::specs::Encoding::fixed, rv_insn::specs::Encoding::span))]
+#[tactic(auto, unfolding(crate::specs::Operations::key_in, rv_insn::specs::VectorTable::vector_table, rv_insn::specs::Encoding::in_parts, rv_insn::specs::Encoding::fixed, rv_insn::specs::Encoding::span))]
 pub fn compare_vv_op(funct6: u32) -> Option<CompareVvOp>
     ensures { result ≡ keys.compare_vv_of funct6 }
 {
@@ -188,7 +188,7 @@ pub fn compare_vv_op(funct6: u32) -> Option<CompareVvOp>
 }
 
 /// The field funct6 of a comparison with an integer register.
-#[tactic(auto, unfolding(crate::specs::Keys::key_in, rv_insn::specs::VectorTable::vector_table, rv_insn::specs::Encoding::in_parts, rv_insn::specs::Encoding::fixed, rv_insn::specs::Encoding::span))]
+#[tactic(auto, unfolding(crate::specs::Operations::key_in, rv_insn::specs::VectorTable::vector_table, rv_insn::specs::Encoding::in_parts, rv_insn::specs::Encoding::fixed, rv_insn::specs::Encoding::span))]
 pub fn compare_vx_funct6(op: CompareVxOp) -> u32
     ensures value { result ≡ keys.compare_vx_funct6 op }
     ensures in_range { result < 2 ^ 6 }
@@ -206,7 +206,7 @@ pub fn compare_vx_funct6(op: CompareVxOp) -> u32
 }
 
 /// What is a comparison with an integer register by this funct6.
-#[tactic(auto, unfolding(crate::specs::Keys::key_in, rv_insn::specs::VectorTable::vector_table, rv_insn::specs::Encoding::in_parts, rv_insn::specs::Encoding::fixed, rv_insn::specs::Encoding::span))]
+#[tactic(auto, unfolding(crate::specs::Operations::key_in, rv_insn::specs::VectorTable::vector_table, rv_insn::specs::Encoding::in_parts, rv_insn::specs::Encoding::fixed, rv_insn::specs::Encoding::span))]
 pub fn compare_vx_op(funct6: u32) -> Option<CompareVxOp>
     ensures { result ≡ keys.compare_vx_of funct6 }
 {
@@ -224,7 +224,7 @@ pub fn compare_vx_op(funct6: u32) -> Option<CompareVxOp>
 }
 
 /// The field funct6 of a comparison with an immediate.
-#[tactic(auto, unfolding(crate::specs::Keys::key_in, rv_insn::specs::VectorTable::vector_table, rv_insn::specs::Encoding::in_parts, rv_insn::specs::Encoding::fixed, rv_insn::specs::Encoding::span))]
+#[tactic(auto, unfolding(crate::specs::Operations::key_in, rv_insn::specs::VectorTable::vector_table, rv_insn::specs::Encoding::in_parts, rv_insn::specs::Encoding::fixed, rv_insn::specs::Encoding::span))]
 pub fn compare_vi_funct6(op: CompareViOp) -> u32
     ensures value { result ≡ keys.compare_vi_funct6 op }
     ensures in_range { result < 2 ^ 6 }
@@ -240,7 +240,7 @@ pub fn compare_vi_funct6(op: CompareViOp) -> u32
 }
 
 /// What is a comparison with an immediate by this funct6.
-#[tactic(auto, unfolding(crate::specs::Keys::key_in, rv_insn::specs::VectorTable::vector_table, rv_insn::specs::Encoding::in_parts, rv_insn::specs::Encoding::fixed, rv_insn::specs::Encoding::span))]
+#[tactic(auto, unfolding(crate::specs::Operations::key_in, rv_insn::specs::VectorTable::vector_table, rv_insn::specs::Encoding::in_parts, rv_insn::specs::Encoding::fixed, rv_insn::specs::Encoding::span))]
 pub fn compare_vi_op(funct6: u32) -> Option<CompareViOp>
     ensures { result ≡ keys.compare_vi_of funct6 }
 {
@@ -256,7 +256,7 @@ pub fn compare_vi_op(funct6: u32) -> Option<CompareViOp>
 }
 
 /// The field funct6 of a multiplication or division.
-#[tactic(auto, unfolding(crate::specs::Keys::key_in, rv_insn::specs::VectorTable::vector_table, rv_insn::specs::Encoding::in_parts, rv_insn::specs::Encoding::fixed, rv_insn::specs::Encoding::span))]
+#[tactic(auto, unfolding(crate::specs::Operations::key_in, rv_insn::specs::VectorTable::vector_table, rv_insn::specs::Encoding::in_parts, rv_insn::specs::Encoding::fixed, rv_insn::specs::Encoding::span))]
 pub fn multiply_funct6(op: MultiplyOp) -> u32
     ensures value { result ≡ keys.multiply_funct6 op }
     ensures in_range { result < 2 ^ 6 }
@@ -274,7 +274,7 @@ pub fn multiply_funct6(op: MultiplyOp) -> u32
 }
 
 /// What is a multiplication or division by this funct6.
-#[tactic(auto, unfolding(crate::specs::Keys::key_in, rv_insn::specs::VectorTable::vector_table, rv_insn::specs::Encoding::in_parts, rv_insn::specs::Encoding::fixed, rv_insn::specs::Encoding::span))]
+#[tactic(auto, unfolding(crate::specs::Operations::key_in, rv_insn::specs::VectorTable::vector_table, rv_insn::specs::Encoding::in_parts, rv_insn::specs::Encoding::fixed, rv_insn::specs::Encoding::span))]
 pub fn multiply_op(funct6: u32) -> Option<MultiplyOp>
     ensures { result ≡ keys.multiply_of funct6 }
 {
@@ -292,7 +292,7 @@ pub fn multiply_op(funct6: u32) -> Option<MultiplyOp>
 }
 
 /// The field funct6 of a reduction.
-#[tactic(auto, unfolding(crate::specs::Keys::key_in, rv_insn::specs::VectorTable::vector_table, rv_insn::specs::Encoding::in_parts, rv_insn::specs::Encoding::fixed, rv_insn::specs::Encoding::span))]
+#[tactic(auto, unfolding(crate::specs::Operations::key_in, rv_insn::specs::VectorTable::vector_table, rv_insn::specs::Encoding::in_parts, rv_insn::specs::Encoding::fixed, rv_insn::specs::Encoding::span))]
 pub fn reduction_funct6(op: ReductionOp) -> u32
     ensures value { result ≡ keys.reduction_funct6 op }
     ensures in_range { result < 2 ^ 6 }
@@ -307,7 +307,7 @@ pub fn reduction_funct6(op: ReductionOp) -> u32
 }
 
 /// What is a reduction by this funct6.
-#[tactic(auto, unfolding(crate::specs::Keys::key_in, rv_insn::specs::VectorTable::vector_table, rv_insn::specs::Encoding::in_parts, rv_insn::specs::Encoding::fixed, rv_insn::specs::Encoding::span))]
+#[tactic(auto, unfolding(crate::specs::Operations::key_in, rv_insn::specs::VectorTable::vector_table, rv_insn::specs::Encoding::in_parts, rv_insn::specs::Encoding::fixed, rv_insn::specs::Encoding::span))]
 pub fn reduction_op(funct6: u32) -> Option<ReductionOp>
     ensures { result ≡ keys.reduction_of funct6 }
 {
@@ -322,7 +322,7 @@ pub fn reduction_op(funct6: u32) -> Option<ReductionOp>
 }
 
 /// The field of a width, where funct3 stands.
-#[tactic(auto, unfolding(crate::specs::Keys::key_in, rv_insn::specs::VectorTable::vector_table, rv_insn::specs::Encoding::in_parts, rv_insn::specs::Encoding::fixed, rv_insn::specs::Encoding::span))]
+#[tactic(auto, unfolding(crate::specs::Operations::key_in, rv_insn::specs::VectorTable::vector_table, rv_insn::specs::Encoding::in_parts, rv_insn::specs::Encoding::fixed, rv_insn::specs::Encoding::span))]
 pub fn width_funct3(width: ElementWidth) -> u32
     ensures value { result ≡ keys.width_funct3 width }
     ensures in_range { result < 2 ^ 3 }
@@ -335,7 +335,7 @@ pub fn width_funct3(width: ElementWidth) -> u32
 }
 
 /// The width that has this field.
-#[tactic(auto, unfolding(crate::specs::Keys::key_in, rv_insn::specs::VectorTable::vector_table, rv_insn::specs::Encoding::in_parts, rv_insn::specs::Encoding::fixed, rv_insn::specs::Encoding::span))]
+#[tactic(auto, unfolding(crate::specs::Operations::key_in, rv_insn::specs::VectorTable::vector_table, rv_insn::specs::Encoding::in_parts, rv_insn::specs::Encoding::fixed, rv_insn::specs::Encoding::span))]
 pub fn width_of(funct3: u32) -> Option<ElementWidth>
     ensures { result ≡ keys.width_of funct3 }
 {

@@ -3,6 +3,10 @@
 use Rattle.std.specs.Prelude.{◌≡◌, ℕ, ◌+◌, ◌-◌, ◌*◌, ◌/◌, ◌%◌, ◌^◌, ℤ, pos, ◌-ℤ◌, List, [], ◌∷◌, ◌++◌, length, cond, nat_lt, Bool}
 use Rattle.std.proofs.Common.{zero, suc}
 use Rattle.std.specs.Int.{bit_at}
+use Rattle.rv_insn.specs.declared.vector_instructions.Addressing.{Addressing}
+use Rattle.rv_insn.specs.declared.vector_instructions.Addressing.TheVariants as addressings
+use Rattle.rv_insn.specs.declared.vector_operations.AddressMode.{AddressMode}
+use Rattle.rv_insn.specs.declared.vector_operations.AddressMode.TheVariants as modes
 
 -- Each pair is a position, 0 for the lowest bit of the word, and the bit that stands there.
 unfoldable pub Holds : ℕ → List (ℕ × ℕ) → Type 0
@@ -52,3 +56,17 @@ pub record Row : Type 0 where
   pub name : List ℕ
   pub pairs : List (ℕ × ℕ)
   pub fields : List Field
+
+-- ---- How a vector load or store is addressed: its mode, and the register that the mode names beside rs1.
+-- RISC-V Vector Extension 1.0, section 7.2 "Vector Load/Store Addressing Modes".
+
+abbrev pub mode_of : Addressing → AddressMode
+mode_of addressings.UnitStride = modes.UnitStride
+mode_of (addressings.Strided rs2) = modes.Strided
+mode_of (addressings.Indexed vs2) = modes.Indexed
+
+-- the number of the register that holds strides or offsets, if there is one
+abbrev pub offset_fields : Addressing → List ℤ
+offset_fields addressings.UnitStride = []
+offset_fields (addressings.Strided rs2) = pos rs2 ∷ []
+offset_fields (addressings.Indexed vs2) = pos vs2 ∷ []

@@ -1,7 +1,7 @@
 //! Vector instructions as values.
 
 ghost use Rattle.std.specs.Prelude.{◌≡◌};
-ghost use Rattle.rv_insn.specs.Addressing.{mode_of};
+ghost use Rattle.rv_insn.specs.Encoding.{mode_of};
 
 use crate::immediates::{Imm5, Length5, ShiftAmount, Vtype10, Vtype11};
 use crate::registers::{Reg, VReg};

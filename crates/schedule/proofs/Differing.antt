@@ -8,9 +8,8 @@ use Rattle.halide_pipeline.specs.declared.definitions.Reduction.{Reduction}
 use Rattle.halide_pipeline.specs.declared.definitions.Update.{Update}
 use Rattle.halide_pipeline.specs.declared.expressions.Variable.{Variable}
 use Rattle.halide_pipeline.specs.declared.expressions.Variable.TheVariants as variables
-use Rattle.halide_pipeline.specs.Definitions.{is_first_in_place, is_second_in_place}
-use Rattle.halide_pipeline.specs.Names.{is_named}
-use Rattle.halide_pipeline.specs.WellFormed.{is_name, is_second_name, are_arguments, is_argument_name, is_second_reduction, are_reductions}
+use Rattle.halide_pipeline.specs.WellFormed.{is_first_in_place, is_second_in_place, is_name, is_second_name, are_arguments, is_argument_name, is_second_reduction, are_reductions}
+use Rattle.halide_pipeline.specs.Pipelines.{is_named}
 use Rattle.schedule_lines.specs.declared.stages.Loop.{Loop}
 use Rattle.schedule_lines.specs.declared.stages.LoopId.TheVariants as ids
 use Rattle.schedule_lines.specs.Making.{total, has_name, Differ}

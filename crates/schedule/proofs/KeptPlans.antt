@@ -2,15 +2,13 @@
 use Rattle.std.proofs.Common.{◌≡◌, ℕ, zero, suc, ◌+◌, ◌≤◌, Bool, true, false, cond, List, [], ◌∷◌, ◌++◌, length, map, Option, Some, None, Result, Ok, Err, refl, subst, arith}
 use Rattle.std.proofs.Common.{length-append}
 use Rattle.std.specs.Prelude.{is_some, slice_get, slice_set, nat_le}
-use Rattle.line_text.specs.Reading.{◌>>=◌}
-use Rattle.line_text.specs.LineReading.{located, taken_from}
+use Rattle.line_text.specs.Lines.{◌>>=◌, located, taken_from}
 use Rattle.halide_pipeline.specs.declared.definitions.Func.{Func}
 use Rattle.halide_pipeline.specs.declared.definitions.Reduction.{Reduction}
 use Rattle.halide_pipeline.specs.declared.definitions.Update.{Update}
 use Rattle.halide_pipeline.specs.declared.expressions.Variable.TheVariants as variables
 use Rattle.halide_pipeline.specs.Pipelines.{Pipeline}
-use Rattle.halide_pipeline.specs.Definitions.{is_first_in_place, is_second_in_place}
-use Rattle.halide_pipeline.specs.WellFormed.{are_arguments, are_reductions, IsWellFormed}
+use Rattle.halide_pipeline.specs.WellFormed.{is_first_in_place, is_second_in_place, are_arguments, are_reductions, IsWellFormed}
 use Rattle.schedule_lines.specs.declared.faults.ScheduleFault.{ScheduleFault}
 use Rattle.schedule_lines.specs.declared.faults.ScheduleFault.TheVariants as fault
 use Rattle.schedule_lines.specs.declared.lines.Computed.{Computed}

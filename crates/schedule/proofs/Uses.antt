@@ -1,4 +1,4 @@
--- The reads of a Func that is computed at a loop stand within it, and the host of a Func that is reached is reached and at root.
+-- The reads of a Func that is computed at a loop stand within it, and the consumer of a Func that is reached is reached and at root.
 use Rattle.std.proofs.Common.{◌≡◌, ℕ, zero, suc, ◌+◌, ◌-◌, ◌<◌, ◌≤◌, Bool, true, false, not, cond, List, [], ◌∷◌, length, Option, Some, None, refl, sym, ap, ◌∙◌, subst, arith}
 use Rattle.std.specs.Prelude.{◌&&◌, ◌||◌, ◌==◌, slice_get}
 use Rattle.std.proofs.lemmas.Bool.{and_parts, or_parts, eqb-true, eq-eqb}
@@ -12,10 +12,9 @@ use Rattle.schedule.specs.declared.standings.LoopPlace.{LoopPlace}
 use Rattle.schedule.specs.declared.standings.Place.{Place}
 use Rattle.schedule.specs.declared.standings.Place.TheVariants as places
 use Rattle.schedule.specs.declared.standings.Standing.{Standing}
-use Rattle.schedule.specs.Accepted.{Numbered, IsHost}
-use Rattle.schedule.specs.Calls.{place_calls}
-use Rattle.schedule.specs.Standing.{is_read, is_called, is_root_computed, is_root_line, is_root, is_within, is_away, is_outside, outside, host, place_at, place_computed, place_of, place, standing, standings_from}
-use Rattle.schedule.specs.Uses.{IsReached, StandsWithin, Host, Computed as ComputedThere, Inlined, HasUsesWithin, HasHostAtRoot}
+use Rattle.schedule.specs.Accepted.{Numbered, IsConsumer}
+use Rattle.schedule.specs.Standing.{place_calls, is_read, is_called, is_root_computed, is_root_line, is_root, is_within, is_away, is_outside, outside, consumer, place_at, place_computed, place_of, place, standing, standings_from}
+use Rattle.schedule.specs.Uses.{IsReached, StandsWithin, Consumer, Computed as ComputedThere, Inlined, HasUsesWithin, HasConsumerAtRoot}
 
 -- ---- small facts
 
@@ -53,7 +52,7 @@ module _ (pipeline : Pipeline) (plans : List FuncPlan) (all : List Standing) whe
       ap (λ (n : ℕ). slice_get all n) next ∙ from (suc k)
 
   abbrev Within : LoopPlace → ℕ → Type 0
-  Within host at = StandsWithin pipeline plans all host at
+  Within consumer at = StandsWithin pipeline plans all consumer at
 
   -- ---- Funcs that are flagged don't call
 
@@ -70,66 +69,66 @@ module _ (pipeline : Pipeline) (plans : List FuncPlan) (all : List Standing) whe
       let next : at + 1 + k ≡ at + suc k = omega arith in
       subst (λ (n : ℕ). place_calls pipeline n func ≡ false) next (not_called func (at + 1) k rest parts.1 flag)
 
-  flagged : (host : LoopPlace) (at k : ℕ) (rest : List Standing) (own : Standing) → slice_get rest k ≡ Some own
-      → (flag : Bool) × (slice_get (outside pipeline plans host at rest) k ≡ Some flag)
-  flagged host at k [] own found = absurd cc
-  flagged host at zero (first ∷ others) own found = (is_outside pipeline plans host at first (outside pipeline plans host (at + 1) others), refl)
-  flagged host at (suc k) (first ∷ others) own found = flagged host (at + 1) k others own found
+  flagged : (consumer : LoopPlace) (at k : ℕ) (rest : List Standing) (own : Standing) → slice_get rest k ≡ Some own
+      → (flag : Bool) × (slice_get (outside pipeline plans consumer at rest) k ≡ Some flag)
+  flagged consumer at k [] own found = absurd cc
+  flagged consumer at zero (first ∷ others) own found = (is_outside pipeline plans consumer at first (outside pipeline plans consumer (at + 1) others), refl)
+  flagged consumer at (suc k) (first ∷ others) own found = flagged consumer (at + 1) k others own found
 
   -- what a list of flags says of its Funcs
   abbrev Flags : LoopPlace → ℕ → List Standing → Type 0
-  Flags host at rest = (k : ℕ) (own : Standing) → slice_get rest k ≡ Some own → own.is_reached ≡ true → slice_get (outside pipeline plans host at rest) k ≡ Some false → Within host (at + k)
+  Flags consumer at rest = (k : ℕ) (own : Standing) → slice_get rest k ≡ Some own → own.is_reached ≡ true → slice_get (outside pipeline plans consumer at rest) k ≡ Some false → Within consumer (at + k)
 
   -- what calls a Func stands within
   abbrev Callers : LoopPlace → ℕ → Type 0
-  Callers host at = (reader : ℕ) (its : Standing) → at < reader → IsReached all reader its → place_calls pipeline reader at ≡ true → Within host reader
+  Callers consumer at = (reader : ℕ) (its : Standing) → at < reader → IsReached all reader its → place_calls pipeline reader at ≡ true → Within consumer reader
 
-  by_flag : (flag : Bool) (host : LoopPlace) (at k reader : ℕ) (rest : List Standing) (its : Standing) → at + 1 + k ≡ reader → slice_get rest k ≡ Some its → IsReached all reader its
-      → slice_get (outside pipeline plans host (at + 1) rest) k ≡ Some flag → is_called pipeline at (at + 1) (outside pipeline plans host (at + 1) rest) ≡ false
-      → place_calls pipeline reader at ≡ true → Flags host (at + 1) rest → Within host reader
-  by_flag true host at k reader rest its same found reached flag e calls each =
+  by_flag : (flag : Bool) (consumer : LoopPlace) (at k reader : ℕ) (rest : List Standing) (its : Standing) → at + 1 + k ≡ reader → slice_get rest k ≡ Some its → IsReached all reader its
+      → slice_get (outside pipeline plans consumer (at + 1) rest) k ≡ Some flag → is_called pipeline at (at + 1) (outside pipeline plans consumer (at + 1) rest) ≡ false
+      → place_calls pipeline reader at ≡ true → Flags consumer (at + 1) rest → Within consumer reader
+  by_flag true consumer at k reader rest its same found reached flag e calls each =
       let none : place_calls pipeline reader at ≡ false =
-      subst (λ (n : ℕ). place_calls pipeline n at ≡ false) same (not_called at (at + 1) k (outside pipeline plans host (at + 1) rest) e flag) in
+      subst (λ (n : ℕ). place_calls pipeline n at ≡ false) same (not_called at (at + 1) k (outside pipeline plans consumer (at + 1) rest) e flag) in
       absurd cc
-  by_flag false host at k reader rest its same found reached flag e calls each = subst (λ (n : ℕ). Within host n) same (each k its found reached.reached flag)
+  by_flag false consumer at k reader rest its same found reached flag e calls each = subst (λ (n : ℕ). Within consumer n) same (each k its found reached.reached flag)
 
-  called_by : (host : LoopPlace) (at : ℕ) (rest : List Standing) → From (at + 1) rest → Flags host (at + 1) rest
-      → is_called pipeline at (at + 1) (outside pipeline plans host (at + 1) rest) ≡ false → Callers host at
-  called_by host at rest from each e reader its later reached calls =
+  called_by : (consumer : LoopPlace) (at : ℕ) (rest : List Standing) → From (at + 1) rest → Flags consumer (at + 1) rest
+      → is_called pipeline at (at + 1) (outside pipeline plans consumer (at + 1) rest) ≡ false → Callers consumer at
+  called_by consumer at rest from each e reader its later reached calls =
       let same : at + 1 + (reader - (at + 1)) ≡ reader = omega arith in
       let found : slice_get rest (reader - (at + 1)) ≡ Some its =
       sym (from (reader - (at + 1))) ∙ ap (λ (n : ℕ). slice_get all n) same ∙ reached.standing in
-      let flag = flagged host (at + 1) (reader - (at + 1)) rest its found in
-      by_flag flag.0 host at (reader - (at + 1)) reader rest its same found reached flag.1 e calls each
+      let flag = flagged consumer (at + 1) (reader - (at + 1)) rest its found in
+      by_flag flag.0 consumer at (reader - (at + 1)) reader rest its same found reached flag.1 e calls each
 
-  here_within : (is_host : Bool) (where_it_is : Place) (host : LoopPlace) (at : ℕ) (own : Standing) (flags : List Bool) → IsReached all at own → (at == host.func) ≡ is_host → own.place ≡ where_it_is
-      → (is_called pipeline at (at + 1) flags ≡ false → Callers host at)
-      → (not is_host && is_away pipeline plans host at where_it_is flags) ≡ false → Within host at
-  here_within true where_it_is host at own flags reached is_host place_is callers e =
-      let same : host.func ≡ at = sym (eqb-true at host.func is_host) in
-      subst (λ (n : ℕ). Within host n) same Host
-  here_within false places.Inlined host at own flags reached is_host place_is callers e = Inlined at own reached place_is (callers e)
-  here_within false (places.At there) host at own flags reached is_host place_is callers e = ComputedThere at own there reached place_is (not_false (is_within plans host there) e)
-  here_within false places.Root host at own flags reached is_host place_is callers e = absurd cc
-  here_within false places.Nowhere host at own flags reached is_host place_is callers e = absurd cc
+  here_within : (is_consumer : Bool) (where_it_is : Place) (consumer : LoopPlace) (at : ℕ) (own : Standing) (flags : List Bool) → IsReached all at own → (at == consumer.func) ≡ is_consumer → own.place ≡ where_it_is
+      → (is_called pipeline at (at + 1) flags ≡ false → Callers consumer at)
+      → (not is_consumer && is_away pipeline plans consumer at where_it_is flags) ≡ false → Within consumer at
+  here_within true where_it_is consumer at own flags reached is_consumer place_is callers e =
+      let same : consumer.func ≡ at = sym (eqb-true at consumer.func is_consumer) in
+      subst (λ (n : ℕ). Within consumer n) same Consumer
+  here_within false places.Inlined consumer at own flags reached is_consumer place_is callers e = Inlined at own reached place_is (callers e)
+  here_within false (places.At there) consumer at own flags reached is_consumer place_is callers e = ComputedThere at own there reached place_is (not_false (is_within plans consumer there) e)
+  here_within false places.Root consumer at own flags reached is_consumer place_is callers e = absurd cc
+  here_within false places.Nowhere consumer at own flags reached is_consumer place_is callers e = absurd cc
 
-  within : (host : LoopPlace) (at : ℕ) (rest : List Standing) → From at rest → Flags host at rest
-  within host at [] from k own found reached flag = absurd cc
-  within host at (first ∷ others) from zero own found reached flag =
-      let flags = outside pipeline plans host (at + 1) others in
+  within : (consumer : LoopPlace) (at : ℕ) (rest : List Standing) → From at rest → Flags consumer at rest
+  within consumer at [] from k own found reached flag = absurd cc
+  within consumer at (first ∷ others) from zero own found reached flag =
+      let flags = outside pipeline plans consumer (at + 1) others in
       let first_is : first ≡ own = cc in
       let here : at + 0 ≡ at = omega arith in
       let there : IsReached all at own = record { standing = ap (λ (n : ℕ). slice_get all n) (sym here) ∙ from 0 ∙ found; reached = reached } in
       let raised : first.is_reached ≡ true = ap (λ (s : Standing). s.is_reached) first_is ∙ reached in
-      let lowered : is_outside pipeline plans host at first flags ≡ false = cc in
-      let rest_is : (not (at == host.func) && is_away pipeline plans host at first.place flags) ≡ false =
-      subst (λ (b : Bool). (b && (not (at == host.func) && is_away pipeline plans host at first.place flags)) ≡ false) raised lowered in
-      subst (λ (n : ℕ). Within host n) (sym here)
-      (here_within (at == host.func) first.place host at own flags there refl (ap (λ (s : Standing). s.place) (sym first_is))
-      (called_by host at others (from_next at first others from) (within host (at + 1) others (from_next at first others from))) rest_is)
-  within host at (first ∷ others) from (suc k) own found reached flag =
+      let lowered : is_outside pipeline plans consumer at first flags ≡ false = cc in
+      let rest_is : (not (at == consumer.func) && is_away pipeline plans consumer at first.place flags) ≡ false =
+      subst (λ (b : Bool). (b && (not (at == consumer.func) && is_away pipeline plans consumer at first.place flags)) ≡ false) raised lowered in
+      subst (λ (n : ℕ). Within consumer n) (sym here)
+      (here_within (at == consumer.func) first.place consumer at own flags there refl (ap (λ (s : Standing). s.place) (sym first_is))
+      (called_by consumer at others (from_next at first others from) (within consumer (at + 1) others (from_next at first others from))) rest_is)
+  within consumer at (first ∷ others) from (suc k) own found reached flag =
       let next : at + 1 + k ≡ at + suc k = omega arith in
-      subst (λ (n : ℕ). Within host n) next (within host (at + 1) others (from_next at first others from) k own found reached flag)
+      subst (λ (n : ℕ). Within consumer n) next (within consumer (at + 1) others (from_next at first others from) k own found reached flag)
 
   -- ---- the standing of a Func, over those behind it
 
@@ -167,17 +166,17 @@ module _ (pipeline : Pipeline) (plans : List FuncPlan) (all : List Standing) whe
   placed_by true own wanted e = absurd cc
   placed_by false own wanted e = (refl, cc)
 
-  host_placed : (found : Option LoopPlace) (at : ℕ) (behind : List Standing) (wanted : LoopPlace) → place_at pipeline plans at behind found ≡ places.At wanted
+  consumer_placed : (found : Option LoopPlace) (at : ℕ) (behind : List Standing) (wanted : LoopPlace) → place_at pipeline plans at behind found ≡ places.At wanted
       → is_called pipeline at (at + 1) (outside pipeline plans wanted (at + 1) behind) ≡ false
-  host_placed None at behind wanted e = absurd cc
-  host_placed (Some own) at behind wanted e =
+  consumer_placed None at behind wanted e = absurd cc
+  consumer_placed (Some own) at behind wanted e =
       let parts = placed_by (is_called pipeline at (at + 1) (outside pipeline plans own (at + 1) behind)) own wanted e in
       subst (λ (h : LoopPlace). is_called pipeline at (at + 1) (outside pipeline plans h (at + 1) behind) ≡ false) parts.1 parts.0
 
   said_placed : (said : Computed) (at : ℕ) (behind : List Standing) (wanted : LoopPlace) → place_computed pipeline plans at behind said ≡ places.At wanted
       → is_called pipeline at (at + 1) (outside pipeline plans wanted (at + 1) behind) ≡ false
   said_placed computed.Root at behind wanted e = absurd cc
-  said_placed (computed.At names) at behind wanted e = host_placed (host pipeline plans at names) at behind wanted e
+  said_placed (computed.At names) at behind wanted e = consumer_placed (consumer pipeline plans at names) at behind wanted e
 
   line_placed : (is_output : Bool) (compute : Option ComputeLine) (at : ℕ) (behind : List Standing) (wanted : LoopPlace)
       → cond is_output places.Root (place_of pipeline plans at behind compute) ≡ places.At wanted
@@ -192,7 +191,7 @@ module _ (pipeline : Pipeline) (plans : List FuncPlan) (all : List Standing) whe
       called_by wanted at is.behind is.from (within wanted (at + 1) is.behind is.from)
       (line_placed (at == pipeline.output.func) is.plan.compute at is.behind wanted placed)
 
-  -- ---- hosts
+  -- ---- consumers
 
   -- a later Func that is reached and calls the one at a place
   record IsReadBy (func at : ℕ) : Type 0 where
@@ -242,28 +241,28 @@ module _ (pipeline : Pipeline) (plans : List FuncPlan) (all : List Standing) whe
     own : Standing
     there : IsReached all at own
 
-  host_within : (host : LoopPlace) (least reader : ℕ) → Standings → Within host reader → least < reader → (its : Standing) → IsReached all reader its
-      → ((at : ℕ) (own : Standing) (h : LoopPlace) → least < at → IsReached all at own → own.place ≡ places.At h → IsThere h.func) → IsThere host.func
-  host_within host least reader known Host lt its there later = record { own = its; there = there }
-  host_within host least reader known (ComputedThere _ own at own_there place_is within) lt its there later =
-      let same : at.func ≡ host.func = eqb-true at.func host.func (and_parts (at.func == host.func) _ within).0 in
+  consumer_within : (consumer : LoopPlace) (least reader : ℕ) → Standings → Within consumer reader → least < reader → (its : Standing) → IsReached all reader its
+      → ((at : ℕ) (own : Standing) (h : LoopPlace) → least < at → IsReached all at own → own.place ≡ places.At h → IsThere h.func) → IsThere consumer.func
+  consumer_within consumer least reader known Consumer lt its there later = record { own = its; there = there }
+  consumer_within consumer least reader known (ComputedThere _ own at own_there place_is within) lt its there later =
+      let same : at.func ≡ consumer.func = eqb-true at.func consumer.func (and_parts (at.func == consumer.func) _ within).0 in
       subst IsThere same (later reader own at lt own_there place_is)
-  host_within host least reader known (Inlined _ own own_there place_is callers) lt its there later =
+  consumer_within consumer least reader known (Inlined _ own own_there place_is callers) lt its there later =
       let read = read_at reader own (known reader own own_there.standing) own_there.reached (λ root. absurd cc) in
       let behind : reader < read.reader = omega (arith, read.later) in
-      host_within host least read.reader known (callers read.reader read.its behind read.there read.calls) (omega arith) read.its read.there later
+      consumer_within consumer least read.reader known (callers read.reader read.its behind read.there read.calls) (omega arith) read.its read.there later
 
-  host_there : (fuel at : ℕ) → Standings → length all ≤ at + fuel → (own : Standing) (host : LoopPlace) → IsReached all at own → own.place ≡ places.At host → IsThere host.func
-  host_there zero at known le own host there place_is =
+  consumer_there : (fuel at : ℕ) → Standings → length all ≤ at + fuel → (own : Standing) (consumer : LoopPlace) → IsReached all at own → own.place ≡ places.At consumer → IsThere consumer.func
+  consumer_there zero at known le own consumer there place_is =
       let past : slice_get all at ≡ None = slice_get_past all at (omega arith) in
       let found = there.standing in
       absurd cc
-  host_there (suc fuel) at known le own host there place_is =
+  consumer_there (suc fuel) at known le own consumer there place_is =
       let is = known at own there.standing in
       let read = read_at at own is there.reached (λ root. absurd cc) in
       let behind : at < read.reader = omega (arith, read.later) in
-      host_within host at read.reader known (uses_at at own is host place_is read.reader read.its behind read.there read.calls) behind read.its read.there
-      (λ later its h lt its_there its_place. host_there fuel later known (omega arith) its h its_there its_place)
+      consumer_within consumer at read.reader known (uses_at at own is consumer place_is read.reader read.its behind read.there read.calls) behind read.its read.there
+      (λ later its h lt its_there its_place. consumer_there fuel later known (omega arith) its h its_there its_place)
 
   root_said : (said : Computed) (at : ℕ) (behind : List Standing) → is_root_computed said ≡ true → place_computed pipeline plans at behind said ≡ places.Root
   root_said computed.Root at behind e = refl
@@ -275,17 +274,17 @@ module _ (pipeline : Pipeline) (plans : List FuncPlan) (all : List Standing) whe
   root_placed false None at behind e = absurd cc
   root_placed false (Some line) at behind e = root_said line.computed at behind e
 
-  host_at_root : Standings → (at : ℕ) (own : Standing) → slice_get all at ≡ Some own → ((host : LoopPlace) → own.place ≡ places.At host → IsHost pipeline plans at host) → HasHostAtRoot all at own
-  host_at_root known at own found hosted reached host place_is =
-      let is_host = hosted host place_is in
-      let there = host_there (length all) at known (omega arith) own host (record { standing = found; reached = reached }) place_is in
-      let is = known host.func there.own there.there.standing in
-      let plan_is : is.plan ≡ is_host.plan = let a = is.plan_is in let b = is_host.plan_is in cc in
-      let root : is_root pipeline host.func is.plan ≡ true = subst (λ (p : FuncPlan). is_root pipeline host.func p ≡ true) (sym plan_is) is_host.root in
+  consumer_at_root : Standings → (at : ℕ) (own : Standing) → slice_get all at ≡ Some own → ((consumer : LoopPlace) → own.place ≡ places.At consumer → IsConsumer pipeline plans at consumer) → HasConsumerAtRoot all at own
+  consumer_at_root known at own found produced reached consumer place_is =
+      let is_consumer = produced consumer place_is in
+      let there = consumer_there (length all) at known (omega arith) own consumer (record { standing = found; reached = reached }) place_is in
+      let is = known consumer.func there.own there.there.standing in
+      let plan_is : is.plan ≡ is_consumer.plan = let a = is.plan_is in let b = is_consumer.plan_is in cc in
+      let root : is_root pipeline consumer.func is.plan ≡ true = subst (λ (p : FuncPlan). is_root pipeline consumer.func p ≡ true) (sym plan_is) is_consumer.root in
       record {
         own = there.own;
         there = there.there;
-        root = ap (λ (s : Standing). s.place) is.own_is ∙ root_placed (host.func == pipeline.output.func) is.plan.compute host.func is.behind root;
+        root = ap (λ (s : Standing). s.place) is.own_is ∙ root_placed (consumer.func == pipeline.output.func) is.plan.compute consumer.func is.behind root;
       }
 
 -- ---- the whole
@@ -373,10 +372,10 @@ uses_lie_within pipeline plans =
     let here : (k : ℕ) → k ≡ 0 + k = λ k. omega arith in
     numbered_from (HasUsesWithin pipeline plans all) 0 all (λ k own found. subst (λ (n : ℕ). HasUsesWithin pipeline plans all n own) (here k) (uses_at pipeline plans all k own (known_all pipeline plans k own found)))
 
-pub hosts_at_root : (pipeline : Pipeline) (plans : List FuncPlan)
-    → ((k : ℕ) (own : Standing) → slice_get (standings_from pipeline plans 0 plans) k ≡ Some own → (host : LoopPlace) → own.place ≡ places.At host → IsHost pipeline plans k host)
-    → Numbered (HasHostAtRoot (standings_from pipeline plans 0 plans)) 0 (standings_from pipeline plans 0 plans)
-hosts_at_root pipeline plans hosted =
+pub consumers_at_root : (pipeline : Pipeline) (plans : List FuncPlan)
+    → ((k : ℕ) (own : Standing) → slice_get (standings_from pipeline plans 0 plans) k ≡ Some own → (consumer : LoopPlace) → own.place ≡ places.At consumer → IsConsumer pipeline plans k consumer)
+    → Numbered (HasConsumerAtRoot (standings_from pipeline plans 0 plans)) 0 (standings_from pipeline plans 0 plans)
+consumers_at_root pipeline plans produced =
     let all = standings_from pipeline plans 0 plans in
     let here : (k : ℕ) → k ≡ 0 + k = λ k. omega arith in
-    numbered_from (HasHostAtRoot all) 0 all (λ k own found. subst (λ (n : ℕ). HasHostAtRoot all n own) (here k) (host_at_root pipeline plans all (known_all pipeline plans) k own found (hosted k own found)))
+    numbered_from (HasConsumerAtRoot all) 0 all (λ k own found. subst (λ (n : ℕ). HasConsumerAtRoot all n own) (here k) (consumer_at_root pipeline plans all (known_all pipeline plans) k own found (produced k own found)))

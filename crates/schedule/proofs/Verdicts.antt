@@ -5,8 +5,7 @@ use Rattle.std.specs.List.{AllByRecursion}
 use Rattle.std.proofs.lemmas.Bool.{and_from, and_parts, or_parts, eqb-true, ltb-true}
 use Rattle.halide_pipeline.specs.declared.expressions.Source.{Source}
 use Rattle.halide_pipeline.specs.declared.expressions.Source.TheVariants as sources
-use Rattle.halide_pipeline.specs.Pipelines.{Pipeline}
-use Rattle.halide_pipeline.specs.Names.{lookup}
+use Rattle.halide_pipeline.specs.Pipelines.{Pipeline, lookup}
 use Rattle.schedule_lines.specs.declared.faults.ScheduleFault.{ScheduleFault}
 use Rattle.schedule_lines.specs.declared.faults.ScheduleFault.TheVariants as fault
 use Rattle.schedule_lines.specs.declared.lines.Computed.{Computed}
@@ -16,7 +15,7 @@ use Rattle.schedule_lines.specs.declared.stages.Loop.{Loop}
 use Rattle.schedule_lines.specs.declared.stages.Mark.TheVariants as marks
 use Rattle.schedule_lines.specs.declared.stages.Marked.{Marked}
 use Rattle.schedule_lines.specs.declared.stages.Stage.{Stage}
-use Rattle.schedule_lines.specs.Loops.{find, is_marked}
+use Rattle.schedule_lines.specs.Directives.{find, is_marked}
 use Rattle.schedule.specs.declared.legality.LoopRule.{LoopRule}
 use Rattle.schedule.specs.declared.legality.LoopRule.TheVariants as rules_of
 use Rattle.schedule.specs.declared.plans.ComputeLine.{ComputeLine}
@@ -24,9 +23,9 @@ use Rattle.schedule.specs.declared.plans.FuncPlan.{FuncPlan}
 use Rattle.schedule.specs.declared.standings.LoopPlace.{LoopPlace}
 use Rattle.schedule.specs.declared.standings.Place.TheVariants as places
 use Rattle.schedule.specs.declared.standings.Standing.{Standing}
-use Rattle.schedule.specs.Accepted.{Pairwise, Numbered, keeps, Keeps, IsLegal, IsHost, IsHosted}
+use Rattle.schedule.specs.Accepted.{Pairwise, Numbered, keeps, Keeps, IsLegal, IsConsumer, IsProduced}
 use Rattle.schedule.specs.Legal.{breaks, earlier, line_of, is_empty, loops_line, stage_line, stages_line, plan_line, is_root as at_root, rule_line, is_nowhere, compute_line, nowhere_line, is_inlined, has_lost, or_next, last_verdict, verdict}
-use Rattle.schedule.specs.Standing.{is_root, is_host, unvectorized, loop_of, host_of, host, is_called, outside, place_at, place_computed, place_of, place, standings_from}
+use Rattle.schedule.specs.Standing.{is_root, is_consumer, unvectorized, loop_of, consumer_of, consumer, is_called, outside, place_at, place_computed, place_of, place, standings_from}
 
 -- ---- lines that are none
 
@@ -180,15 +179,15 @@ have_lines pipeline plans at (first ∷ others) = (
 
 -- ---- the loop at which a Func is computed
 
-marked_host : (vectorized : Bool) (pipeline : Pipeline) (plans : List FuncPlan) (at func : ℕ) (plan : FuncPlan) (name : List ℕ) (own : Loop) (wanted : LoopPlace)
-    → at < func → slice_get plans func ≡ Some plan → is_host pipeline func plan ≡ true → find name plan.pure.loops ≡ Some own → is_marked marks.Vectorized own ≡ vectorized
-    → cond vectorized None (Some (record { func = func; inside = own.id })) ≡ Some wanted → IsHost pipeline plans at wanted
-marked_host true pipeline plans at func plan name own wanted later plan_is hosts found mark e = cc
-marked_host false pipeline plans at func plan name own wanted later plan_is hosts found mark e =
-    let parts = and_parts (is_root pipeline func plan) (length plan.updates == 0) hosts in
+marked_consumer : (vectorized : Bool) (pipeline : Pipeline) (plans : List FuncPlan) (at func : ℕ) (plan : FuncPlan) (name : List ℕ) (own : Loop) (wanted : LoopPlace)
+    → at < func → slice_get plans func ≡ Some plan → is_consumer pipeline func plan ≡ true → find name plan.pure.loops ≡ Some own → is_marked marks.Vectorized own ≡ vectorized
+    → cond vectorized None (Some (record { func = func; inside = own.id })) ≡ Some wanted → IsConsumer pipeline plans at wanted
+marked_consumer true pipeline plans at func plan name own wanted later plan_is consumers found mark e = cc
+marked_consumer false pipeline plans at func plan name own wanted later plan_is consumers found mark e =
+    let parts = and_parts (is_root pipeline func plan) (length plan.updates == 0) consumers in
     let here : LoopPlace = record { func = func; inside = own.id } in
     let wanted_is : here ≡ wanted = cc in
-    subst (λ (h : LoopPlace). IsHost pipeline plans at h) wanted_is (record {
+    subst (λ (h : LoopPlace). IsConsumer pipeline plans at h) wanted_is (record {
       later = later;
       plan = plan;
       plan_is = plan_is;
@@ -201,60 +200,60 @@ marked_host false pipeline plans at func plan name own wanted later plan_is host
       unvectorized = mark;
     })
 
-found_host : (found : Option Loop) (pipeline : Pipeline) (plans : List FuncPlan) (at func : ℕ) (plan : FuncPlan) (name : List ℕ) (wanted : LoopPlace)
-    → at < func → slice_get plans func ≡ Some plan → is_host pipeline func plan ≡ true → find name plan.pure.loops ≡ found
-    → unvectorized func found ≡ Some wanted → IsHost pipeline plans at wanted
-found_host None pipeline plans at func plan name wanted later plan_is hosts found e = cc
-found_host (Some own) pipeline plans at func plan name wanted later plan_is hosts found e =
-    marked_host (is_marked marks.Vectorized own) pipeline plans at func plan name own wanted later plan_is hosts found refl e
+found_consumer : (found : Option Loop) (pipeline : Pipeline) (plans : List FuncPlan) (at func : ℕ) (plan : FuncPlan) (name : List ℕ) (wanted : LoopPlace)
+    → at < func → slice_get plans func ≡ Some plan → is_consumer pipeline func plan ≡ true → find name plan.pure.loops ≡ found
+    → unvectorized func found ≡ Some wanted → IsConsumer pipeline plans at wanted
+found_consumer None pipeline plans at func plan name wanted later plan_is consumers found e = cc
+found_consumer (Some own) pipeline plans at func plan name wanted later plan_is consumers found e =
+    marked_consumer (is_marked marks.Vectorized own) pipeline plans at func plan name own wanted later plan_is consumers found refl e
 
-tested_host : (hosts : Bool) (pipeline : Pipeline) (plans : List FuncPlan) (at func : ℕ) (plan : FuncPlan) (name : List ℕ) (wanted : LoopPlace)
-    → at < func → slice_get plans func ≡ Some plan → is_host pipeline func plan ≡ hosts
-    → cond hosts (unvectorized func (find name plan.pure.loops)) None ≡ Some wanted → IsHost pipeline plans at wanted
-tested_host true pipeline plans at func plan name wanted later plan_is hosts e = found_host (find name plan.pure.loops) pipeline plans at func plan name wanted later plan_is hosts refl e
-tested_host false pipeline plans at func plan name wanted later plan_is hosts e = cc
+tested_consumer : (consumers : Bool) (pipeline : Pipeline) (plans : List FuncPlan) (at func : ℕ) (plan : FuncPlan) (name : List ℕ) (wanted : LoopPlace)
+    → at < func → slice_get plans func ≡ Some plan → is_consumer pipeline func plan ≡ consumers
+    → cond consumers (unvectorized func (find name plan.pure.loops)) None ≡ Some wanted → IsConsumer pipeline plans at wanted
+tested_consumer true pipeline plans at func plan name wanted later plan_is consumers e = found_consumer (find name plan.pure.loops) pipeline plans at func plan name wanted later plan_is consumers refl e
+tested_consumer false pipeline plans at func plan name wanted later plan_is consumers e = cc
 
-planned_host : (found : Option FuncPlan) (pipeline : Pipeline) (plans : List FuncPlan) (at func : ℕ) (name : List ℕ) (wanted : LoopPlace)
-    → at < func → slice_get plans func ≡ found → loop_of pipeline func name found ≡ Some wanted → IsHost pipeline plans at wanted
-planned_host None pipeline plans at func name wanted later plan_is e = cc
-planned_host (Some plan) pipeline plans at func name wanted later plan_is e = tested_host (is_host pipeline func plan) pipeline plans at func plan name wanted later plan_is refl e
+planned_consumer : (found : Option FuncPlan) (pipeline : Pipeline) (plans : List FuncPlan) (at func : ℕ) (name : List ℕ) (wanted : LoopPlace)
+    → at < func → slice_get plans func ≡ found → loop_of pipeline func name found ≡ Some wanted → IsConsumer pipeline plans at wanted
+planned_consumer None pipeline plans at func name wanted later plan_is e = cc
+planned_consumer (Some plan) pipeline plans at func name wanted later plan_is e = tested_consumer (is_consumer pipeline func plan) pipeline plans at func plan name wanted later plan_is refl e
 
-later_host : (later : Bool) (pipeline : Pipeline) (plans : List FuncPlan) (at func : ℕ) (name : List ℕ) (wanted : LoopPlace) → nat_lt at func ≡ later
-    → cond later (loop_of pipeline func name (slice_get plans func)) None ≡ Some wanted → IsHost pipeline plans at wanted
-later_host true pipeline plans at func name wanted is e = planned_host (slice_get plans func) pipeline plans at func name wanted (ltb-true at func is) refl e
-later_host false pipeline plans at func name wanted is e = cc
+later_consumer : (later : Bool) (pipeline : Pipeline) (plans : List FuncPlan) (at func : ℕ) (name : List ℕ) (wanted : LoopPlace) → nat_lt at func ≡ later
+    → cond later (loop_of pipeline func name (slice_get plans func)) None ≡ Some wanted → IsConsumer pipeline plans at wanted
+later_consumer true pipeline plans at func name wanted is e = planned_consumer (slice_get plans func) pipeline plans at func name wanted (ltb-true at func is) refl e
+later_consumer false pipeline plans at func name wanted is e = cc
 
-named_host : (named : Option Source) (pipeline : Pipeline) (plans : List FuncPlan) (at : ℕ) (name : List ℕ) (wanted : LoopPlace) → host_of pipeline plans at name named ≡ Some wanted
-    → IsHost pipeline plans at wanted
-named_host None pipeline plans at name wanted e = cc
-named_host (Some (sources.Input place)) pipeline plans at name wanted e = cc
-named_host (Some (sources.Func func)) pipeline plans at name wanted e = later_host (nat_lt at func) pipeline plans at func name wanted refl e
+named_consumer : (named : Option Source) (pipeline : Pipeline) (plans : List FuncPlan) (at : ℕ) (name : List ℕ) (wanted : LoopPlace) → consumer_of pipeline plans at name named ≡ Some wanted
+    → IsConsumer pipeline plans at wanted
+named_consumer None pipeline plans at name wanted e = cc
+named_consumer (Some (sources.Input place)) pipeline plans at name wanted e = cc
+named_consumer (Some (sources.Func func)) pipeline plans at name wanted e = later_consumer (nat_lt at func) pipeline plans at func name wanted refl e
 
 used_by : (away : Bool) (own wanted : LoopPlace) → cond away places.Nowhere (places.At own) ≡ places.At wanted → own ≡ wanted
 used_by true own wanted e = cc
 used_by false own wanted e = cc
 
-host_by : (found : Option LoopPlace) (pipeline : Pipeline) (plans : List FuncPlan) (at : ℕ) (names : LoopNames) (behind : List Standing) (wanted : LoopPlace) → host pipeline plans at names ≡ found
-    → place_at pipeline plans at behind found ≡ places.At wanted → IsHost pipeline plans at wanted
-host_by None pipeline plans at names behind wanted is e = cc
-host_by (Some own) pipeline plans at names behind wanted is e =
+consumer_by : (found : Option LoopPlace) (pipeline : Pipeline) (plans : List FuncPlan) (at : ℕ) (names : LoopNames) (behind : List Standing) (wanted : LoopPlace) → consumer pipeline plans at names ≡ found
+    → place_at pipeline plans at behind found ≡ places.At wanted → IsConsumer pipeline plans at wanted
+consumer_by None pipeline plans at names behind wanted is e = cc
+consumer_by (Some own) pipeline plans at names behind wanted is e =
     let own_is : own ≡ wanted = used_by (is_called pipeline at (at + 1) (outside pipeline plans own (at + 1) behind)) own wanted e in
-    subst (λ (h : LoopPlace). IsHost pipeline plans at h) own_is (named_host (lookup names.func pipeline.names) pipeline plans at names.inside own is)
+    subst (λ (h : LoopPlace). IsConsumer pipeline plans at h) own_is (named_consumer (lookup names.func pipeline.names) pipeline plans at names.inside own is)
 
-computed_host : (said : Computed) (pipeline : Pipeline) (plans : List FuncPlan) (at : ℕ) (behind : List Standing) (wanted : LoopPlace)
-    → place_computed pipeline plans at behind said ≡ places.At wanted → IsHost pipeline plans at wanted
-computed_host computed.Root pipeline plans at behind wanted e = cc
-computed_host (computed.At names) pipeline plans at behind wanted e = host_by (host pipeline plans at names) pipeline plans at names behind wanted refl e
+computed_consumer : (said : Computed) (pipeline : Pipeline) (plans : List FuncPlan) (at : ℕ) (behind : List Standing) (wanted : LoopPlace)
+    → place_computed pipeline plans at behind said ≡ places.At wanted → IsConsumer pipeline plans at wanted
+computed_consumer computed.Root pipeline plans at behind wanted e = cc
+computed_consumer (computed.At names) pipeline plans at behind wanted e = consumer_by (consumer pipeline plans at names) pipeline plans at names behind wanted refl e
 
-host_of_line : (is_output : Bool) (compute : Option ComputeLine) (pipeline : Pipeline) (plans : List FuncPlan) (at : ℕ) (behind : List Standing) (wanted : LoopPlace)
-    → cond is_output places.Root (place_of pipeline plans at behind compute) ≡ places.At wanted → IsHost pipeline plans at wanted
-host_of_line true compute pipeline plans at behind wanted e = cc
-host_of_line false None pipeline plans at behind wanted e = cc
-host_of_line false (Some line) pipeline plans at behind wanted e = computed_host line.computed pipeline plans at behind wanted e
+consumer_of_line : (is_output : Bool) (compute : Option ComputeLine) (pipeline : Pipeline) (plans : List FuncPlan) (at : ℕ) (behind : List Standing) (wanted : LoopPlace)
+    → cond is_output places.Root (place_of pipeline plans at behind compute) ≡ places.At wanted → IsConsumer pipeline plans at wanted
+consumer_of_line true compute pipeline plans at behind wanted e = cc
+consumer_of_line false None pipeline plans at behind wanted e = cc
+consumer_of_line false (Some line) pipeline plans at behind wanted e = computed_consumer line.computed pipeline plans at behind wanted e
 
-pub are_hosted : (pipeline : Pipeline) (plans : List FuncPlan) (at : ℕ) (rest : List FuncPlan) → Numbered (IsHosted pipeline plans) at (standings_from pipeline plans at rest)
-are_hosted pipeline plans at [] = tt
-are_hosted pipeline plans at (first ∷ others) = (
-  λ wanted e. host_of_line (at == pipeline.output.func) first.compute pipeline plans at (standings_from pipeline plans (at + 1) others) wanted e,
-  are_hosted pipeline plans (at + 1) others,
+pub are_produced : (pipeline : Pipeline) (plans : List FuncPlan) (at : ℕ) (rest : List FuncPlan) → Numbered (IsProduced pipeline plans) at (standings_from pipeline plans at rest)
+are_produced pipeline plans at [] = tt
+are_produced pipeline plans at (first ∷ others) = (
+  λ wanted e. consumer_of_line (at == pipeline.output.func) first.compute pipeline plans at (standings_from pipeline plans (at + 1) others) wanted e,
+  are_produced pipeline plans (at + 1) others,
 )

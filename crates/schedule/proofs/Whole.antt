@@ -1,8 +1,6 @@
 -- A text that is read means a schedule that keeps all rules.
 use Rattle.std.proofs.Common.{◌≡◌, ℕ, ◌+◌, List, Option, Some, None, Result, Ok, Err, refl, subst, arith}
-use Rattle.line_text.specs.Lines.{lines_of}
-use Rattle.line_text.specs.LineReading.{taken_from}
-use Rattle.line_text.specs.Reading.{◌>>=◌, FailsAt}
+use Rattle.line_text.specs.Lines.{lines_of, taken_from, ◌>>=◌, FailsAt}
 use Rattle.line_text.specs.declared.read_errors.LocatedError.{LocatedError}
 use Rattle.line_text.specs.declared.read_errors.LocatedError.TheVariants as places
 use Rattle.halide_pipeline.specs.Pipelines.{Pipeline}
@@ -10,14 +8,13 @@ use Rattle.halide_pipeline.specs.WellFormed.{IsWellFormed}
 use Rattle.schedule_lines.specs.declared.faults.ScheduleFault.{ScheduleFault}
 use Rattle.schedule.specs.declared.readers.Reader.{Reader}
 use Rattle.schedule.specs.declared.schedules.Schedule.{Schedule}
-use Rattle.schedule.specs.Accepted.{Pairwise, IsHosted, IsPlan, IsAccepted}
+use Rattle.schedule.specs.Accepted.{Pairwise, IsProduced, IsPlan, IsAccepted}
 use Rattle.schedule.specs.Legal.{verdict}
-use Rattle.schedule.specs.Reading.{start, taken}
-use Rattle.schedule.specs.Schedules.{finished_as, finished, read}
+use Rattle.schedule.specs.Reading.{start, taken, finished_as, finished, read}
 use Rattle.schedule.specs.Standing.{standings, standings_from}
 use Rattle.schedule.proofs.KeptPlans.{lines_keep, plans_begun}
-use Rattle.schedule.proofs.Uses.{numbered_at, hosts_at_root, uses_lie_within}
-use Rattle.schedule.proofs.Verdicts.{are_kept, funcs_keep, have_lines, are_hosted}
+use Rattle.schedule.proofs.Uses.{numbered_at, consumers_at_root, uses_lie_within}
+use Rattle.schedule.proofs.Verdicts.{are_kept, funcs_keep, have_lines, are_produced}
 
 accepted_by : (wrong : Option (ℕ × ScheduleFault)) (pipeline : Pipeline) (reader : Reader) (schedule : Schedule) → verdict (standings pipeline reader.plans) reader.plans ≡ wrong
     → finished_as reader (standings pipeline reader.plans) wrong ≡ Ok schedule → Pairwise IsPlan pipeline.funcs reader.plans → IsAccepted pipeline schedule
@@ -25,17 +22,17 @@ unfolding standings
 accepted_by (Some wrong) pipeline reader schedule is e plans = cc
 accepted_by None pipeline reader schedule is e plans =
     let found = standings_from pipeline reader.plans 0 reader.plans in
-    let hosted = are_hosted pipeline reader.plans 0 reader.plans in
+    let produced = are_produced pipeline reader.plans 0 reader.plans in
     let here : Schedule = record { funcs = reader.plans; standings = found } in
     let schedule_is : here ≡ schedule = cc in
     subst (IsAccepted pipeline) schedule_is (record {
       plans = plans;
       standings = refl;
       legal = funcs_keep reader.plans found (have_lines pipeline reader.plans 0 reader.plans) (are_kept reader.plans found is);
-      hosts = hosted;
-      hosts_at_root = hosts_at_root pipeline reader.plans (λ k own at.
+      consumers = produced;
+      consumers_at_root = consumers_at_root pipeline reader.plans (λ k own at.
           let here : 0 + k ≡ k = omega arith in
-          subst (λ (n : ℕ). IsHosted pipeline reader.plans n own) here (numbered_at (IsHosted pipeline reader.plans) 0 found hosted k own at));
+          subst (λ (n : ℕ). IsProduced pipeline reader.plans n own) here (numbered_at (IsProduced pipeline reader.plans) 0 found produced k own at));
       uses = uses_lie_within pipeline reader.plans;
     })
 

@@ -8,7 +8,7 @@ use Rattle.halide_pipeline.specs.Pipelines.{Pipeline}
 use Rattle.schedule_lines.specs.declared.stages.Loop.{Loop}
 use Rattle.schedule_lines.specs.declared.stages.Mark.TheVariants as marks
 use Rattle.schedule_lines.specs.declared.stages.Stage.{Stage}
-use Rattle.schedule_lines.specs.Loops.{find, is_marked}
+use Rattle.schedule_lines.specs.Directives.{find, is_marked}
 use Rattle.schedule_lines.specs.Making.{IsStage}
 use Rattle.schedule.specs.declared.legality.LoopRule.{LoopRule}
 use Rattle.schedule.specs.declared.plans.FuncPlan.{FuncPlan}
@@ -19,7 +19,7 @@ use Rattle.schedule.specs.declared.standings.Standing.{Standing}
 use Rattle.schedule.specs.Legal.{breaks, is_empty, is_root, is_inlined, is_nowhere}
 use Rattle.schedule.specs.Plans.{pure_loops, update_loops}
 use Rattle.schedule.specs.Standing as standing
-use Rattle.schedule.specs.Uses.{HasHostAtRoot, HasUsesWithin}
+use Rattle.schedule.specs.Uses.{HasConsumerAtRoot, HasUsesWithin}
 
 -- Two lists of one length, of which each two in the same place are so.
 abbrev pub Pairwise : {A B : Type 0} → (A → B → Type 0) → List A → List B → Type 0
@@ -69,20 +69,20 @@ IsLegal plan own = own.is_reached ≡ true → IsComputed plan own
 
 -- ---- the loop at which a Func is computed is one of a later Func at root without updates, and not vectorized
 
-pub record IsHost (pipeline : Pipeline) (plans : List FuncPlan) (at : ℕ) (host : LoopPlace) : Type 0 where
-  pub later : at < host.func
+pub record IsConsumer (pipeline : Pipeline) (plans : List FuncPlan) (at : ℕ) (consumer : LoopPlace) : Type 0 where
+  pub later : at < consumer.func
   pub plan : FuncPlan
-  pub plan_is : slice_get plans host.func ≡ Some plan
-  pub root : standing.is_root pipeline host.func plan ≡ true
+  pub plan_is : slice_get plans consumer.func ≡ Some plan
+  pub root : standing.is_root pipeline consumer.func plan ≡ true
   pub no_updates : length plan.updates ≡ 0
   pub name : List ℕ
   pub loop : Loop
   pub loop_is : find name plan.pure.loops ≡ Some loop
-  pub id_is : loop.id ≡ host.inside
+  pub id_is : loop.id ≡ consumer.inside
   pub unvectorized : is_marked marks.Vectorized loop ≡ false
 
-abbrev pub IsHosted : Pipeline → List FuncPlan → ℕ → Standing → Type 0
-IsHosted pipeline plans at own = (host : LoopPlace) → own.place ≡ places.At host → IsHost pipeline plans at host
+abbrev pub IsProduced : Pipeline → List FuncPlan → ℕ → Standing → Type 0
+IsProduced pipeline plans at own = (consumer : LoopPlace) → own.place ≡ places.At consumer → IsConsumer pipeline plans at consumer
 
 -- ---- the whole
 
@@ -90,8 +90,8 @@ pub record IsAccepted (pipeline : Pipeline) (schedule : Schedule) : Type 0 where
   pub plans : Pairwise IsPlan pipeline.funcs schedule.funcs
   pub standings : schedule.standings ≡ standing.standings pipeline schedule.funcs
   pub legal : Pairwise IsLegal schedule.funcs schedule.standings
-  pub hosts : Numbered (IsHosted pipeline schedule.funcs) 0 schedule.standings
-  -- the host of a Func that the output reaches is reached, and stands at root
-  pub hosts_at_root : Numbered (HasHostAtRoot schedule.standings) 0 schedule.standings
+  pub consumers : Numbered (IsProduced pipeline schedule.funcs) 0 schedule.standings
+  -- the consumer of a Func that the output reaches is reached, and stands at root
+  pub consumers_at_root : Numbered (HasConsumerAtRoot schedule.standings) 0 schedule.standings
   -- what reads a Func that is computed at a loop stands within the loop
   pub uses : Numbered (HasUsesWithin pipeline schedule.funcs schedule.standings) 0 schedule.standings

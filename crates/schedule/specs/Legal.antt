@@ -17,7 +17,7 @@ use Rattle.schedule_lines.specs.declared.stages.Stage.{Stage}
 use Rattle.schedule.specs.declared.standings.Place.{Place}
 use Rattle.schedule.specs.declared.standings.Place.TheVariants as places
 use Rattle.schedule.specs.declared.standings.Standing.{Standing}
-use Rattle.schedule_lines.specs.Loops.{is_marked, is_reduction}
+use Rattle.schedule_lines.specs.Directives.{is_marked, is_reduction}
 
 -- ---- the rules of marked loops
 

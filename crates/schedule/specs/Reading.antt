@@ -1,12 +1,10 @@
 -- One line after the other: what each says of the Funcs, or its least fault.
 -- This project's own.
-use Rattle.std.specs.Prelude.{ℕ, ◌+◌, ◌-◌, ◌==◌, nat_le, nat_lt, if◌then◌else◌, List, [], ◌∷◌, length, map, slice_get, slice_set, Option, Some, None, is_some, Result, Ok, Err}
-use Rattle.line_text.specs.Classes.{is_digit}
-use Rattle.line_text.specs.Reading.{◌>>=◌}
+use Rattle.std.specs.Prelude.{ℕ, ◌+◌, ◌-◌, ◌==◌, nat_le, nat_lt, if◌then◌else◌, List, [], ◌∷◌, length, map, slice_get, slice_set, Option, Some, None, is_some, Result, Ok, Err, Bool, false}
+use Rattle.line_text.specs.Lines.{is_digit, ◌>>=◌, taken_from, lines_of}
 use Rattle.halide_pipeline.specs.declared.expressions.Source.{Source}
 use Rattle.halide_pipeline.specs.declared.expressions.Source.TheVariants as sources
-use Rattle.halide_pipeline.specs.Pipelines.{Pipeline}
-use Rattle.halide_pipeline.specs.Names.{lookup}
+use Rattle.halide_pipeline.specs.Pipelines.{Pipeline, lookup}
 use Rattle.schedule_lines.specs.declared.faults.ScheduleFault.{ScheduleFault}
 use Rattle.schedule_lines.specs.declared.faults.ScheduleFault.TheVariants as fault
 use Rattle.schedule_lines.specs.declared.lines.Computed.{Computed}
@@ -16,16 +14,20 @@ use Rattle.schedule_lines.specs.declared.lines.Line.{Line}
 use Rattle.schedule_lines.specs.declared.lines.Line.TheVariants as lines
 use Rattle.schedule_lines.specs.declared.lines.LoopDirective.{LoopDirective}
 use Rattle.schedule_lines.specs.declared.lines.Subject.{Subject}
+use Rattle.schedule_lines.specs.declared.stages.Stage.{Stage}
+use Rattle.schedule_lines.specs.declared.stages.StageName.{StageName}
+use Rattle.schedule_lines.specs.Directives.{directed}
+use Rattle.schedule_lines.specs.Lines.{line_of, text_of, words_of}
 use Rattle.schedule.specs.declared.plans.FuncPlan.{FuncPlan}
 use Rattle.schedule.specs.declared.readers.Reader.{Reader}
 use Rattle.schedule.specs.declared.readers.Target.{Target}
 use Rattle.schedule.specs.declared.readers.Target.TheVariants as targets
-use Rattle.schedule_lines.specs.declared.stages.Stage.{Stage}
-use Rattle.schedule_lines.specs.declared.stages.StageName.{StageName}
-use Rattle.schedule_lines.specs.Directives.{directed}
-use Rattle.schedule_lines.specs.Lines.{line_of}
-use Rattle.schedule.specs.Plans.{plan_of, stage, with_stage, with_compute}
-use Rattle.schedule_lines.specs.Words.{text_of, words_of}
+use Rattle.schedule.specs.Plans.{plan_of, stage as plan_stage, with_stage, with_compute}
+use Rattle.schedule.specs.declared.schedules.Schedule.{Schedule}
+use Rattle.schedule.specs.declared.standings.Standing.{Standing}
+use Rattle.schedule.specs.Legal.{verdict}
+use Rattle.schedule.specs.Plans as plans
+use Rattle.schedule.specs.Standing.{standings}
 
 -- ---- what the first word names: an input, or `f` or `f.0` to `f.3` of a Func f
 
@@ -82,7 +84,7 @@ new_stage_of update line directive None = Err fault.UnknownStage
 new_stage_of update line directive (Some own) = directed (is_some update) own line directive
 
 abbrev pub new_stage : FuncPlan → Option ℕ → ℕ → LoopDirective → Result Stage ScheduleFault
-new_stage plan update line directive = new_stage_of update line directive (stage plan update)
+new_stage plan update line directive = new_stage_of update line directive (plan_stage plan update)
 
 abbrev pub directed_of : Reader → StageName → LoopDirective → Option FuncPlan → Result Reader ScheduleFault
 directed_of reader name directive None = Err fault.UnknownStage
@@ -117,3 +119,37 @@ taken pipeline reader line =
 -- before the first line
 abbrev pub start : Pipeline → Reader
 start pipeline = record { lines = 0; plans = map plan_of pipeline.funcs }
+
+-- ---- The schedule that a text means for a pipeline, or its fault and that fault's line.
+
+abbrev pub finished_as : Reader → List Standing → Option (ℕ × ScheduleFault) → Result Schedule (ℕ × ScheduleFault)
+finished_as reader found None = Ok (record { funcs = reader.plans; standings = found })
+finished_as reader found (Some wrong) = Err wrong
+
+abbrev pub judged : Reader → List Standing → Result Schedule (ℕ × ScheduleFault)
+judged reader found = finished_as reader found (verdict found reader.plans)
+
+-- behind the last line
+abbrev pub finished : Pipeline → Reader → Result Schedule (ℕ × ScheduleFault)
+finished pipeline reader = judged reader (standings pipeline reader.plans)
+
+-- The first faulty line decides, and in it the least fault. Where no line is faulty, what its lines make of the
+-- loops is judged.
+unfoldable pub read : Pipeline → List ℕ → Result Schedule (ℕ × ScheduleFault)
+read pipeline text = taken_from (taken pipeline) 1 (start pipeline) (lines_of text) >>= λ reader. finished pipeline reader
+
+-- ---- readers
+
+abbrev pub stage_of : Option ℕ → Option FuncPlan → Option Stage
+stage_of update None = None
+stage_of update (Some plan) = plans.stage plan update
+
+abbrev pub stage : Schedule → StageName → Option Stage
+stage schedule name = stage_of name.update (slice_get schedule.funcs name.func)
+
+abbrev pub reached_of : Option Standing → Bool
+reached_of None = false
+reached_of (Some own) = own.is_reached
+
+abbrev pub is_reached : Schedule → ℕ → Bool
+is_reached schedule func = reached_of (slice_get schedule.standings func)

@@ -5,22 +5,68 @@
 use Rattle.std.specs.Prelude.{ℕ, ◌+◌, Bool, true, false, not, ◌&&◌, ◌||◌, ◌==◌, nat_lt, if◌then◌else◌, List, [], ◌∷◌, length, slice_get, Option, Some, None}
 use Rattle.halide_pipeline.specs.declared.expressions.Source.{Source}
 use Rattle.halide_pipeline.specs.declared.expressions.Source.TheVariants as sources
-use Rattle.halide_pipeline.specs.Pipelines.{Pipeline}
-use Rattle.halide_pipeline.specs.Names.{lookup}
+use Rattle.halide_pipeline.specs.Pipelines.{Pipeline, lookup}
+use Rattle.halide_pipeline.specs.declared.definitions.Func.{Func}
+use Rattle.halide_pipeline.specs.declared.definitions.Update.{Update}
+use Rattle.halide_pipeline.specs.declared.expressions.Expr.{Expr, fold-Expr}
+use Rattle.halide_pipeline.specs.declared.expressions.Expr.TheOpen.{Expr-F}
 use Rattle.schedule_lines.specs.declared.lines.Computed.{Computed}
 use Rattle.schedule_lines.specs.declared.lines.Computed.TheVariants as computed
 use Rattle.schedule_lines.specs.declared.lines.LoopNames.{LoopNames}
-use Rattle.schedule.specs.declared.plans.ComputeLine.{ComputeLine}
-use Rattle.schedule.specs.declared.plans.FuncPlan.{FuncPlan}
 use Rattle.schedule_lines.specs.declared.stages.Loop.{Loop}
 use Rattle.schedule_lines.specs.declared.stages.LoopId.{LoopId}
-use Rattle.schedule_lines.specs.declared.stages.Mark.TheVariants as marks
+use Rattle.schedule.specs.declared.plans.ComputeLine.{ComputeLine}
+use Rattle.schedule.specs.declared.plans.FuncPlan.{FuncPlan}
 use Rattle.schedule.specs.declared.standings.LoopPlace.{LoopPlace}
 use Rattle.schedule.specs.declared.standings.Place.{Place}
+use Rattle.schedule_lines.specs.declared.stages.Mark.TheVariants as marks
+use Rattle.schedule_lines.specs.Directives.{find, is_marked, same_id}
 use Rattle.schedule.specs.declared.standings.Place.TheVariants as places
 use Rattle.schedule.specs.declared.standings.Standing.{Standing}
-use Rattle.schedule.specs.Calls.{place_calls}
-use Rattle.schedule_lines.specs.Loops.{find, is_marked, same_id}
+use Rattle.halide_pipeline.specs.declared.expressions.Expr.TheOpen as layer
+
+-- ---- Which Funcs a definition calls, in its text.
+
+abbrev pub is_func : ℕ → Source → Bool
+is_func func (sources.Input place) = false
+is_func func (sources.Func place) = place == func
+
+abbrev pub calls_at : ℕ → Expr-F Bool → Bool
+calls_at func (layer.Number n) = false
+calls_at func (layer.Variable own) = false
+calls_at func (layer.Binary op a b) = a || b
+calls_at func (layer.Divide a c) = a
+calls_at func (layer.Remainder a c) = a
+calls_at func (layer.Select c a b) = c || a || b
+calls_at func (layer.Call1 s a) = is_func func s || a
+calls_at func (layer.Call2 s a b) = is_func func s || a || b
+
+-- An expression calls the Func at this place.
+unfoldable pub calls : ℕ → Expr → Bool
+calls func e = fold-Expr Bool (calls_at func) e
+
+abbrev pub second_calls : ℕ → Option Expr → Bool
+second_calls func None = false
+second_calls func (Some e) = calls func e
+
+abbrev pub update_calls : ℕ → Update → Bool
+update_calls func update = calls func update.left_x || second_calls func update.left_y || calls func update.right
+
+abbrev pub updates_call : ℕ → List Update → Bool
+updates_call func [] = false
+updates_call func (first ∷ others) = update_calls func first || updates_call func others
+
+-- A Func calls another, in its pure definition or in its updates.
+unfoldable pub func_calls : ℕ → Func → Bool
+func_calls func own = calls func own.pure || updates_call func own.updates
+
+abbrev pub place_calls_of : ℕ → Option Func → Bool
+place_calls_of func None = false
+place_calls_of func (Some own) = func_calls func own
+
+-- The Func at a place calls the Func at another.
+unfoldable pub place_calls : Pipeline → ℕ → ℕ → Bool
+place_calls pipeline from func = place_calls_of func (slice_get pipeline.funcs from)
 
 -- ---- reads
 
@@ -55,24 +101,24 @@ abbrev pub unvectorized : ℕ → Option Loop → Option LoopPlace
 unvectorized func None = None
 unvectorized func (Some own) = if is_marked marks.Vectorized own then None else Some (record { func = func; inside = own.id })
 
-abbrev pub is_host : Pipeline → ℕ → FuncPlan → Bool
-is_host pipeline func plan = is_root pipeline func plan && length plan.updates == 0
+abbrev pub is_consumer : Pipeline → ℕ → FuncPlan → Bool
+is_consumer pipeline func plan = is_root pipeline func plan && length plan.updates == 0
 
 abbrev pub loop_in : Pipeline → ℕ → List ℕ → FuncPlan → Option LoopPlace
-loop_in pipeline func name plan = if is_host pipeline func plan then unvectorized func (find name plan.pure.loops) else None
+loop_in pipeline func name plan = if is_consumer pipeline func plan then unvectorized func (find name plan.pure.loops) else None
 
 abbrev pub loop_of : Pipeline → ℕ → List ℕ → Option FuncPlan → Option LoopPlace
 loop_of pipeline func name None = None
 loop_of pipeline func name (Some plan) = loop_in pipeline func name plan
 
-abbrev pub host_of : Pipeline → List FuncPlan → ℕ → List ℕ → Option Source → Option LoopPlace
-host_of pipeline plans at name None = None
-host_of pipeline plans at name (Some (sources.Input place)) = None
-host_of pipeline plans at name (Some (sources.Func func)) = if nat_lt at func then loop_of pipeline func name (slice_get plans func) else None
+abbrev pub consumer_of : Pipeline → List FuncPlan → ℕ → List ℕ → Option Source → Option LoopPlace
+consumer_of pipeline plans at name None = None
+consumer_of pipeline plans at name (Some (sources.Input place)) = None
+consumer_of pipeline plans at name (Some (sources.Func func)) = if nat_lt at func then loop_of pipeline func name (slice_get plans func) else None
 
 -- the loop that these names name, behind the Func at a place
-abbrev pub host : Pipeline → List FuncPlan → ℕ → LoopNames → Option LoopPlace
-host pipeline plans at names = host_of pipeline plans at names.inside (lookup names.func pipeline.names)
+abbrev pub consumer : Pipeline → List FuncPlan → ℕ → LoopNames → Option LoopPlace
+consumer pipeline plans at names = consumer_of pipeline plans at names.inside (lookup names.func pipeline.names)
 
 -- ---- uses outside of a loop
 
@@ -95,20 +141,20 @@ is_within plans other own = own.func == other.func && comes_first own.inside oth
 -- The uses that a Func makes stand outside of a loop. Those of an inlined Func stand where others call it, and those
 -- of a Func computed at a loop stand there.
 abbrev pub is_away : Pipeline → List FuncPlan → LoopPlace → ℕ → Place → List Bool → Bool
-is_away pipeline plans host at places.Inlined behind = is_called pipeline at (at + 1) behind
-is_away pipeline plans host at (places.At own) behind = not (is_within plans host own)
-is_away pipeline plans host at places.Root behind = true
-is_away pipeline plans host at places.Nowhere behind = true
+is_away pipeline plans consumer at places.Inlined behind = is_called pipeline at (at + 1) behind
+is_away pipeline plans consumer at (places.At own) behind = not (is_within plans consumer own)
+is_away pipeline plans consumer at places.Root behind = true
+is_away pipeline plans consumer at places.Nowhere behind = true
 
 abbrev pub is_outside : Pipeline → List FuncPlan → LoopPlace → ℕ → Standing → List Bool → Bool
-is_outside pipeline plans host at own behind = own.is_reached && (not (at == host.func) && is_away pipeline plans host at own.place behind)
+is_outside pipeline plans consumer at own behind = own.is_reached && (not (at == consumer.func) && is_away pipeline plans consumer at own.place behind)
 
 -- of the Funcs from a place on, whether the output reaches each and the uses that it makes stand outside of a loop
 abbrev pub outside : Pipeline → List FuncPlan → LoopPlace → ℕ → List Standing → List Bool
-outside pipeline plans host at [] = []
-outside pipeline plans host at (first ∷ others) =
-    let behind = outside pipeline plans host (at + 1) others in
-    is_outside pipeline plans host at first behind ∷ behind
+outside pipeline plans consumer at [] = []
+outside pipeline plans consumer at (first ∷ others) =
+    let behind = outside pipeline plans consumer (at + 1) others in
+    is_outside pipeline plans consumer at first behind ∷ behind
 
 -- ---- where a Func is computed
 
@@ -120,7 +166,7 @@ place_at pipeline plans at behind (Some own) =
 
 abbrev pub place_computed : Pipeline → List FuncPlan → ℕ → List Standing → Computed → Place
 place_computed pipeline plans at behind computed.Root = places.Root
-place_computed pipeline plans at behind (computed.At names) = place_at pipeline plans at behind (host pipeline plans at names)
+place_computed pipeline plans at behind (computed.At names) = place_at pipeline plans at behind (consumer pipeline plans at names)
 
 abbrev pub place_of : Pipeline → List FuncPlan → ℕ → List Standing → Option ComputeLine → Place
 place_of pipeline plans at behind None = places.Inlined

@@ -3,10 +3,10 @@
 //!
 //! - [`plans`]: what is said of each Func (`specs/Plans.antt`).
 //! - [`readers`]: one line after the other (`specs/Reading.antt`).
-//! - [`calls`], [`standings`]: which Funcs the output reaches, and where each is computed (`specs/Calls.antt`,
-//!   `specs/Standing.antt`); where the reads of a Func at a loop lie (`specs/Uses.antt`).
+//! - [`calls`], [`standings`]: which Funcs the output reaches, and where each is computed
+//!   (`specs/Standing.antt`); where the reads of a Func at a loop lie (`specs/Uses.antt`).
 //! - [`legality`]: what is wrong with the final loops (`specs/Legal.antt`).
-//! - [`schedules`]: the whole (`specs/Schedules.antt`).
+//! - [`schedules`]: the whole (`specs/Reading.antt`).
 #![tactic(auto)]
 
 pub mod calls;

@@ -2,8 +2,8 @@
 
 ghost use Rattle.std.specs.Prelude.{◌≡◌, IfOk};
 ghost use Rattle.halide_pipeline.specs.WellFormed.{IsWellFormed};
-ghost use Rattle.line_text.specs.LineReading.{Takes};
-ghost use Rattle.line_text.specs.Reading.{Gives};
+ghost use Rattle.line_text.specs.Lines.{Takes};
+ghost use Rattle.line_text.specs.Lines.{Gives};
 ghost use Rattle.schedule.specs.Reading as spec;
 
 use crate::plans::{ComputeLine, FuncPlan, Plans, plans_of};

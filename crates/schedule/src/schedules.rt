@@ -3,11 +3,11 @@
 ghost use Rattle.std.specs.Prelude.{◌≡◌, IfOk, slice_get};
 ghost use Rattle.std.specs.Option.{option_copied};
 ghost use Rattle.line_text.specs.Lines.{lines_of};
-ghost use Rattle.line_text.specs.LineReading.{Reads, taken_from};
-ghost use Rattle.line_text.specs.Reading.{GivesLocated};
+ghost use Rattle.line_text.specs.Lines.{Reads, taken_from};
+ghost use Rattle.line_text.specs.Lines.{GivesLocated};
 ghost use Rattle.schedule.specs.Accepted.{IsAccepted};
 ghost use Rattle.schedule.specs.Reading.{taken};
-ghost use Rattle.schedule.specs.Schedules as spec;
+ghost use Rattle.schedule.specs.Reading as spec;
 
 use crate::legality::verdict;
 use crate::plans::Plans;
@@ -118,7 +118,7 @@ fn finished(
 /// The number of the first faulty line, from 1, and its least fault. Where no line is faulty, the first rule that
 /// the final loops break and the first line that breaks it, or line 0 for a Func with updates or loop directives
 /// that is inlined. Memory ran out.
-#[tactic(auto, unfolding(crate::specs::Schedules::read))]
+#[tactic(auto, unfolding(crate::specs::Reading::read))]
 pub fn read(
     text: &str,
     pipeline: &Pipeline,

@@ -82,8 +82,8 @@ fn is_root_line(compute: &Option<ComputeLine>) -> bool
 }
 
 /// Whether a Func can be the one at whose loops others are computed.
-fn is_host(pipeline: &Pipeline, func: usize, plan: &FuncPlan) -> bool
-    ensures { result ≡ spec.is_host pipeline.now func plan.now }
+fn is_consumer(pipeline: &Pipeline, func: usize, plan: &FuncPlan) -> bool
+    ensures { result ≡ spec.is_consumer pipeline.now func plan.now }
 {
     (func == pipeline.output().func || is_root_line(&plan.compute)) && plan.updates.len() == 0
 }
@@ -92,7 +92,7 @@ fn is_host(pipeline: &Pipeline, func: usize, plan: &FuncPlan) -> bool
 fn loop_in(pipeline: &Pipeline, func: usize, name: &[u8], plan: &FuncPlan) -> Option<LoopPlace>
     ensures { result ≡ spec.loop_in pipeline.now func name.now plan.now }
 {
-    if !is_host(pipeline, func, plan) {
+    if !is_consumer(pipeline, func, plan) {
         return None;
     }
     match find(plan.pure.loops.as_slice(), name) {
@@ -105,8 +105,13 @@ fn loop_in(pipeline: &Pipeline, func: usize, name: &[u8], plan: &FuncPlan) -> Op
 }
 
 /// The loop that these names name, behind the Func at a place.
-fn host(pipeline: &Pipeline, plans: &[FuncPlan], own: usize, names: &LoopNames) -> Option<LoopPlace>
-    ensures { result ≡ spec.host pipeline.now plans.now own names.now }
+fn consumer(
+    pipeline: &Pipeline,
+    plans: &[FuncPlan],
+    own: usize,
+    names: &LoopNames,
+) -> Option<LoopPlace>
+    ensures { result ≡ spec.consumer pipeline.now plans.now own names.now }
 {
     match pipeline.source(names.func.as_slice()) {
         Some(Source::Func(func)) if own < func => match at(plans, func) {
@@ -152,17 +157,17 @@ fn is_within(plans: &[FuncPlan], other: LoopPlace, own: LoopPlace) -> bool
 fn is_away(
     pipeline: &Pipeline,
     plans: &[FuncPlan],
-    host: LoopPlace,
+    consumer: LoopPlace,
     func: usize,
     place: Place,
     behind: &[bool],
 ) -> bool
     requires { func + 1 + length behind.now < 2 ^ 64 }
-    ensures { result ≡ spec.is_away pipeline.now plans.now host func place behind.now }
+    ensures { result ≡ spec.is_away pipeline.now plans.now consumer func place behind.now }
 {
     match place {
         Place::Inlined => is_called(pipeline, func, func + 1, behind),
-        Place::At(own) => !is_within(plans, host, own),
+        Place::At(own) => !is_within(plans, consumer, own),
         Place::Root | Place::Nowhere => true,
     }
 }
@@ -173,21 +178,28 @@ fn outside(
     alloc: Global,
     pipeline: &Pipeline,
     plans: &[FuncPlan],
-    host: LoopPlace,
+    consumer: LoopPlace,
     func: usize,
     behind: &[Standing],
 ) -> Result<Vec<bool>, AllocError>
     requires { func + length behind.now < 2 ^ 64 }
-    ensures flags { IfOk result (λ flags. flags.items ≡ spec.outside pipeline.now plans.now host func behind.now) }
+    ensures flags { IfOk result (λ flags. flags.items ≡ spec.outside pipeline.now plans.now consumer func behind.now) }
     ensures count { IfOk result (λ flags. length flags.items ≡ length behind.now) }
 {
     match behind {
         [] => Ok(Vec::new(alloc)),
         [first, others @ ..] => {
-            let mut flags = outside(alloc, pipeline, plans, host, func + 1, others)?;
+            let mut flags = outside(alloc, pipeline, plans, consumer, func + 1, others)?;
             let flag = first.is_reached
-                && func != host.func
-                && is_away(pipeline, plans, host, func, first.place, flags.as_slice());
+                && func != consumer.func
+                && is_away(
+                    pipeline,
+                    plans,
+                    consumer,
+                    func,
+                    first.place,
+                    flags.as_slice(),
+                );
             flags.insert(0, flag)?;
             Ok(flags)
         }
@@ -205,9 +217,9 @@ fn place_at(
 ) -> Result<Place, AllocError>
     requires { func + 1 + length behind.now < 2 ^ 64 }
     ensures { IfOk result (λ place. place ≡ spec.place_at pipeline.now plans.now func behind.now
-        (spec.host pipeline.now plans.now func names.now)) }
+        (spec.consumer pipeline.now plans.now func names.now)) }
 {
-    match host(pipeline, plans, func, names) {
+    match consumer(pipeline, plans, func, names) {
         None => Ok(Place::Nowhere),
         Some(own) => {
             let flags = outside(alloc, pipeline, plans, own, func + 1, behind)?;

@@ -2,7 +2,7 @@
 use Rattle.std.proofs.Common.{◌≡◌, ℕ, ◌+◌, suc, Bool, true, false, not, cond, ◌==◌, List, [], ◌∷◌, ◌++◌, take, drop, refl, ap, arith}
 use Rattle.std.specs.List.{prefix_len}
 use Rattle.line_text.specs.Lines.{joined, after_first}
-use Rattle.schedule_lines.specs.Words.{words_of, word_of, is_in_word, goes_on}
+use Rattle.schedule_lines.specs.Lines.{words_of, word_of, is_in_word, goes_on}
 
 -- bytes begin so with their first word
 abbrev pub Splits : List ℕ → Type 0

@@ -4,8 +4,7 @@ use Rattle.std.specs.Prelude.{is_some}
 use Rattle.std.specs.Str.{bytes_eq}
 use Rattle.std.proofs.lemmas.Slice.Eq.{bytes_eq-Decides}
 use Rattle.schedule_lines.specs.declared.stages.Loop.{Loop}
-use Rattle.schedule_lines.specs.Loops.{find}
-use Rattle.schedule_lines.specs.Directives.{is_known}
+use Rattle.schedule_lines.specs.Directives.{find, is_known}
 use Rattle.schedule_lines.specs.Making.{total, has_name}
 
 pub same_bytes : (xs ys : List ℕ) → bytes_eq xs ys ≡ true → xs ≡ ys

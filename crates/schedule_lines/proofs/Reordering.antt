@@ -4,8 +4,7 @@ use Rattle.std.specs.Prelude.{◌||◌, is_some}
 use Rattle.std.specs.Str.{bytes_eq}
 use Rattle.std.proofs.lemmas.Bool.{and_parts, or_parts}
 use Rattle.schedule_lines.specs.declared.stages.Loop.{Loop}
-use Rattle.schedule_lines.specs.Loops.{find}
-use Rattle.schedule_lines.specs.Directives.{is_known, are_known, is_among, is_twice_among, has_twice, or_else, find_or, reordered_from, reordered}
+use Rattle.schedule_lines.specs.Directives.{find, are_known, is_among, is_twice_among, has_twice, or_else, find_or, reordered_from, reordered, is_known}
 use Rattle.schedule_lines.specs.Making.{total, has_name, Differ, SameLoops}
 use Rattle.schedule_lines.proofs.Names.{turned, total-append}
 use Rattle.schedule_lines.proofs.Replacing.{IsBetween, between}

@@ -2,8 +2,7 @@
 use Rattle.std.proofs.Common.{◌≡◌, ℕ, Bool, true, false, cond, List, [], ◌∷◌, ◌++◌, Some, refl, ap}
 use Rattle.std.specs.Str.{bytes_eq}
 use Rattle.schedule_lines.specs.declared.stages.Loop.{Loop}
-use Rattle.schedule_lines.specs.Loops.{find}
-use Rattle.schedule_lines.specs.Directives.{replaced}
+use Rattle.schedule_lines.specs.Directives.{find, replaced}
 
 -- The loop with a name stands between others.
 pub record IsBetween (name : List ℕ) (loops : List Loop) (own : Loop) : Type 0 where

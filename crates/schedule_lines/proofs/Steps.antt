@@ -16,8 +16,7 @@ use Rattle.schedule_lines.specs.declared.stages.LoopId.{LoopId}
 use Rattle.schedule_lines.specs.declared.stages.LoopId.TheVariants as ids
 use Rattle.schedule_lines.specs.declared.stages.Marked.{Marked}
 use Rattle.schedule_lines.specs.declared.stages.Stage.{Stage}
-use Rattle.schedule_lines.specs.Loops.{find, same_id}
-use Rattle.schedule_lines.specs.Directives.{is_known, is_shift, open_of, parts, split_fault, split_loop, settled_split, split_of, are_known, has_twice, reordered, reductions, same_ids, reorder, with_mark, mark_loop, is_bad_unroll, mark_of, directed}
+use Rattle.schedule_lines.specs.Directives.{find, same_id, is_shift, open_of, parts, split_fault, split_loop, settled_split, split_of, are_known, has_twice, reordered, reductions, same_ids, reorder, with_mark, mark_loop, is_bad_unroll, mark_of, directed, is_known}
 use Rattle.schedule_lines.specs.Making.{total, has_name, is_stray, bare, SameLoops, IsMade, Parted, Marked as Remarked, Moved, IsStage}
 use Rattle.schedule_lines.proofs.Names.{same_bytes, total-append, unknown}
 use Rattle.schedule_lines.proofs.Replacing.{between}

@@ -1,6 +1,6 @@
 -- What a line does to the loops of its stage, and which faults it has. Loops stand innermost first.
 -- This project's own.
-use Rattle.std.specs.Prelude.{ℕ, Bool, true, false, not, ◌&&◌, ◌||◌, nat_le, nat_lt, if◌then◌else◌, List, [], ◌∷◌, ◌++◌, length, Option, Some, None, is_some, Result, Ok, Err}
+use Rattle.std.specs.Prelude.{ℕ, Bool, true, false, not, ◌&&◌, ◌||◌, nat_le, nat_lt, if◌then◌else◌, List, [], ◌∷◌, ◌++◌, length, Option, Some, None, is_some, Result, Ok, Err, ◌==◌}
 use Rattle.std.specs.Str.{bytes_eq}
 use Rattle.schedule_lines.specs.declared.faults.ScheduleFault.{ScheduleFault}
 use Rattle.schedule_lines.specs.declared.faults.ScheduleFault.TheVariants as fault
@@ -16,10 +16,51 @@ use Rattle.schedule_lines.specs.declared.stages.Marked.{Marked}
 use Rattle.schedule_lines.specs.declared.stages.Stage.{Stage}
 use Rattle.schedule_lines.specs.declared.stages.Tail.{Tail}
 use Rattle.schedule_lines.specs.declared.stages.Tail.TheVariants as tails
-use Rattle.schedule_lines.specs.Loops as loops
+use Rattle.halide_pipeline.specs.declared.expressions.Variable.{Variable}
+use Rattle.halide_pipeline.specs.declared.expressions.Variable.TheVariants as variables
+use Rattle.halide_pipeline.specs.Expressions.{same_variable}
 
+-- ---- Loops of a stage: how they are told apart and found.
+
+abbrev pub same_mark : Mark → Mark → Bool
+same_mark marks.Unrolled marks.Unrolled = true
+same_mark marks.Vectorized marks.Vectorized = true
+same_mark marks.Parallel marks.Parallel = true
+same_mark _ _ = false
+
+abbrev pub has_mark : Mark → Option Marked → Bool
+has_mark mark None = false
+has_mark mark (Some own) = same_mark own.mark mark
+
+abbrev pub is_marked : Mark → Loop → Bool
+is_marked mark own = has_mark mark own.marked
+
+abbrev pub same_id : LoopId → LoopId → Bool
+same_id (ids.Whole a) (ids.Whole b) = same_variable a b
+same_id (ids.Outer a) (ids.Outer b) = a == b
+same_id (ids.Inner a) (ids.Inner b) = a == b
+same_id _ _ = false
+
+abbrev pub is_reduction : Variable → Bool
+is_reduction variables.FirstReduction = true
+is_reduction variables.SecondReduction = true
+is_reduction _ = false
+
+-- the loop with a name
+abbrev pub find : List ℕ → List Loop → Option Loop
+find name [] = None
+find name (first ∷ others) = if bytes_eq first.name name then Some first else find name others
+
+-- There is a loop with the name.
 abbrev pub is_known : List ℕ → List Loop → Bool
-is_known name own = loops.is_known name own
+is_known name loops = is_some (find name loops)
+
+-- the innermost loop with a mark
+abbrev pub find_marked : Mark → List Loop → Option Loop
+find_marked mark [] = None
+find_marked mark (first ∷ others) = if is_marked mark first then Some first else find_marked mark others
+
+-- ---- directives
 
 -- the loops, with others in the place of the one with a name
 abbrev pub replaced : List ℕ → List Loop → List Loop → List Loop
@@ -32,7 +73,7 @@ open_of (Some own) = if is_some own.marked then None else Some own
 
 -- A marked loop is unknown to a split and to a second mark.
 abbrev pub find_open : List ℕ → List Loop → Option Loop
-find_open name own = open_of (loops.find name own)
+find_open name own = open_of (find name own)
 
 -- ---- a loop is split
 
@@ -98,7 +139,7 @@ or_else other None = other
 or_else other (Some own) = own
 
 abbrev pub find_or : List ℕ → List Loop → Loop → Loop
-find_or name own other = or_else other (loops.find name own)
+find_or name own other = or_else other (find name own)
 
 -- In the places of the loops that are named stand those with the names that are left, in the order of the names.
 -- The others keep their places.
@@ -116,11 +157,11 @@ reordered own names = reordered_from own names names own
 -- which loops are over reduction variables, innermost first
 abbrev pub reductions : List Loop → List LoopId
 reductions [] = []
-reductions (first ∷ others) = if loops.is_reduction first.variable then first.id ∷ reductions others else reductions others
+reductions (first ∷ others) = if is_reduction first.variable then first.id ∷ reductions others else reductions others
 
 abbrev pub same_ids : List LoopId → List LoopId → Bool
 same_ids [] [] = true
-same_ids (first ∷ behind) (second ∷ rest) = loops.same_id first second && same_ids behind rest
+same_ids (first ∷ behind) (second ∷ rest) = same_id first second && same_ids behind rest
 same_ids _ _ = false
 
 -- Loops are named once, and those over reduction variables keep their order.
@@ -141,7 +182,7 @@ mark_loop stage own name marked = record { loops = replaced name (with_mark own 
 
 -- What is unrolled is the inner loop of a split.
 abbrev pub is_bad_unroll : Mark → Loop → Bool
-is_bad_unroll mark own = loops.same_mark mark marks.Unrolled && not (is_some own.inner_of)
+is_bad_unroll mark own = same_mark mark marks.Unrolled && not (is_some own.inner_of)
 
 abbrev pub mark_of : Stage → List ℕ → Marked → Option Loop → Result Stage ScheduleFault
 mark_of stage name marked None = Err fault.UnknownLoop

@@ -9,12 +9,10 @@
 -- Funcs and loops are names: letters, digits and `_`, of which the first is no digit. A suffix is of these too, and may begin with
 -- a digit: one that names no update is no fault of syntax.
 -- This project's own.
-use Rattle.std.specs.Prelude.{ℕ, ◌+◌, min, Bool, true, false, ◌&&◌, ◌==◌, if◌then◌else◌, List, [], ◌∷◌, length, take, drop, codes, Option, Some, None, Result, Ok, Err}
+use Rattle.std.specs.Prelude.{ℕ, ◌+◌, min, Bool, true, false, ◌&&◌, ◌==◌, if◌then◌else◌, List, [], ◌∷◌, length, take, drop, codes, Option, Some, None, Result, Ok, Err, not}
 use Rattle.std.specs.List.{prefix_len}
 use Rattle.std.specs.Str.{bytes_eq}
-use Rattle.line_text.specs.Classes.{begins_name, continues_name, is_digit}
-use Rattle.line_text.specs.Numbers.{decimal_number}
-use Rattle.line_text.specs.Reading.{◌>>=◌}
+use Rattle.line_text.specs.Lines.{begins_name, continues_name, is_digit, decimal_number, ◌>>=◌, joined as with_byte}
 use Rattle.schedule_lines.specs.declared.faults.ScheduleFault.{ScheduleFault}
 use Rattle.schedule_lines.specs.declared.faults.ScheduleFault.TheVariants.{Syntax}
 use Rattle.schedule_lines.specs.declared.lines.Subject.{Subject}
@@ -123,3 +121,34 @@ unfoldable pub line_of : List (List ℕ) → Result Line ScheduleFault
 line_of [] = Ok lines.Blank
 line_of (front ∷ []) = Err Syntax
 line_of (front ∷ verb ∷ others) = subject front >>= λ s. directive verb others >>= λ d. joined s d
+
+-- ---- The words of a line: what stands between spaces, up to a comment.
+
+-- a byte in front of a comment, which `#` opens
+abbrev pub is_in_text : ℕ → Bool
+is_in_text byte = not (byte == 35)
+
+-- a line without its comment
+abbrev pub text_of : List ℕ → List ℕ
+text_of line = take (prefix_len is_in_text line) line
+
+-- a byte other than a space
+abbrev pub is_in_word : ℕ → Bool
+is_in_word byte = not (byte == 32)
+
+-- The bytes begin with one of a word.
+abbrev pub goes_on : List ℕ → Bool
+goes_on [] = false
+goes_on (byte ∷ rest) = is_in_word byte
+
+-- the words of bytes
+unfoldable pub words_of : List ℕ → List (List ℕ)
+words_of [] = []
+words_of (byte ∷ rest) =
+    if byte == 32 then words_of rest
+    else (if goes_on rest then with_byte byte (words_of rest) else (byte ∷ []) ∷ words_of rest)
+
+-- the word that bytes without a space are, if there are any
+abbrev pub word_of : List ℕ → List (List ℕ)
+word_of [] = []
+word_of (byte ∷ rest) = (byte ∷ rest) ∷ []

@@ -8,8 +8,7 @@ use Rattle.schedule_lines.specs.declared.stages.Loop.{Loop}
 use Rattle.schedule_lines.specs.declared.stages.Mark.TheVariants as marks
 use Rattle.schedule_lines.specs.declared.stages.Split.{Split}
 use Rattle.schedule_lines.specs.declared.stages.Stage.{Stage}
-use Rattle.schedule_lines.specs.Directives.{is_shift, parts, reductions}
-use Rattle.schedule_lines.specs.Loops.{is_marked}
+use Rattle.schedule_lines.specs.Directives.{is_shift, parts, reductions, is_marked}
 
 -- what is added up over loops
 abbrev pub total : (Loop → ℕ) → List Loop → ℕ

@@ -2,7 +2,7 @@
 
 ghost use Rattle.std.specs.Prelude.{◌≡◌, ◌<◌, ◌++◌, ◌∷◌, [], OnOk, IfOk, length};
 ghost use Rattle.std.specs.Option.{option_copied};
-ghost use Rattle.line_text.specs.Reading.{Gives};
+ghost use Rattle.line_text.specs.Lines.{Gives};
 ghost use Rattle.schedule_lines.specs.Directives as spec;
 
 use crate::faults::ScheduleFault;

@@ -1,7 +1,7 @@
 //! What a line says.
 
 ghost use Rattle.std.specs.Prelude.{◌≡◌, IfOk};
-ghost use Rattle.line_text.specs.Reading.{Gives};
+ghost use Rattle.line_text.specs.Lines.{Gives};
 ghost use Rattle.schedule_lines.specs.Lines as spec;
 
 use crate::faults::ScheduleFault;

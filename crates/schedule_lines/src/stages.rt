@@ -2,7 +2,7 @@
 
 ghost use Rattle.std.specs.Prelude.{◌≡◌};
 ghost use Rattle.std.specs.Option.{option_copied};
-ghost use Rattle.schedule_lines.specs.Loops as spec;
+ghost use Rattle.schedule_lines.specs.Directives as spec;
 
 use halide_pipeline::Variable;
 use sqlite_items::Items;

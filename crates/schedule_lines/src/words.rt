@@ -3,7 +3,7 @@
 ghost use Rattle.std.specs.Prelude.{◌≡◌, ◌≢◌, ◌<◌, ◌≤◌, [], ◌++◌, length, IfOk, OnOk};
 ghost use Rattle.std.specs.List.{prefix_len};
 ghost use Rattle.line_text.specs.Lines.{after_first};
-ghost use Rattle.schedule_lines.specs.Words as spec;
+ghost use Rattle.schedule_lines.specs.Lines as spec;
 
 use sqlite_items::Items;
 use std::alloc::{AllocError, Global};

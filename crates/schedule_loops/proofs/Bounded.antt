@@ -15,10 +15,10 @@ use Rattle.schedule_lines.specs.declared.stages.Split.{Split}
 use Rattle.schedule_lines.specs.declared.stages.Stage.{Stage}
 use Rattle.schedule_lines.specs.Making.{total, IsMade}
 use Rattle.schedule_loops.specs.declared.extents.Extents.{Extents}
-use Rattle.schedule_loops.specs.Counts.{Values, with, extent_of, whole_counts, counts, strides, is_uneven}
-use Rattle.schedule_loops.specs.Reach.{base, reach, has_uneven, AreTurns, wholes, IsReached}
+use Rattle.schedule_loops.specs.Visits.{Values, with, extent_of, whole_counts, counts, strides, is_uneven, upto, nest, split_bodies}
+use Rattle.schedule_loops.specs.Reach.{base, reach, has_uneven, wholes, IsReached}
+use Rattle.schedule_loops.specs.Runs.{AreTurns}
 use Rattle.schedule_loops.specs.Stages.{has_variable, first_loops, IsStageOf}
-use Rattle.schedule_loops.specs.Visits.{upto, nest, split_bodies}
 use Rattle.schedule_loops.proofs.Ids.{cases_id, with_other, turned_id}
 use Rattle.schedule_loops.proofs.Nesting.{has_id, has_same, has_other, InRange, in_range_more}
 use Rattle.schedule_loops.proofs.Selecting.{Unique}

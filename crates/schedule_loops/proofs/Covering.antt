@@ -16,13 +16,11 @@ use Rattle.schedule_lines.specs.declared.stages.Split.{Split}
 use Rattle.schedule_lines.specs.declared.stages.Stage.{Stage}
 use Rattle.schedule_lines.specs.declared.stages.Tail.{Tail}
 use Rattle.schedule_lines.specs.declared.stages.Tail.TheVariants as tails
-use Rattle.schedule_lines.specs.Loops.{same_id}
-use Rattle.schedule_lines.specs.Directives.{parts, is_shift}
+use Rattle.schedule_lines.specs.Directives.{same_id, parts, is_shift}
 use Rattle.schedule_lines.specs.Making.{total, IsSplit, IsMade}
 use Rattle.schedule_loops.specs.declared.extents.Extents.{Extents}
-use Rattle.schedule_loops.specs.Counts.{Values, with, rounds, whole_counts, more_counts, counts_from, shift_fits, shifts_fit_from, shifts_fit}
+use Rattle.schedule_loops.specs.Visits.{Values, with, rounds, whole_counts, more_counts, counts_from, shift_fits, shifts_fit_from, shifts_fit, upto, nest, whole_of, begin_of, split_body, split_bodies, zeros, Visit, visit_of, visits}
 use Rattle.schedule_loops.specs.Stages.{has_variable, first_loops, is_slice_of, IsStageOf}
-use Rattle.schedule_loops.specs.Visits.{upto, nest, whole_of, begin_of, split_body, split_bodies, zeros, Visit, visit_of, visits}
 use Rattle.schedule_loops.proofs.Ids.{cases_id, is_old, old_apart, inner_new, outer_new, turned_id, with_same, with_other}
 use Rattle.schedule_loops.proofs.Nesting.{has_id, has_same, has_other, InRange}
 use Rattle.schedule_loops.proofs.Splitting.{OnOld}

@@ -10,10 +10,10 @@ use Rattle.schedule_lines.specs.declared.stages.LoopId.{LoopId}
 use Rattle.schedule_lines.specs.declared.stages.LoopId.TheVariants as ids
 use Rattle.schedule_lines.specs.declared.stages.Split.{Split}
 use Rattle.schedule_lines.specs.declared.stages.Stage.{Stage}
-use Rattle.schedule_lines.specs.Loops.{same_id}
+use Rattle.schedule_lines.specs.Directives.{same_id}
 use Rattle.schedule_lines.specs.Making.{total}
 use Rattle.schedule.specs.Plans.{with_loop, with_second}
-use Rattle.schedule_loops.specs.Counts.{IsFactor, AreSplits}
+use Rattle.schedule_loops.specs.Visits.{IsFactor, AreSplits}
 use Rattle.schedule_loops.specs.Stages.{has_variable, first_loops, IsStageOf}
 use Rattle.schedule_loops.proofs.Nesting.{has_id}
 use Rattle.schedule_loops.proofs.Making.{Stays, by_making, split_by, total_parts, bare_total}

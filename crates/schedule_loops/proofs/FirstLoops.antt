@@ -6,14 +6,13 @@ use Rattle.halide_pipeline.specs.declared.definitions.Reduction.{Reduction}
 use Rattle.halide_pipeline.specs.declared.definitions.Update.{Update}
 use Rattle.halide_pipeline.specs.declared.expressions.Variable.{Variable}
 use Rattle.halide_pipeline.specs.declared.expressions.Variable.TheVariants as variables
-use Rattle.halide_pipeline.specs.Definitions.{is_first_in_place, is_second_in_place}
+use Rattle.halide_pipeline.specs.WellFormed.{is_first_in_place, is_second_in_place}
 use Rattle.halide_pipeline.specs.Expressions.{same_variable}
 use Rattle.schedule_lines.specs.declared.stages.Loop.{Loop}
 use Rattle.schedule_lines.specs.declared.stages.LoopId.{LoopId}
 use Rattle.schedule_lines.specs.declared.stages.LoopId.TheVariants as ids
 use Rattle.schedule_lines.specs.declared.stages.Split.{Split}
-use Rattle.schedule_lines.specs.Loops.{same_id, is_reduction}
-use Rattle.schedule_lines.specs.Directives.{reductions}
+use Rattle.schedule_lines.specs.Directives.{same_id, is_reduction, reductions}
 use Rattle.schedule_lines.specs.Making.{total, IsMade}
 use Rattle.schedule.specs.Plans.{with_loop, with_second, with_reduction, pure_loops, update_loops}
 use Rattle.schedule_loops.specs.Stages.{has_variable, first_loops}

@@ -7,8 +7,8 @@ use Rattle.halide_pipeline.specs.declared.expressions.Variable.TheVariants as va
 use Rattle.halide_pipeline.specs.Expressions.{same_variable}
 use Rattle.schedule_lines.specs.declared.stages.LoopId.{LoopId}
 use Rattle.schedule_lines.specs.declared.stages.LoopId.TheVariants as ids
-use Rattle.schedule_lines.specs.Loops.{same_id}
-use Rattle.schedule_loops.specs.Counts.{Values, with}
+use Rattle.schedule_lines.specs.Directives.{same_id}
+use Rattle.schedule_loops.specs.Visits.{Values, with}
 
 pub same_variable-true : (a b : Variable) → same_variable a b ≡ true → a ≡ b
 same_variable-true variables.FirstArgument variables.FirstArgument e = refl

@@ -12,12 +12,10 @@ use Rattle.schedule_lines.specs.declared.stages.LoopId.TheVariants as ids
 use Rattle.schedule_lines.specs.declared.stages.Split.{Split}
 use Rattle.schedule_lines.specs.declared.stages.Tail.{Tail}
 use Rattle.schedule_lines.specs.declared.stages.Tail.TheVariants as tails
-use Rattle.schedule_lines.specs.Loops.{same_id}
-use Rattle.schedule_lines.specs.Directives.{parts, is_shift}
+use Rattle.schedule_lines.specs.Directives.{same_id, parts, is_shift}
 use Rattle.schedule_lines.specs.Making.{total, IsSplit, IsMade}
-use Rattle.schedule_loops.specs.Counts.{Values, with, rounds, more_counts, counts_from, whole_strides, more_strides, strides_from, more_uneven, uneven_from}
+use Rattle.schedule_loops.specs.Visits.{Values, with, rounds, more_counts, counts_from, whole_strides, more_strides, strides_from, more_uneven, uneven_from, begin_of, whole_of, split_body, split_bodies}
 use Rattle.schedule_loops.specs.Stages.{has_variable}
-use Rattle.schedule_loops.specs.Visits.{begin_of, whole_of, split_body, split_bodies}
 use Rattle.schedule_loops.proofs.Ids.{is_old, old_apart, inner_new, outer_new, with_same, with_other, same_of, other_of, same_variable-true}
 use Rattle.schedule_loops.proofs.Nesting.{has_id, InRange}
 use Rattle.schedule_loops.proofs.Splitting.{Apart, rounds_reach}

@@ -7,11 +7,9 @@ use Rattle.schedule_lines.specs.declared.stages.Loop.{Loop}
 use Rattle.schedule_lines.specs.declared.stages.LoopId.{LoopId}
 use Rattle.schedule_lines.specs.declared.stages.LoopId.TheVariants as ids
 use Rattle.schedule_lines.specs.declared.stages.Split.{Split}
-use Rattle.schedule_lines.specs.Loops.{same_id}
-use Rattle.schedule_lines.specs.Directives.{parts, reductions}
+use Rattle.schedule_lines.specs.Directives.{same_id, parts, reductions}
 use Rattle.schedule_lines.specs.Making.{total, bare, SameLoops, IsSplit, IsMade, Begun, Parted, Marked as Remarked, Moved}
-use Rattle.schedule_loops.specs.Counts.{Values, with, more_counts, counts_from}
-use Rattle.schedule_loops.specs.Visits.{whole_of, split_body, split_bodies}
+use Rattle.schedule_loops.specs.Visits.{Values, with, more_counts, counts_from, whole_of, split_body, split_bodies}
 use Rattle.schedule_loops.proofs.Ids.{cases_id, same_id-self, is_old, older, outer_new, inner_new}
 use Rattle.schedule_loops.proofs.Nesting.{has_id, has_same}
 use Rattle.schedule_loops.proofs.Splitting.{OnOld, Apart}

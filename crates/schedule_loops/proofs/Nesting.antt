@@ -3,10 +3,9 @@ use Rattle.std.proofs.Common.{◌≡◌, ℕ, ◌<◌, ◌≤◌, Bool, false, L
 use Rattle.std.specs.Prelude.{if◌then◌else◌, filter}
 use Rattle.schedule_lines.specs.declared.stages.Loop.{Loop}
 use Rattle.schedule_lines.specs.declared.stages.LoopId.{LoopId}
-use Rattle.schedule_lines.specs.Loops.{same_id}
+use Rattle.schedule_lines.specs.Directives.{same_id}
 use Rattle.schedule_lines.specs.Making.{total}
-use Rattle.schedule_loops.specs.Counts.{Values, with}
-use Rattle.schedule_loops.specs.Visits.{upto, nest}
+use Rattle.schedule_loops.specs.Visits.{Values, with, upto, nest}
 use Rattle.schedule_loops.proofs.Turns.{upto_same, filter-upto}
 use Rattle.schedule_loops.proofs.Ids.{cases_id, turned_id, with_same, with_other, same_id-self}
 

@@ -11,11 +11,9 @@ use Rattle.schedule_lines.specs.declared.stages.LoopId.TheVariants as ids
 use Rattle.schedule_lines.specs.declared.stages.Split.{Split}
 use Rattle.schedule_lines.specs.declared.stages.Tail.{Tail}
 use Rattle.schedule_lines.specs.declared.stages.Tail.TheVariants as tails
-use Rattle.schedule_lines.specs.Loops.{same_id}
-use Rattle.schedule_lines.specs.Directives.{parts, is_shift}
+use Rattle.schedule_lines.specs.Directives.{same_id, parts, is_shift}
 use Rattle.schedule_lines.specs.Making.{total, bare, IsSplit, IsMade}
-use Rattle.schedule_loops.specs.Counts.{Values, with, rounds, more_counts, counts_from}
-use Rattle.schedule_loops.specs.Visits.{upto, nest, whole_of, split_body, split_bodies}
+use Rattle.schedule_loops.specs.Visits.{Values, with, rounds, more_counts, counts_from, upto, nest, whole_of, split_body, split_bodies}
 use Rattle.schedule_loops.proofs.Ids.{cases_id, same_id-self, is_old, outer_new, inner_new, old_apart, turned_id, with_same, with_other}
 use Rattle.schedule_loops.proofs.Nesting.{has_id, has_other, has_same, InRange, filter-nest}
 use Rattle.schedule_loops.proofs.Splitting.{OnOld, counts_old, rounds_reach, parted_nest}

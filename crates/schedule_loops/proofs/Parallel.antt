@@ -8,17 +8,15 @@ use Rattle.schedule_lines.specs.declared.stages.Loop.{Loop}
 use Rattle.schedule_lines.specs.declared.stages.LoopId.{LoopId}
 use Rattle.schedule_lines.specs.declared.stages.Mark.TheVariants as marks
 use Rattle.schedule_lines.specs.declared.stages.Stage.{Stage}
-use Rattle.schedule_lines.specs.Loops.{find_marked, is_marked, is_reduction}
+use Rattle.schedule_lines.specs.Directives.{find_marked, is_marked, is_reduction}
 use Rattle.schedule_lines.specs.Making.{total, IsMade}
 use Rattle.schedule.specs.declared.legality.LoopRule.{LoopRule}
 use Rattle.schedule.specs.declared.legality.LoopRule.TheVariants as rules_of
 use Rattle.schedule.specs.Accepted.{keeps}
 use Rattle.schedule.specs.Legal.{breaks, is_empty}
 use Rattle.schedule_loops.specs.declared.extents.Extents.{Extents}
-use Rattle.schedule_loops.specs.Counts.{Values, with, whole_counts, counts}
-use Rattle.schedule_loops.specs.Iterations.{parallel, count_of, iteration_count, is_turn, iteration, in_turn, IsOrder, HasOwner}
+use Rattle.schedule_loops.specs.Visits.{Values, with, whole_counts, counts, upto, nest, split_bodies, over_loops, zeros, Visit, is_slice, slice, visit_of, visits, parallel, count_of, iteration_count, is_turn, iteration, in_turn, IsOrder, HasOwner}
 use Rattle.schedule_loops.specs.Stages.{first_loops, is_slice_of, IsStageOf, KeepsRules}
-use Rattle.schedule_loops.specs.Visits.{upto, nest, split_bodies, over_loops, zeros, Visit, is_slice, slice, visit_of, visits}
 use Rattle.schedule_loops.proofs.Turns.{upto_same, upto_one, upto_nil, first_turn, filter-upto}
 use Rattle.schedule_loops.proofs.Ids.{cases_id, with_same, with_other, turned_id}
 use Rattle.schedule_loops.proofs.Nesting.{has_id, has_same}

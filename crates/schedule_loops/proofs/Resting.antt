@@ -7,12 +7,11 @@ use Rattle.schedule_lines.specs.declared.stages.Loop.{Loop}
 use Rattle.schedule_lines.specs.declared.stages.LoopId.{LoopId}
 use Rattle.schedule_lines.specs.declared.stages.LoopId.TheVariants as ids
 use Rattle.schedule_lines.specs.declared.stages.Split.{Split}
-use Rattle.schedule_lines.specs.Loops.{same_id}
+use Rattle.schedule_lines.specs.Directives.{same_id}
 use Rattle.schedule_lines.specs.Making.{total, IsMade}
 use Rattle.schedule_loops.specs.declared.extents.Extents.{Extents}
-use Rattle.schedule_loops.specs.Counts.{Values, with, more_counts}
+use Rattle.schedule_loops.specs.Visits.{Values, with, more_counts, upto, nest, whole_of, split_body, split_bodies, Visit, visit_of}
 use Rattle.schedule_loops.specs.Stages.{has_variable}
-use Rattle.schedule_loops.specs.Visits.{upto, nest, whole_of, split_body, split_bodies, Visit, visit_of}
 use Rattle.schedule_loops.proofs.Turns.{upto_same}
 use Rattle.schedule_loops.proofs.Ids.{cases_id, with_other, turned_id}
 use Rattle.schedule_loops.proofs.Nesting.{has_id, has_same}

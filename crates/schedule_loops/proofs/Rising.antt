@@ -10,9 +10,8 @@ use Rattle.schedule_lines.specs.declared.stages.LoopId.{LoopId}
 use Rattle.schedule_lines.specs.declared.stages.LoopId.TheVariants as ids
 use Rattle.schedule_lines.specs.declared.stages.Stage.{Stage}
 use Rattle.schedule_loops.specs.declared.extents.Extents.{Extents}
-use Rattle.schedule_loops.specs.Counts.{Values, whole_counts}
+use Rattle.schedule_loops.specs.Visits.{Values, whole_counts, zeros, Visit, is_slice, slice, rising, visits}
 use Rattle.schedule_loops.specs.Stages.{has_variable, first_loops, points_of, is_slice_of, IsStageOf, IsVisitOf}
-use Rattle.schedule_loops.specs.Visits.{zeros, Visit, is_slice, slice, rising, visits}
 use Rattle.schedule_loops.proofs.Ids.{is_old}
 use Rattle.schedule_loops.proofs.Selecting.{is_free}
 use Rattle.schedule_loops.proofs.Order.{same_order}

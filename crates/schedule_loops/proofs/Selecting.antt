@@ -4,11 +4,9 @@ use Rattle.std.specs.Prelude.{◌&&◌, if◌then◌else◌}
 use Rattle.std.proofs.lemmas.Bool.{cases_eq}
 use Rattle.schedule_lines.specs.declared.stages.Loop.{Loop}
 use Rattle.schedule_lines.specs.declared.stages.LoopId.{LoopId}
-use Rattle.schedule_lines.specs.Loops.{same_id, is_reduction}
-use Rattle.schedule_lines.specs.Directives.{reductions}
+use Rattle.schedule_lines.specs.Directives.{same_id, is_reduction, reductions}
 use Rattle.schedule_lines.specs.Making.{total, SameLoops}
-use Rattle.schedule_loops.specs.Counts.{Values, with}
-use Rattle.schedule_loops.specs.Visits.{upto, nest}
+use Rattle.schedule_loops.specs.Visits.{Values, with, upto, nest}
 use Rattle.schedule_loops.proofs.Turns.{upto_same, upto_none, upto_one}
 use Rattle.schedule_loops.proofs.Ids.{cases_id, turned_id, with_same, with_other, same_id-self}
 use Rattle.schedule_loops.proofs.Nesting.{has_id, has_same, InRange, in_range_more, nest_same}

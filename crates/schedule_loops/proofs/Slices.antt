@@ -15,9 +15,8 @@ use Rattle.schedule_lines.specs.declared.stages.Stage.{Stage}
 use Rattle.schedule_lines.specs.Making.{IsMade}
 use Rattle.schedule.specs.Plans.{with_loop, with_second}
 use Rattle.schedule_loops.specs.declared.extents.Extents.{Extents}
-use Rattle.schedule_loops.specs.Counts.{Values, with, whole_counts, counts_from}
+use Rattle.schedule_loops.specs.Visits.{Values, with, whole_counts, counts_from, upto, nest, split_bodies, zeros, Visit, visit_of, visits}
 use Rattle.schedule_loops.specs.Stages.{has_variable, first_loops, extent_in, points_of, is_slice_of, IsStageOf, IsVisitOf}
-use Rattle.schedule_loops.specs.Visits.{upto, nest, split_bodies, zeros, Visit, visit_of, visits}
 use Rattle.schedule_loops.proofs.Turns.{upto_none}
 use Rattle.schedule_loops.proofs.Nesting.{InRange, nest_same, filter-nest}
 use Rattle.schedule_loops.proofs.Making.{by_making}

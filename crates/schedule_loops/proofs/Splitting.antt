@@ -6,9 +6,8 @@ use Rattle.schedule_lines.specs.declared.stages.LoopId.{LoopId}
 use Rattle.schedule_lines.specs.declared.stages.LoopId.TheVariants as ids
 use Rattle.schedule_lines.specs.declared.stages.Split.{Split}
 use Rattle.schedule_lines.specs.declared.stages.Tail.TheVariants as tails
-use Rattle.schedule_lines.specs.Loops.{same_id}
-use Rattle.schedule_loops.specs.Counts.{Values, with, rounds, more_counts}
-use Rattle.schedule_loops.specs.Visits.{upto, nest, whole_of, split_body}
+use Rattle.schedule_lines.specs.Directives.{same_id}
+use Rattle.schedule_loops.specs.Visits.{Values, with, rounds, more_counts, upto, nest, whole_of, split_body}
 use Rattle.schedule_loops.proofs.Turns.{upto_same, upto_none, upto_guard}
 use Rattle.schedule_loops.proofs.Ids.{cases_id, same_id-self, is_old, old_apart, outer_new, inner_new, turned_id, with_same, with_other}
 use Rattle.schedule_loops.proofs.Nesting.{nest_same, nest-append, nest_counts, SameCounts}

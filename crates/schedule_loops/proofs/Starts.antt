@@ -6,12 +6,10 @@ use Rattle.halide_pipeline.specs.declared.expressions.Variable.TheVariants as va
 use Rattle.schedule_lines.specs.declared.stages.Loop.{Loop}
 use Rattle.schedule_lines.specs.declared.stages.LoopId.{LoopId}
 use Rattle.schedule_lines.specs.declared.stages.LoopId.TheVariants as ids
-use Rattle.schedule_lines.specs.Loops.{same_id}
-use Rattle.schedule_lines.specs.Directives.{is_shift}
+use Rattle.schedule_lines.specs.Directives.{same_id, is_shift}
 use Rattle.schedule_lines.specs.Making.{total}
-use Rattle.schedule_loops.specs.Counts.{Values, with}
+use Rattle.schedule_loops.specs.Visits.{Values, with, upto, nest, Visit, is_slice, rising}
 use Rattle.schedule_loops.specs.Stages.{has_variable}
-use Rattle.schedule_loops.specs.Visits.{upto, nest, Visit, is_slice, rising}
 use Rattle.schedule_loops.proofs.Turns.{upto_same, upto-add, upto_split}
 use Rattle.schedule_loops.proofs.Nesting.{filter-nest}
 use Rattle.schedule_loops.proofs.Selecting.{fills, is_free, is_one, filled, nest_ids, selected}

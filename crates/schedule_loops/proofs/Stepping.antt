@@ -12,14 +12,13 @@ use Rattle.schedule_lines.specs.declared.stages.LoopId.{LoopId}
 use Rattle.schedule_lines.specs.declared.stages.LoopId.TheVariants as ids
 use Rattle.schedule_lines.specs.declared.stages.Split.{Split}
 use Rattle.schedule_lines.specs.declared.stages.Stage.{Stage}
-use Rattle.schedule_lines.specs.Loops.{same_id}
-use Rattle.schedule_lines.specs.Directives.{parts, is_shift}
+use Rattle.schedule_lines.specs.Directives.{same_id, parts, is_shift}
 use Rattle.schedule_lines.specs.Making.{total, IsSplit, IsMade}
 use Rattle.schedule_loops.specs.declared.extents.Extents.{Extents}
-use Rattle.schedule_loops.specs.Counts.{Values, with, whole_counts, more_counts, counts_from, counts, whole_strides, more_strides, strides_from, more_uneven, uneven_from, is_uneven}
-use Rattle.schedule_loops.specs.Reach.{base, AreTurns, AgreeWhereUneven}
+use Rattle.schedule_loops.specs.Visits.{Values, with, whole_counts, more_counts, counts_from, counts, whole_strides, more_strides, strides_from, more_uneven, uneven_from, is_uneven, begin_of, whole_of, split_body, split_bodies, over_loops}
+use Rattle.schedule_loops.specs.Reach.{base, AgreeWhereUneven}
+use Rattle.schedule_loops.specs.Runs.{AreTurns}
 use Rattle.schedule_loops.specs.Stages.{has_variable, first_loops, IsStageOf}
-use Rattle.schedule_loops.specs.Visits.{begin_of, whole_of, split_body, split_bodies, over_loops}
 use Rattle.schedule_loops.proofs.Ids.{is_old, old_apart, inner_new, outer_new, cases_id, with_same, with_other, same_of, other_of, turned_id, same_variable-true}
 use Rattle.schedule_loops.proofs.Nesting.{has_id, has_other, InRange}
 use Rattle.schedule_loops.proofs.Making.{Stays, by_making, Sound, sound_stays, split_by, total-append, parts_inner, parts_outer, total_parts, counts-more, bodies-more, bare_total, own_apart, apart_from}

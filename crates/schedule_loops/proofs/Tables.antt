@@ -16,7 +16,7 @@ use Rattle.schedule_lines.specs.Directives.{is_shift}
 use Rattle.schedule_loops.specs.declared.extents.Extents.{Extents}
 use Rattle.schedule_loops.specs.declared.sizes.LoopSize.{LoopSize}
 use Rattle.schedule_loops.specs.declared.sizes.SizedSplit.{SizedSplit}
-use Rattle.schedule_loops.specs.Counts.{Values, rounds, whole_counts, more_counts, counts_from, whole_strides, more_strides, strides_from, more_uneven, uneven_from, shift_fits, shifts_fit_from, IsFactor, AreSplits}
+use Rattle.schedule_loops.specs.Visits.{Values, rounds, whole_counts, more_counts, counts_from, whole_strides, more_strides, strides_from, more_uneven, uneven_from, shift_fits, shifts_fit_from, IsFactor, AreSplits}
 use Rattle.schedule_loops.specs.inner.Table.{looked_up, outer_of, inner_of, no_size, row_of, rows_from, splits_of, row_fits, IsTable, IsKept, stride_limit, AreBounded}
 use Rattle.schedule_loops.proofs.Linear.{even}
 use Rattle.schedule_loops.proofs.Lists.{first_of_rest, get_last, get_other}

@@ -7,9 +7,7 @@ use Rattle.std.proofs.lemmas.List.Elements.{filter-append}
 use Rattle.schedule_lines.specs.declared.stages.Loop.{Loop}
 use Rattle.schedule_lines.specs.declared.stages.LoopId.{LoopId}
 use Rattle.schedule_lines.specs.Making.{total}
-use Rattle.schedule_loops.specs.Counts.{Values, with}
-use Rattle.schedule_loops.specs.Iterations.{in_turn, times, IsOrder}
-use Rattle.schedule_loops.specs.Visits.{upto, nest}
+use Rattle.schedule_loops.specs.Visits.{Values, with, upto, nest, in_turn, times, IsOrder}
 use Rattle.schedule_loops.proofs.Turns.{upto_none, upto_one, filter-upto}
 use Rattle.schedule_loops.proofs.Ids.{same_id-self, with_same, with_other, turned_id, cases_id}
 use Rattle.schedule_loops.proofs.Nesting.{has_id, has_same, has_other, InRange, in_range_more, nest-append, filter-nest}

@@ -4,10 +4,10 @@ use Rattle.std.specs.Prelude.{Contains, slice_index_or}
 use Rattle.std.specs.List.{AllByRecursion}
 use Rattle.std.proofs.lemmas.List.Elements.{Contains-append_cases}
 use Rattle.schedule_lines.specs.declared.stages.Loop.{Loop}
-use Rattle.schedule_loops.specs.Counts.{Values, with, counts}
+use Rattle.schedule_loops.specs.Visits.{Values, with, counts, upto, nest, over_loops, zeros, visit_of}
 use Rattle.schedule_loops.specs.Laws.{VisitsAreMade}
-use Rattle.schedule_loops.specs.Reach.{AreTurns, wholes}
-use Rattle.schedule_loops.specs.Visits.{upto, nest, over_loops, zeros, visit_of}
+use Rattle.schedule_loops.specs.Reach.{wholes}
+use Rattle.schedule_loops.specs.Runs.{AreTurns}
 use Rattle.schedule_loops.proofs.Nesting.{has_same, InRange, in_range_more, nest-append}
 use Rattle.schedule_loops.proofs.Wholes.{visits_of_wholes}
 

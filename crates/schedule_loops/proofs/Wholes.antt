@@ -4,9 +4,8 @@ use Rattle.std.specs.Prelude.{nat_lt}
 use Rattle.schedule_lines.specs.declared.stages.Loop.{Loop}
 use Rattle.schedule_lines.specs.declared.stages.Split.{Split}
 use Rattle.schedule_loops.specs.declared.extents.Extents.{Extents}
-use Rattle.schedule_loops.specs.Counts.{Values, with, more_counts, whole_counts, counts}
+use Rattle.schedule_loops.specs.Visits.{Values, with, more_counts, whole_counts, counts, upto, nest, whole_of, split_body, split_bodies, over_loops, visit_of}
 use Rattle.schedule_loops.specs.Reach.{wholes}
-use Rattle.schedule_loops.specs.Visits.{upto, nest, whole_of, split_body, split_bodies, over_loops, visit_of}
 use Rattle.schedule_loops.proofs.Nesting.{nest_same}
 
 map_append : {A B : Type 0} (f : A → B) (xs ys : List A) → map f (xs ++ ys) ≡ map f xs ++ map f ys

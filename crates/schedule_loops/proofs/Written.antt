@@ -7,9 +7,8 @@ use Rattle.halide_pipeline.specs.declared.definitions.Func.{Func}
 use Rattle.halide_pipeline.specs.declared.definitions.Update.{Update}
 use Rattle.schedule_lines.specs.declared.stages.Stage.{Stage}
 use Rattle.schedule_loops.specs.declared.extents.Extents.{Extents}
-use Rattle.schedule_loops.specs.Iterations.{iteration_count, iteration, points_written, HasOwner}
+use Rattle.schedule_loops.specs.Visits.{iteration_count, iteration, points_written, HasOwner, upto, Visit, is_slice, slice}
 use Rattle.schedule_loops.specs.Stages.{IsStageOf, KeepsRules, IsVisitOf}
-use Rattle.schedule_loops.specs.Visits.{upto, Visit, is_slice, slice}
 use Rattle.schedule_loops.proofs.Slices.{visits_within}
 use Rattle.schedule_loops.proofs.Parallel.{all_iterations, slice_owner}
 

@@ -13,11 +13,10 @@ use Rattle.schedule.specs.declared.plans.FuncPlan.{FuncPlan}
 use Rattle.schedule.specs.declared.standings.Standing.{Standing}
 use Rattle.schedule.specs.Accepted.{IsPlan, IsLegal}
 use Rattle.schedule_loops.specs.declared.extents.Extents.{Extents}
-use Rattle.schedule_loops.specs.Counts.{Values, with, counts, extent_of, shifts_fit, AreSplits}
-use Rattle.schedule_loops.specs.Iterations.{parallel, iteration, iteration_count, points_written, in_turn, IsOrder, HasOwner}
-use Rattle.schedule_loops.specs.Reach.{base, AreTurns, AgreeWhereUneven, has_uneven, wholes, IsReached}
+use Rattle.schedule_loops.specs.Visits.{Values, with, counts, extent_of, shifts_fit, AreSplits, Visit, nest, over_loops, zeros, upto, visit_of, visits, slice, rising, parallel, iteration, iteration_count, points_written, in_turn, IsOrder, HasOwner}
+use Rattle.schedule_loops.specs.Reach.{base, AgreeWhereUneven, has_uneven, wholes, IsReached}
+use Rattle.schedule_loops.specs.Runs.{AreTurns}
 use Rattle.schedule_loops.specs.Stages.{IsStageOf, KeepsRules, IsVisitOf, first_loops, has_variable, is_slice_of, points_of}
-use Rattle.schedule_loops.specs.Visits.{Visit, nest, over_loops, zeros, upto, visit_of, visits, slice, rising}
 
 -- Where the output reaches a Func, an accepted schedule has such stages for its pure definition and for each of its updates.
 abbrev pub AcceptedStages : Type 0

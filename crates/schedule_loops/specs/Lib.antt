@@ -1,5 +1,3 @@
-pub mod Counts
-pub mod Iterations
 pub mod Laws
 pub mod Reach
 pub mod Rows
@@ -8,3 +6,4 @@ pub mod Stages
 pub mod Visits
 pub mod inner
 pub mod FaultLines
+pub mod Runs

@@ -2,7 +2,7 @@
 -- inside can add. A loop adds its turn times its stride. Where an uneven loop over the variable is among those outside, it lies in its
 -- whole extent.
 -- This project's own.
-use Rattle.std.specs.Prelude.{◌≡◌, ◌<◌, ◌≤◌, ℕ, ◌+◌, ◌-◌, ◌*◌, Bool, true, ◌&&◌, if◌then◌else◌, List, [], ◌∷◌}
+use Rattle.std.specs.Prelude.{◌≡◌, ◌≤◌, ℕ, ◌+◌, ◌-◌, ◌*◌, Bool, true, ◌&&◌, if◌then◌else◌, List, [], ◌∷◌}
 use Rattle.std.specs.List.{list_any}
 use Rattle.halide_pipeline.specs.declared.expressions.Variable.{Variable}
 use Rattle.halide_pipeline.specs.Expressions.{same_variable}
@@ -11,8 +11,7 @@ use Rattle.schedule_lines.specs.declared.stages.LoopId.TheVariants as ids
 use Rattle.schedule_lines.specs.declared.stages.Split.{Split}
 use Rattle.schedule_lines.specs.Making.{total}
 use Rattle.schedule_loops.specs.declared.extents.Extents.{Extents}
-use Rattle.schedule_loops.specs.Counts.{Values, counts, strides, is_uneven}
-use Rattle.schedule_loops.specs.Visits.{nest, over_loops}
+use Rattle.schedule_loops.specs.Visits.{Values, counts, strides, is_uneven, nest, over_loops}
 
 -- what loops over a variable add to it in these turns
 abbrev pub base : List Split → Variable → Values → List Loop → ℕ
@@ -29,11 +28,6 @@ reach extents splits variable loops = total (most_added extents splits variable)
 -- One of the loops is an uneven one over the variable.
 abbrev pub has_uneven : List Split → Variable → List Loop → Bool
 has_uneven splits variable loops = list_any (λ own. same_variable own.variable variable && is_uneven splits own.id) loops
-
--- Each of the loops is in one of its turns.
-abbrev pub AreTurns : Values → List Loop → Values → Type 0
-AreTurns counts [] turns = Unit {0}
-AreTurns counts (own ∷ others) turns = (turns own.id < counts own.id) × AreTurns counts others turns
 
 -- the values of whole variables that loops visit, while those outside of them are in these turns
 abbrev pub wholes : Extents → List Split → List Loop → Values → List Values

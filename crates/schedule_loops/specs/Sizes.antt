@@ -5,7 +5,7 @@ use Rattle.schedule_lines.specs.declared.stages.LoopId.{LoopId}
 use Rattle.schedule_lines.specs.declared.stages.Split.{Split}
 use Rattle.schedule_loops.specs.declared.extents.Extents.{Extents}
 use Rattle.schedule_loops.specs.declared.sizes.LoopSize.{LoopSize}
-use Rattle.schedule_loops.specs.Counts.{counts, strides, is_uneven}
+use Rattle.schedule_loops.specs.Visits.{counts, strides, is_uneven}
 
 -- The extents of whole variables, and the splits of a stage.
 pub record SizedLoops : Type 0 where

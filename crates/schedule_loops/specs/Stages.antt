@@ -14,8 +14,7 @@ use Rattle.schedule.specs.declared.legality.LoopRule.{LoopRule}
 use Rattle.schedule.specs.Accepted.{Keeps}
 use Rattle.schedule.specs.Plans.{pure_loops, update_loops}
 use Rattle.schedule_loops.specs.declared.extents.Extents.{Extents}
-use Rattle.schedule_loops.specs.Counts.{extent_of}
-use Rattle.schedule_loops.specs.Visits.{Visit}
+use Rattle.schedule_loops.specs.Visits.{extent_of, Visit}
 
 -- the loops before any line, of an update or, where none is named, of the pure definition
 abbrev pub first_loops : Func → Option Update → List Loop

@@ -1,7 +1,7 @@
 //! How many values the variables of a stage take.
 
 ghost use Rattle.std.specs.Prelude.{◌≡◌};
-ghost use Rattle.schedule_loops.specs.Counts.{extent_of};
+ghost use Rattle.schedule_loops.specs.Visits.{extent_of};
 
 use halide_pipeline::Variable;
 

@@ -2,7 +2,7 @@
 
 ghost use Rattle.std.specs.Prelude.{◌≡◌, ◌∷◌, [], true, false};
 ghost use Rattle.schedule_loops.specs.Laws as law;
-ghost use Rattle.schedule_loops.specs.Counts.{shifts_fit};
+ghost use Rattle.schedule_loops.specs.Visits.{shifts_fit};
 ghost use Rattle.schedule_loops.specs.Reach.{reach, has_uneven};
 ghost use Rattle.schedule_loops.specs.Rows as row;
 ghost use Rattle.schedule_loops.specs.Sizes.{size};

@@ -2,10 +2,10 @@
 //! order, and what each iteration of the parallel loop visits.
 //!
 //! - [`extents`]: how many values each variable takes.
-//! - [`sizes`]: turns and strides of the loops (`specs/Counts.antt`, `specs/Sizes.antt`).
+//! - [`sizes`]: turns and strides of the loops (`specs/Visits.antt`, `specs/Sizes.antt`).
 //! - [`reach`]: how far loops take a variable (`specs/Reach.antt`).
 //! - [`laws`]: what holds of every stage that lines make, and of every accepted one (`specs/Laws.antt`, over
-//!   `specs/Visits.antt`, `specs/Iterations.antt`, `specs/Reach.antt` and `specs/Stages.antt`), and which line
+//!   `specs/Visits.antt`, `specs/Visits.antt`, `specs/Reach.antt` and `specs/Stages.antt`), and which line
 //!   a fault names (`specs/FaultLines.antt`).
 //!
 //! A stage's loops come from the first loops of its Func, and an accepted stage keeps the rules of marked loops:

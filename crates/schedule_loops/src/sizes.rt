@@ -2,8 +2,8 @@
 
 ghost use Rattle.std.specs.Prelude.{◌≡◌, ◌≤◌, ◌<◌, ◌*◌, ◌^◌, ◌&&◌, ◌||◌, IfOk};
 ghost use Rattle.std.specs.List.{list_all};
-ghost use Rattle.schedule_loops.specs.Counts as counts;
-ghost use Rattle.schedule_loops.specs.Iterations.{iteration_count};
+ghost use Rattle.schedule_loops.specs.Visits as counts;
+ghost use Rattle.schedule_loops.specs.Visits.{iteration_count};
 ghost use Rattle.schedule_loops.specs.Sizes as spec;
 ghost use Rattle.schedule_loops.specs.inner.Table as table;
 

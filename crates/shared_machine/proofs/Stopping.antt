@@ -13,7 +13,7 @@ use Rattle.rv_insn.specs.declared.instructions.Insn.{Insn}
 use Rattle.rv_insn.specs.declared.instructions.Insn.TheVariants.{Lui, Auipc, Jal, Jalr, Branch, Load, Store, AluImm, Shift, Alu, AmoaddW, Fence, Ecall, Ebreak, Vector}
 use Rattle.rv_insn.specs.Trap.{trap_number}
 use Rattle.rv_encoding.specs.Decoding.{decoded}
-use Rattle.memory.specs.Addresses.{fetched}
+use Rattle.memory.specs.Access.{fetched}
 use Rattle.rv_insn.specs.declared.vector_instructions.VectorInsn.{VectorInsn}
 use Rattle.rv_insn.specs.declared.vector_instructions.VectorInsn.TheVariants as v
 use Rattle.hart_core.specs.declared.harts.Status.{Status}

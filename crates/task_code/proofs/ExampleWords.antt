@@ -9,7 +9,7 @@ use Rattle.rv_insn.specs.declared.operations.ShiftOp.TheVariants.{Slli}
 use Rattle.rv_insn.specs.declared.operations.AluOp.TheVariants.{Add, Mul}
 use Rattle.rv_encoding.specs.Decoding.{decoded}
 use Rattle.rv_encoding.specs.Decoding as decode
-use Rattle.rv_encoding.specs.Keys.{key_in}
+use Rattle.rv_encoding.specs.Operations.{key_in}
 use Rattle.rv_insn.specs.Table.{scalar_table, r_type, i_type, s_type, b_type, u_type, j_type, amo_type, whole_word}
 use Rattle.rv_insn.specs.Encoding.{fixed, span}
 use Rattle.task_code.specs.Example.{example_text}

@@ -3,8 +3,7 @@
 --
 -- Task t stores 7 + t at column t of the only buffer, which lies behind the phase's two words.
 use Rattle.std.specs.Prelude.{◌%◌, ◌≡◌, ◌<◌, ℕ, ◌+◌, ◌*◌, ◌-◌, ◌/◌, ◌==◌, ◌&&◌, nat_lt, if◌then◌else◌, Bool, false, List, [], ◌∷◌, length, replicate, Some, None}
-use Rattle.memory.specs.Addresses.{text_start}
-use Rattle.memory.specs.Access.{word_at}
+use Rattle.memory.specs.Access.{text_start, word_at}
 use Rattle.halide_pipeline.specs.declared.expressions.Source.TheVariants as sources
 use Rattle.halide_pipeline.specs.Pixel.{Planes}
 use Rattle.halide_pipeline.specs.Points.{Point}

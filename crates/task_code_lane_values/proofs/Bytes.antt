@@ -13,9 +13,8 @@ use Rattle.rv_insn.specs.declared.vector_operations.ArithmeticVvOp.TheVariants a
 use Rattle.rv_insn.specs.declared.vector_operations.ArithmeticVxOp.TheVariants as vxs
 use Rattle.rv_insn.specs.declared.vector_operations.ArithmeticViOp.TheVariants as vis
 use Rattle.rv_insn.specs.declared.vector_operations.ShiftViOp.TheVariants as shifts
-use Rattle.memory.specs.Access.{Byte, Word, number_in}
-use Rattle.memory.specs.Addresses.{byte_at, AreBytes}
-use Rattle.hart_core.specs.Alu.{load_size}
+use Rattle.memory.specs.Access.{Byte, Word, number_in, byte_at, AreBytes}
+use Rattle.hart_core.specs.Scalar.{load_size}
 use Rattle.lanes.specs.Words as lanes
 use Rattle.multi_hart_logic.specs.Alone.{World}
 use Rattle.multi_hart_logic.specs.Paths.{Line, lane, bit, vl_number, vtype_number, byte_of, write_bytes, Readable}

@@ -5,7 +5,7 @@ use Rattle.rv_insn.specs.declared.instructions.Insn.{Insn}
 use Rattle.rv_insn.specs.declared.instructions.Insn.TheVariants.{Vector}
 use Rattle.rv_insn.specs.declared.vector_instructions.VectorInsn.TheVariants as v
 use Rattle.rv_insn.specs.declared.vector_operations.CompareViOp.TheVariants as compare_vis
-use Rattle.hart_core.specs.Alu.{one_if}
+use Rattle.hart_core.specs.Scalar.{one_if}
 use Rattle.lanes.specs.Words as lanes
 use Rattle.multi_hart_logic.specs.Alone.{World}
 use Rattle.multi_hart_logic.specs.Paths.{lane, bit, IsGroup}

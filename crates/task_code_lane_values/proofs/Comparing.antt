@@ -5,7 +5,7 @@ use Rattle.rv_insn.specs.declared.instructions.Insn.TheVariants.{Vector}
 use Rattle.rv_insn.specs.declared.vector_instructions.VectorInsn.TheVariants as v
 use Rattle.rv_insn.specs.declared.vector_operations.CompareVxOp.{CompareVxOp}
 use Rattle.rv_insn.specs.declared.vector_operations.CompareVxOp.TheVariants as compares
-use Rattle.hart_core.specs.Alu.{one_if}
+use Rattle.hart_core.specs.Scalar.{one_if}
 use Rattle.vector_unit.specs.Operations.{compare_vx}
 use Rattle.halide_pipeline.specs.declared.expressions.Operation.{Operation}
 use Rattle.halide_pipeline.specs.declared.expressions.Operation.TheVariants as op

@@ -10,7 +10,7 @@ use Rattle.rv_insn.specs.declared.vector_operations.ArithmeticVxOp.TheVariants a
 use Rattle.rv_insn.specs.declared.vector_operations.CompareVvOp.{CompareVvOp}
 use Rattle.rv_insn.specs.declared.vector_operations.CompareVvOp.TheVariants as compares
 use Rattle.rv_insn.specs.declared.vector_operations.MultiplyOp.TheVariants as multiplies
-use Rattle.hart_core.specs.Alu.{one_if}
+use Rattle.hart_core.specs.Scalar.{one_if}
 use Rattle.lanes.specs.Words as lanes
 use Rattle.vector_unit.specs.Operations.{arithmetic_vv, arithmetic_vx, compare_vv}
 use Rattle.halide_pipeline.specs.declared.expressions.Operation.{Operation}

@@ -6,7 +6,7 @@ use Rattle.rv_insn.specs.declared.vector_instructions.Addressing.{Addressing}
 use Rattle.rv_insn.specs.declared.vector_instructions.Addressing.TheVariants as addressings
 use Rattle.rv_insn.specs.declared.vector_operations.ElementWidth.TheVariants.{Bits32}
 use Rattle.memory.specs.Access.{Word, number_in}
-use Rattle.hart_core.specs.Alu.{load_size}
+use Rattle.hart_core.specs.Scalar.{load_size}
 use Rattle.lanes.specs.Words as lanes
 use Rattle.multi_hart_logic.specs.Alone.{World}
 use Rattle.multi_hart_logic.specs.Paths.{vl_number, Readable}

@@ -8,7 +8,7 @@ use Rattle.rv_insn.specs.declared.operations.AluOp.TheVariants as alus
 use Rattle.rv_insn.specs.declared.operations.AluImmOp.TheVariants as alu_imms
 use Rattle.lanes.specs.Words as lanes
 use Rattle.hart_core.specs.HartState.{HartState}
-use Rattle.hart_core.specs.Alu.{extended}
+use Rattle.hart_core.specs.Scalar.{extended}
 use Rattle.multi_hart_logic.specs.Alone.{World}
 use Rattle.multi_hart_logic.specs.Paths.{At, Line, update}
 use Rattle.multi_hart_logic.proofs.Paths.{line-then, update-same, update-other}

@@ -12,9 +12,8 @@ use Rattle.rv_insn.specs.declared.vector_operations.ArithmeticVxOp.TheVariants a
 use Rattle.rv_insn.specs.declared.vector_operations.ArithmeticViOp.TheVariants as vis
 use Rattle.rv_insn.specs.declared.vector_operations.ShiftViOp.TheVariants as shifts
 use Rattle.rv_insn.specs.declared.vector_operations.MultiplyOp.TheVariants as multiplies
-use Rattle.memory.specs.Access.{Byte, Word, number_in}
-use Rattle.memory.specs.Addresses.{byte_at, AreBytes}
-use Rattle.hart_core.specs.Alu.{load_size}
+use Rattle.memory.specs.Access.{Byte, Word, number_in, byte_at, AreBytes}
+use Rattle.hart_core.specs.Scalar.{load_size}
 use Rattle.lanes.specs.Words as lanes
 use Rattle.multi_hart_logic.specs.Alone.{World}
 use Rattle.multi_hart_logic.specs.Paths.{lane, vl_number, IsGroup, Readable}

@@ -6,9 +6,8 @@ use Rattle.rv_insn.specs.declared.instructions.Insn.TheVariants.{Vector}
 use Rattle.rv_insn.specs.declared.vector_instructions.VectorInsn.TheVariants as v
 use Rattle.rv_insn.specs.declared.vector_instructions.Addressing.TheVariants as addressings
 use Rattle.rv_insn.specs.declared.vector_operations.ElementWidth.TheVariants.{Bits8}
-use Rattle.memory.specs.Access.{Byte, number_in}
-use Rattle.memory.specs.Addresses.{text_start, data_start, byte_at, AreBytes}
-use Rattle.hart_core.specs.Alu.{load_size}
+use Rattle.memory.specs.Access.{Byte, number_in, text_start, data_start, byte_at, AreBytes}
+use Rattle.hart_core.specs.Scalar.{load_size}
 use Rattle.lanes.specs.Words as lanes
 use Rattle.multi_hart_logic.specs.Alone.{World}
 use Rattle.multi_hart_logic.specs.Paths.{Line, lane, vl_number, byte_of, write_bytes, Readable}

@@ -11,7 +11,7 @@ use Rattle.rv_insn.specs.declared.vector_operations.ElementWidth.TheVariants.{Bi
 use Rattle.rv_insn.specs.declared.vector_operations.ArithmeticVxOp.TheVariants as vxs
 use Rattle.rv_insn.specs.declared.vector_operations.MultiplyOp.TheVariants as multiplies
 use Rattle.memory.specs.Access.{Word, number_in}
-use Rattle.hart_core.specs.Alu.{load_size}
+use Rattle.hart_core.specs.Scalar.{load_size}
 use Rattle.lanes.specs.Words as lanes
 use Rattle.multi_hart_logic.specs.Alone.{World}
 use Rattle.multi_hart_logic.specs.Paths.{lane, vl_number, IsGroup, Readable}

@@ -10,7 +10,7 @@ use Rattle.multi_hart_logic.proofs.LaneRows.{lanes-new, lanes-below, lanes-above
 use Rattle.multi_hart_logic.proofs.FirstGroup.{groups-hold, held-above, held-same, written-above}
 use Rattle.task_code_scalar.specs.Values.{Free, Leaves as LeavesOne}
 use Rattle.task_code_scalar.proofs.Values.{Sets}
-use Rattle.vector_unit.specs.VectorState.{is_supported, width_of, group_of, most_elements}
+use Rattle.vector_unit.specs.Vector.{is_supported, width_of, group_of, most_elements}
 use Rattle.task_code_lanes.specs.declared.groups.Group.{Group}
 use Rattle.task_code_lanes.specs.Groups.{registers, slot, spare}
 use Rattle.task_code_lanes.specs.Leaving.{HasLanes, IsKept, LeavesLanes}

@@ -8,8 +8,7 @@ use Rattle.rv_insn.specs.declared.vector_instructions.VectorInsn.TheVariants as 
 use Rattle.rv_insn.specs.declared.vector_instructions.Addressing.TheVariants as addressings
 use Rattle.rv_insn.specs.declared.vector_operations.ElementWidth.TheVariants.{Bits32}
 use Rattle.rv_insn.specs.declared.vector_operations.ArithmeticViOp.TheVariants as vis
-use Rattle.memory.specs.Addresses.{byte_at, AreBytes}
-use Rattle.memory.specs.Access.{Word, word_at, access_at, touched, put_number}
+use Rattle.memory.specs.Access.{byte_at, AreBytes, Word, word_at, access_at, touched, put_number}
 use Rattle.memory.proofs.Words.{word-put, word-same, word-other}
 use Rattle.lanes.specs.Words as lanes
 use Rattle.hart_core.specs.Scalar.{one_access}
@@ -17,7 +16,7 @@ use Rattle.halide_pipeline.specs.Pixel.{Planes, reads_of}
 use Rattle.loop_ir.specs.declared.expressions.Counter.{Counter}
 use Rattle.loop_ir.specs.Counters.{Values}
 use Rattle.multi_hart_logic.specs.Alone.{World}
-use Rattle.multi_hart.specs.Frame.{is_in}
+use Rattle.multi_hart.specs.Run.{is_in}
 use Rattle.multi_hart_logic.specs.Paths.{Line, lane, vl_number, vtype_number, stored_at, Readable, Writable}
 use Rattle.multi_hart_logic.specs.LaneMemory.{firsts, AllReadable, AllWritable, stored_lanes}
 use Rattle.multi_hart_logic.proofs.Paths.{line-then}

@@ -2,7 +2,7 @@
 -- This project's own.
 use Rattle.std.specs.Prelude.{◌≡◌, ◌<◌, ◌≤◌, ℕ, suc, ◌+◌, ◌*◌, ◌^◌, nat_lt, Bool, true, false, List, [], ◌∷◌}
 use Rattle.rv_insn.specs.declared.operations.BranchOp.TheVariants as branches
-use Rattle.hart_core.specs.Alu.{is_taken}
+use Rattle.hart_core.specs.Scalar.{is_taken}
 use Rattle.loop_ir.specs.declared.expressions.Counter.{Counter}
 use Rattle.loop_ir.specs.Counters.{Values, with}
 use Rattle.task_code_registers.specs.declared.scopes.Form.{Form}

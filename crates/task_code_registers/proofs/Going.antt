@@ -2,7 +2,7 @@
 use Rattle.std.proofs.Common.{◌≡◌, ℕ, ◌+◌, List, refl, ◌∙◌, subst, inl, inr}
 use Rattle.std.specs.Prelude.{◌⊎◌}
 use Rattle.rv_insn.specs.declared.instructions.Insn.{Insn}
-use Rattle.memory.specs.Addresses.{byte_at, AreBytes}
+use Rattle.memory.specs.Access.{byte_at, AreBytes}
 use Rattle.halide_pipeline.specs.Pixel.{Planes}
 use Rattle.multi_hart_logic.specs.Paths.{Stand, end, Path, Writes}
 use Rattle.multi_hart_logic.proofs.Paths.{path-then, writes-first, writes-later}

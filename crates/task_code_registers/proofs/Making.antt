@@ -9,7 +9,7 @@ use Rattle.rv_insn.specs.declared.instructions.Insn.TheVariants.{Lui, AluImm, Sh
 use Rattle.rv_insn.specs.declared.operations.AluImmOp.TheVariants as alu_imms
 use Rattle.rv_insn.specs.declared.operations.ShiftOp.TheVariants as shifts
 use Rattle.rv_insn.specs.declared.operations.AluOp.TheVariants as alus
-use Rattle.hart_core.specs.Alu.{extended}
+use Rattle.hart_core.specs.Scalar.{extended}
 use Rattle.lanes.specs.Words as lanes
 use Rattle.multi_hart_logic.specs.Alone.{World}
 use Rattle.multi_hart_logic.specs.Paths.{update}

@@ -1,7 +1,7 @@
 -- What code does that takes turns and writes points, whatever its instructions are. This project's own.
 use Rattle.std.specs.Prelude.{◌≡◌, ℕ, true, List}
 use Rattle.rv_insn.specs.declared.instructions.Insn.{Insn}
-use Rattle.memory.specs.Addresses.{byte_at, AreBytes}
+use Rattle.memory.specs.Access.{byte_at, AreBytes}
 use Rattle.halide_pipeline.specs.Pixel.{Planes}
 use Rattle.loop_ir.specs.Buffers.{Points}
 use Rattle.multi_hart_logic.specs.Paths.{Stand, Block, Writes}

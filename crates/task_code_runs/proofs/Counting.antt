@@ -5,7 +5,7 @@ use Rattle.std.proofs.lemmas.Bool.Decides.{nat_tests}
 use Rattle.std.proofs.lemmas.Bool.{and_parts}
 use Rattle.rv_insn.specs.declared.instructions.Insn.TheVariants.{Vector}
 use Rattle.rv_insn.specs.declared.vector_instructions.VectorInsn.TheVariants as v
-use Rattle.vector_unit.specs.VectorState.{most_elements}
+use Rattle.vector_unit.specs.Vector.{most_elements}
 use Rattle.loop_ir.specs.Counters.{Values, with}
 use Rattle.loop_ir.specs.declared.expressions.Counter.{Counter}
 use Rattle.halide_pipeline.specs.Words as word

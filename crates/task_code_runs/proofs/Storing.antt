@@ -9,7 +9,7 @@ use Rattle.lanes.specs.Words as lanes
 use Rattle.memory.specs.Access.{Word, touched}
 use Rattle.halide_pipeline.specs.Pixel.{Planes}
 use Rattle.loop_ir.specs.AtOnce.{Effect}
-use Rattle.multi_hart.specs.Frame.{is_in}
+use Rattle.multi_hart.specs.Run.{is_in}
 use Rattle.multi_hart_logic.specs.Alone.{World}
 use Rattle.multi_hart_logic.specs.Paths.{Path, lane, vl_number}
 use Rattle.multi_hart_logic.specs.LaneMemory.{accesses_to, offset_at, stored_lanes, AllWritable, OffsetsFit}

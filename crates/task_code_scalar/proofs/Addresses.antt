@@ -7,7 +7,7 @@ use Rattle.rv_insn.specs.declared.operations.AluOp.TheVariants as alus
 use Rattle.rv_insn.specs.declared.operations.LoadOp.TheVariants as load_ops
 use Rattle.rv_insn.specs.declared.operations.ShiftOp.TheVariants as shifts
 use Rattle.lanes.specs.Words as lanes
-use Rattle.hart_core.specs.Alu.{plus, load_size}
+use Rattle.hart_core.specs.Scalar.{plus, load_size}
 use Rattle.memory.specs.Access.{number_in, Word, Byte}
 use Rattle.multi_hart_logic.specs.Alone.{World}
 use Rattle.multi_hart_logic.specs.Paths.{update, Line, Readable}

@@ -2,7 +2,7 @@
 use Rattle.std.proofs.Common.{◌≡◌, ◌≤◌, ℕ, suc, ◌+◌, List, ◌++◌, length, Bool, true, false, refl, ◌∙◌, sym, subst, inl, inr, length-append}
 use Rattle.std.specs.Prelude.{◌⊎◌}
 use Rattle.rv_insn.specs.declared.instructions.Insn.{Insn}
-use Rattle.memory.specs.Addresses.{byte_at, AreBytes}
+use Rattle.memory.specs.Access.{byte_at, AreBytes}
 use Rattle.halide_pipeline.specs.Pixel.{Planes}
 use Rattle.multi_hart_logic.specs.Paths.{Stand, end, Path, Writes}
 use Rattle.multi_hart_logic.proofs.Paths.{path-then, end-append, stand-front, stand-back, writes-first, writes-later}

@@ -9,8 +9,7 @@ use Rattle.rv_insn.specs.declared.instructions.Insn.{Insn}
 use Rattle.rv_insn.specs.declared.instructions.Insn.TheVariants.{Jal, Branch, AluImm}
 use Rattle.rv_insn.specs.declared.operations.BranchOp.TheVariants as branches
 use Rattle.rv_insn.specs.declared.operations.AluImmOp.TheVariants as alu_imms
-use Rattle.hart_core.specs.Alu.{plus}
-use Rattle.hart_core.specs.Scalar.{offset_from}
+use Rattle.hart_core.specs.Scalar.{plus, offset_from}
 use Rattle.halide_pipeline.specs.Pixel.{Planes}
 use Rattle.loop_ir.specs.declared.expressions.Counter.{Counter}
 use Rattle.loop_ir.specs.Counters.{Values, with}

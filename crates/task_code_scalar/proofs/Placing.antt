@@ -10,7 +10,7 @@ use Rattle.rv_insn.specs.declared.instructions.Insn.TheVariants.{Store as Save}
 use Rattle.rv_insn.specs.declared.operations.AluImmOp.TheVariants as alu_imms
 use Rattle.rv_insn.specs.declared.operations.StoreOp.TheVariants as save_ops
 use Rattle.memory.specs.Access.{Word, put_number}
-use Rattle.hart_core.specs.Alu.{plus}
+use Rattle.hart_core.specs.Scalar.{plus}
 use Rattle.halide_pipeline.specs.declared.expressions.Source.TheVariants as sources
 use Rattle.halide_pipeline.specs.Pixel.{Planes, reads_of}
 use Rattle.loop_ir.specs.declared.expressions.Counter.{Counter}

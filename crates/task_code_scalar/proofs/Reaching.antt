@@ -7,7 +7,7 @@ use Rattle.rv_insn.specs.declared.instructions.Insn.{Insn}
 use Rattle.rv_insn.specs.declared.operations.AluOp.TheVariants as alus
 use Rattle.rv_insn.specs.declared.operations.ShiftOp.TheVariants as shifts
 use Rattle.lanes.specs.Words as lanes
-use Rattle.hart_core.specs.Alu.{one_if}
+use Rattle.hart_core.specs.Scalar.{one_if}
 use Rattle.loop_ir.specs.Running.{at_most}
 use Rattle.multi_hart_logic.specs.Alone.{World}
 use Rattle.multi_hart_logic.specs.Paths.{Line}

@@ -5,20 +5,18 @@ use Rattle.std.specs.Int.{w32, to_le_bytes}
 use Rattle.std.proofs.lemmas.Bool.{cases_eq, cases_lt, and_right}
 use Rattle.std.proofs.lemmas.Bool.Decides.{nat_tests}
 use Rattle.std.proofs.lemmas.List.{append-nil}
-use Rattle.memory.specs.Addresses.{byte_at, put, NotIn, AreBytes}
-use Rattle.memory.specs.Access.{Byte, Word, number_in, put_number, touched, number_of}
+use Rattle.memory.specs.Access.{byte_at, put, NotIn, AreBytes, Byte, Word, number_in, put_number, touched, number_of}
 use Rattle.memory.proofs.Putting.{length-put, byte-put}
 use Rattle.memory.proofs.StaysBytes.{put-bytes, number-bytes}
 use Rattle.memory.proofs.Words.{word-put, word-other}
-use Rattle.hart_core.specs.Alu.{load_size}
-use Rattle.hart_core.specs.Scalar.{one_access}
+use Rattle.hart_core.specs.Scalar.{load_size, one_access}
 use Rattle.halide_pipeline.specs.declared.expressions.Source.{Source}
 use Rattle.halide_pipeline.specs.declared.expressions.Source.TheVariants as sources
 use Rattle.halide_pipeline.specs.Pixel.{Planes, reads_of}
 use Rattle.halide_pipeline.specs.Points.{Point}
 use Rattle.loop_ir.specs.Buffers.{Points, put as put_point}
 use Rattle.multi_hart_logic.specs.Alone.{World}
-use Rattle.multi_hart.specs.Frame.{is_in}
+use Rattle.multi_hart.specs.Run.{is_in}
 use Rattle.multi_hart_logic.specs.Paths.{stored_at}
 use Rattle.task_code_scalar.specs.declared.places.Pixels.{Pixels}
 use Rattle.task_code_scalar.specs.declared.places.Pixels.TheVariants as pixels

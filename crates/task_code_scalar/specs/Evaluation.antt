@@ -2,11 +2,10 @@
 -- This project's own.
 use Rattle.std.specs.Prelude.{◌≡◌, ◌<◌, ◌≤◌, ℕ, ◌+◌, ◌*◌, ◌/◌, ◌^◌, true, List, length}
 use Rattle.std.specs.List.{AllByRecursion}
-use Rattle.memory.specs.Access.{Word, number_in}
-use Rattle.memory.specs.Addresses.{AreBytes}
+use Rattle.memory.specs.Access.{Word, number_in, AreBytes}
 use Rattle.rv_insn.specs.declared.operations.LoadOp.{LoadOp}
 use Rattle.rv_insn.specs.declared.operations.LoadOp.TheVariants as load_ops
-use Rattle.hart_core.specs.Alu.{load_size}
+use Rattle.hart_core.specs.Scalar.{load_size}
 use Rattle.halide_pipeline.specs.declared.expressions.Source.{Source}
 use Rattle.halide_pipeline.specs.Pixel.{Reads}
 use Rattle.halide_pipeline.specs.Points.{Point}

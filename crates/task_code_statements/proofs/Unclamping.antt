@@ -4,9 +4,8 @@ use Rattle.std.specs.Prelude.{◌==◌, ◌&&◌, not, nat_lt}
 use Rattle.std.specs.List.{list_all}
 use Rattle.std.proofs.lemmas.Bool.{and_parts}
 use Rattle.std.proofs.lemmas.List.Folds.{list_all-append}
-use Rattle.memory.specs.Access.{Byte, number_in}
-use Rattle.memory.specs.Addresses.{AreBytes, byte_at, data_start}
-use Rattle.hart_core.specs.Alu.{load_size}
+use Rattle.memory.specs.Access.{Byte, number_in, AreBytes, byte_at, data_start}
+use Rattle.hart_core.specs.Scalar.{load_size}
 use Rattle.halide_pipeline.specs.declared.expressions.Source.{Source}
 use Rattle.halide_pipeline.specs.declared.expressions.Source.TheVariants as sources
 use Rattle.halide_pipeline.specs.Pixel.{Planes, Reads, reads_of}

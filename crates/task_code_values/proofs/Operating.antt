@@ -6,7 +6,7 @@ use Rattle.rv_insn.specs.declared.instructions.Insn.TheVariants.{Alu, AluImm}
 use Rattle.rv_insn.specs.declared.operations.AluImmOp.TheVariants as alu_imms
 use Rattle.rv_insn.specs.declared.operations.AluOp.{AluOp}
 use Rattle.rv_insn.specs.declared.operations.AluOp.TheVariants as alus
-use Rattle.hart_core.specs.Alu.{computed, one_if}
+use Rattle.hart_core.specs.Scalar.{computed, one_if}
 use Rattle.lanes.specs.Words as lanes
 use Rattle.halide_pipeline.specs.declared.expressions.Operation.{Operation}
 use Rattle.halide_pipeline.specs.declared.expressions.Operation.TheVariants as op

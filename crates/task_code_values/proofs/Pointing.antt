@@ -10,7 +10,7 @@ use Rattle.rv_insn.specs.declared.operations.AluOp.TheVariants as alus
 use Rattle.rv_insn.specs.declared.operations.AluImmOp.TheVariants as alu_imms
 use Rattle.rv_insn.specs.declared.operations.ShiftOp.TheVariants as shifts
 use Rattle.memory.specs.Access.{number_in}
-use Rattle.hart_core.specs.Alu.{plus, load_size, loaded, extended}
+use Rattle.hart_core.specs.Scalar.{plus, load_size, loaded, extended}
 use Rattle.halide_pipeline.specs.Words as word
 use Rattle.loop_ir.specs.declared.expressions.Linear.{Linear}
 use Rattle.loop_ir.specs.declared.expressions.Term.{Term}

@@ -11,7 +11,7 @@ use Rattle.std.proofs.lemmas.Nat.{and_mask, pow-add, pow_pos}
 use Rattle.rv_insn.specs.declared.instructions.Insn.TheVariants.{AluImm, Shift}
 use Rattle.rv_insn.specs.declared.operations.AluImmOp.TheVariants as alu_imms
 use Rattle.rv_insn.specs.declared.operations.ShiftOp.TheVariants as shifts
-use Rattle.hart_core.specs.Alu.{extended}
+use Rattle.hart_core.specs.Scalar.{extended}
 use Rattle.lanes.specs.Words as lanes
 use Rattle.halide_pipeline.specs.Words as word
 use Rattle.task_code_scalar.specs.Code.{lower}

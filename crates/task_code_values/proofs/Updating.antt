@@ -7,7 +7,7 @@ use Rattle.std.proofs.lemmas.List.Folds.{list_all-append}
 use Rattle.rv_insn.specs.declared.instructions.Insn.{Insn}
 use Rattle.rv_insn.specs.declared.instructions.Insn.TheVariants.{Load as Fetch, Store as Save}
 use Rattle.rv_insn.specs.declared.operations.StoreOp.TheVariants as save_ops
-use Rattle.hart_core.specs.Alu.{plus}
+use Rattle.hart_core.specs.Scalar.{plus}
 use Rattle.halide_pipeline.specs.declared.expressions.Operation.{Operation}
 use Rattle.halide_pipeline.specs.declared.expressions.Source.TheVariants as sources
 use Rattle.halide_pipeline.specs.Pixel.{reads_of}

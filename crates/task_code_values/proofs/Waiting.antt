@@ -7,10 +7,9 @@ use Rattle.rv_insn.specs.declared.instructions.Insn.TheVariants.{AluImm, Load as
 use Rattle.rv_insn.specs.declared.operations.AluImmOp.TheVariants as alu_imms
 use Rattle.rv_insn.specs.declared.operations.LoadOp.TheVariants as load_ops
 use Rattle.rv_insn.specs.declared.operations.StoreOp.TheVariants as save_ops
-use Rattle.memory.specs.Addresses.{byte_at, AreBytes}
-use Rattle.memory.specs.Access.{Word, word_at, put_number}
+use Rattle.memory.specs.Access.{byte_at, AreBytes, Word, word_at, put_number}
 use Rattle.memory.proofs.Words.{word-put, word-same}
-use Rattle.hart_core.specs.Alu.{plus}
+use Rattle.hart_core.specs.Scalar.{plus}
 use Rattle.halide_pipeline.specs.Pixel.{Planes, reads_of}
 use Rattle.loop_ir.specs.declared.expressions.Expr.{Expr}
 use Rattle.loop_ir.specs.declared.expressions.Linear.{Linear}

@@ -1,7 +1,7 @@
 -- What appended code makes of registers, whatever its instructions are. This project's own.
 use Rattle.std.specs.Prelude.{◌≡◌, ◌≢◌, ◌⊎◌, ◌<◌, ◌≤◌, ℕ, ◌^◌, ◌==◌, Bool, if◌then◌else◌, List, length}
 use Rattle.rv_insn.specs.declared.instructions.Insn.{Insn}
-use Rattle.hart_core.specs.Alu.{one_if}
+use Rattle.hart_core.specs.Scalar.{one_if}
 use Rattle.loop_ir.specs.Counters.{Values}
 use Rattle.multi_hart_logic.specs.Alone.{World}
 use Rattle.multi_hart_logic.specs.Paths.{Line}

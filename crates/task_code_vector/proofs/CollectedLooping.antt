@@ -10,7 +10,7 @@ use Rattle.rv_insn.specs.declared.vector_instructions.Addressing.TheVariants as 
 use Rattle.rv_insn.specs.declared.vector_operations.ElementWidth.TheVariants.{Bits32}
 use Rattle.memory.specs.Access.{Word, touched}
 use Rattle.lanes.specs.Words as lanes
-use Rattle.vector_unit.specs.VectorState.{is_supported, width_of, group_of, most_elements}
+use Rattle.vector_unit.specs.Vector.{is_supported, width_of, group_of, most_elements}
 use Rattle.halide_pipeline.specs.Pixel.{Planes, Reads, reads_of}
 use Rattle.loop_ir.specs.declared.expressions.Counter.{Counter}
 use Rattle.loop_ir.specs.declared.statements.LoopKind.TheVariants.{Vectorized}
@@ -26,7 +26,7 @@ use Rattle.loop_ir.proofs.Rounds.{rounds_for}
 use Rattle.loop_ir.proofs.Sound.{sound_for}
 use Rattle.loop_ir.proofs.Trees.{run_for}
 use Rattle.multi_hart_logic.specs.Alone.{World, Keeps}
-use Rattle.multi_hart.specs.Frame.{is_in}
+use Rattle.multi_hart.specs.Run.{is_in}
 use Rattle.multi_hart_logic.specs.Paths.{Path, end, configure, lane, vl_number, vtype_number}
 use Rattle.multi_hart_logic.specs.LaneMemory.{accesses_to, stored_lanes, AllWritable}
 use Rattle.multi_hart_logic.proofs.Configurations.{configure-at}

@@ -4,7 +4,7 @@ use Rattle.std.specs.Prelude.{◌==◌, min, nat_lt, Option, Some, None}
 use Rattle.std.proofs.Math.Nat.{le-div_iff_mul-le, div-le_self, mul-le-mul_right}
 use Rattle.std.proofs.lemmas.Bool.{and_parts, true≢false}
 use Rattle.std.proofs.lemmas.Bool.Decides.{nat_tests}
-use Rattle.hart_core.specs.Alu.{one_if}
+use Rattle.hart_core.specs.Scalar.{one_if}
 use Rattle.loop_ir.specs.declared.expressions.Counter.{Counter}
 use Rattle.loop_ir.specs.Counters.{Values}
 use Rattle.task_code_lanes.specs.declared.goings.Cut.{Cut}

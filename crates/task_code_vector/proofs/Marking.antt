@@ -7,8 +7,8 @@ use Rattle.rv_insn.specs.declared.instructions.Insn.TheVariants.{AluImm, Vector}
 use Rattle.rv_insn.specs.declared.operations.AluImmOp.TheVariants as alu_imms
 use Rattle.rv_insn.specs.declared.vector_instructions.VectorInsn.TheVariants as v
 use Rattle.rv_insn.specs.declared.vector_operations.CompareVxOp.TheVariants as compare_vxs
-use Rattle.hart_core.specs.Alu.{one_if}
-use Rattle.vector_unit.specs.VectorState.{most_elements}
+use Rattle.hart_core.specs.Scalar.{one_if}
+use Rattle.vector_unit.specs.Vector.{most_elements}
 use Rattle.multi_hart_logic.specs.Alone.{World}
 use Rattle.multi_hart_logic.specs.Paths.{Line, configure, update, lane, bit}
 use Rattle.multi_hart_logic.proofs.Paths.{line-then, update-other}

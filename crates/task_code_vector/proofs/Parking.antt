@@ -6,7 +6,7 @@ use Rattle.std.proofs.lemmas.Bool.Decides.{nat_tests}
 use Rattle.rv_insn.specs.declared.instructions.Insn.{Insn}
 use Rattle.rv_insn.specs.declared.instructions.Insn.TheVariants.{Alu}
 use Rattle.rv_insn.specs.declared.operations.AluOp.TheVariants as alus
-use Rattle.hart_core.specs.Alu.{computed, one_if}
+use Rattle.hart_core.specs.Scalar.{computed, one_if}
 use Rattle.lanes.specs.Words as lanes
 use Rattle.halide_pipeline.specs.Pixel.{Planes}
 use Rattle.multi_hart_logic.specs.Alone.{World}

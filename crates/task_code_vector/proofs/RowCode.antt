@@ -10,7 +10,7 @@ use Rattle.rv_insn.specs.declared.operations.AluImmOp.TheVariants as alu_imms
 use Rattle.rv_insn.specs.declared.vector_instructions.VectorInsn.TheVariants as v
 use Rattle.rv_insn.specs.declared.vector_instructions.Addressing.TheVariants as addressings
 use Rattle.rv_insn.specs.declared.vector_operations.ElementWidth.TheVariants.{Bits32}
-use Rattle.vector_unit.specs.VectorState.{is_supported, width_of, group_of, most_elements}
+use Rattle.vector_unit.specs.Vector.{is_supported, width_of, group_of, most_elements}
 use Rattle.memory.specs.Access.{Word, touched}
 use Rattle.lanes.specs.Words as lanes
 use Rattle.halide_pipeline.specs.declared.expressions.Source.TheVariants as sources
@@ -25,7 +25,7 @@ use Rattle.loop_ir.specs.Expressions.{value, loads}
 use Rattle.loop_ir.specs.Soundness.{store_loads, is_sound_store}
 use Rattle.loop_ir.proofs.AtOnce.{effect_store}
 use Rattle.multi_hart_logic.specs.Alone.{World}
-use Rattle.multi_hart.specs.Frame.{is_in}
+use Rattle.multi_hart.specs.Run.{is_in}
 use Rattle.multi_hart_logic.specs.Paths.{Path, configure, lane, vl_number, vtype_number, LanesConfigured, IsGroup, update}
 use Rattle.multi_hart_logic.specs.LaneMemory.{accesses_to, stored_lanes, AllWritable}
 use Rattle.multi_hart_logic.proofs.Paths.{update-same, update-other}

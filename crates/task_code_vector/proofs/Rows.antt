@@ -2,8 +2,7 @@
 use Rattle.std.proofs.Common.{◌≡◌, ℕ, zero, suc, ◌+◌, ◌*◌, ◌%◌, ◌^◌, ◌<◌, ◌≤◌, List, [], ◌∷◌, ◌++◌, length, Bool, true, false, refl, ap, ◌∙◌, sym, subst, arith, inl, inr}
 use Rattle.std.specs.Prelude.{◌==◌, if◌then◌else◌, map, Option, Some}
 use Rattle.std.proofs.lemmas.Bool.{cases_eq}
-use Rattle.memory.specs.Addresses.{byte_at, AreBytes}
-use Rattle.memory.specs.Access.{Word, access_at, touched}
+use Rattle.memory.specs.Access.{byte_at, AreBytes, Word, access_at, touched}
 use Rattle.hart_core.specs.Scalar.{one_access}
 use Rattle.lanes.specs.Words as lanes
 use Rattle.halide_pipeline.specs.declared.expressions.Source.TheVariants as sources
@@ -11,7 +10,7 @@ use Rattle.halide_pipeline.specs.Pixel.{Planes, reads_of}
 use Rattle.loop_ir.specs.AtOnce.{Effect}
 use Rattle.loop_ir.specs.Running.{turns}
 use Rattle.multi_hart_logic.specs.Alone.{World}
-use Rattle.multi_hart.specs.Frame.{is_in}
+use Rattle.multi_hart.specs.Run.{is_in}
 use Rattle.multi_hart_logic.specs.Paths.{stored_at}
 use Rattle.multi_hart_logic.specs.LaneMemory.{firsts, accesses_to, AllWritable, stored_lanes}
 use Rattle.task_code_scalar.specs.declared.places.Place.{Place}

@@ -106,14 +106,14 @@ class Schedule:
         words = self.compute[name]
         if not words:
             return "root"
-        host, inside = words
-        is_later = host in self.order and self.order.index(host) > self.order.index(name)
-        is_root = host == self.pipeline.output[0] or self.compute.get(host, None) == ()
-        if not is_later or not is_root or self.pipeline.funcs[host]["updates"]:
+        consumer, inside = words
+        is_later = consumer in self.order and self.order.index(consumer) > self.order.index(name)
+        is_root = consumer == self.pipeline.output[0] or self.compute.get(consumer, None) == ()
+        if not is_later or not is_root or self.pipeline.funcs[consumer]["updates"]:
             return "nowhere"
-        for loop in self.stages[host, None].loops:
+        for loop in self.stages[consumer, None].loops:
             if loop["name"] == inside and not (loop["mark"] and loop["mark"][0] == "vectorized"):
-                return f"at func {self.order.index(host)} {loop['id']}"
+                return f"at func {self.order.index(consumer)} {loop['id']}"
         return "nowhere"
 
     def lines(self):

@@ -41,10 +41,10 @@ fn push_standing(number: usize, standing: Standing, out: &mut String) -> Result<
         Place::Inlined => out.push_str("inlined")?,
         Place::Root => out.push_str("root")?,
         Place::Nowhere => out.push_str("nowhere")?,
-        Place::At(host) => {
-            let func = host.func;
+        Place::At(consumer) => {
+            let func = consumer.func;
             write!(out, "at func {func} ")?;
-            push_id(host.inside, out)?;
+            push_id(consumer.inside, out)?;
         }
     }
     out.push_str("\n")

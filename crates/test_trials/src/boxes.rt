@@ -198,7 +198,7 @@ fn push_box(own: &Option<SourceBox>, has_rows: bool, out: &mut String) -> Result
     out.push_str("\n")
 }
 
-/// A range: what each loop of the host adds, innermost first, and the least and the greatest number.
+/// A range: what each loop of the consumer adds, innermost first, and the least and the greatest number.
 fn push_range(range: &Range, out: &mut String) -> Result<(), AllocError> {
     out.push_str(" ")?;
     for (place, multiple) in range.base.as_slice().iter().enumerate() {

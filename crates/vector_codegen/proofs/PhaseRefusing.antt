@@ -1,7 +1,7 @@
 -- When the code of a phase is too long.
 use Rattle.std.proofs.Common.{ℕ, ◌+◌, ◌^◌, ◌<◌, ◌≤◌, List, [], Bool, true, false, length, arith}
 use Rattle.rv_insn.specs.declared.instructions.Insn.{Insn}
-use Rattle.memory.specs.Addresses.{most_words}
+use Rattle.memory.specs.Access.{most_words}
 use Rattle.task_code_scalar.specs.Words.{Emits}
 use Rattle.task_code_scalar.proofs.Spelling.{emits-length}
 use Rattle.vector_codegen.specs.PhaseCode.{phase_code, door_words}

@@ -4,8 +4,7 @@ use Rattle.std.specs.Prelude.{slice_index_or, pos}
 use Rattle.std.proofs.Math.IntN.{pos-*ℤ-pos, pos-*ℤ-negsuc, neg_ℤ}
 use Rattle.rv_insn.specs.declared.instructions.Insn.{Insn}
 use Rattle.rv_insn.specs.declared.instructions.Insn.TheVariants.{Jal}
-use Rattle.hart_core.specs.Alu.{plus}
-use Rattle.hart_core.specs.Scalar.{offset_from}
+use Rattle.hart_core.specs.Scalar.{plus, offset_from}
 use Rattle.multi_hart_logic.specs.Alone.{Says}
 use Rattle.multi_hart_logic.specs.Paths.{Spot, Stand, end}
 use Rattle.multi_hart_logic.proofs.Paths.{stand-front, stand-back}

@@ -4,7 +4,7 @@ use Rattle.std.specs.Prelude.{Result, IfErr, IsErrAnd}
 use Rattle.std.specs.List.{AllByRecursion}
 use Rattle.rv_insn.specs.declared.instructions.Insn.{Insn}
 use Rattle.loop_ir.specs.declared.statements.Phase.{Phase}
-use Rattle.memory.specs.Addresses.{most_words}
+use Rattle.memory.specs.Access.{most_words}
 use Rattle.vector_codegen_sharing.specs.Turns.{ticket_word}
 use Rattle.task_code_scalar.specs.declared.CodeFault.{CodeFault}
 use Rattle.task_code_scalar.specs.declared.places.Places.{Places}

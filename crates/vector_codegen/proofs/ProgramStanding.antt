@@ -6,7 +6,7 @@ use Rattle.std.proofs.Math.Seq.{take-length}
 use Rattle.std.proofs.lemmas.Bool.Decides.{nat_tests}
 use Rattle.std.proofs.lemmas.List.{append-nil}
 use Rattle.rv_insn.specs.declared.instructions.Insn.{Insn}
-use Rattle.memory.specs.Addresses.{most_words}
+use Rattle.memory.specs.Access.{most_words}
 use Rattle.loop_ir.specs.declared.statements.Phase.{Phase}
 use Rattle.vector_codegen_sharing.specs.Turns.{ticket_word}
 use Rattle.task_code_scalar.specs.declared.places.Places.{Places}

@@ -3,8 +3,7 @@ use Rattle.std.proofs.Common.{◌≡◌, ℕ, zero, suc, ◌+◌, ◌*◌, ◌%�
 use Rattle.std.specs.Prelude.{◌==◌, slice_get, slice_index, slice_index_or, replicate, negsuc}
 use Rattle.std.proofs.lemmas.Bool.{cases_lt}
 use Rattle.std.proofs.lemmas.Bool.Decides.{nat_tests}
-use Rattle.memory.specs.Addresses.{text_start, data_start, AreBytes}
-use Rattle.memory.specs.Access.{word_at}
+use Rattle.memory.specs.Access.{text_start, data_start, AreBytes, word_at}
 use Rattle.hart_core.specs.HartState.{HartState, opening_hart}
 use Rattle.hart_core.specs.Scalar.{offset_from}
 use Rattle.rv_insn.specs.declared.instructions.Insn.TheVariants.{Jal, Branch}

@@ -2,7 +2,7 @@
 -- said. This project's own.
 use Rattle.std.specs.Prelude.{◌≡◌, ◌<◌, ◌≤◌, ◌^◌, ◌+◌, ℕ, suc, List, [], ◌∷◌, length}
 use Rattle.std.specs.List.{AllByRecursion}
-use Rattle.memory.specs.Addresses.{most_words, text_start}
+use Rattle.memory.specs.Access.{most_words, text_start}
 use Rattle.multi_hart_logic.specs.Paths.{Stand}
 use Rattle.loop_ir.specs.declared.statements.Phase.{Phase}
 use Rattle.loop_ir.specs.Depths.{task_depth}

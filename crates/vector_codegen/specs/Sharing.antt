@@ -1,7 +1,7 @@
 -- What holds of a program of phases once each task's code does the task: it shares its work as all promises on every list of turns ask.
 -- This project's own.
 use Rattle.std.specs.Prelude.{◌≡◌, ◌<◌, ◌≤◌, ℕ, zero, suc, ◌+◌, ◌*◌, ◌^◌, ◌==◌, Bool, true, List, [], length, slice_index_or}
-use Rattle.memory.specs.Addresses.{text_start, data_start, most_bytes, byte_at, AreBytes}
+use Rattle.memory.specs.Access.{text_start, data_start, most_bytes, byte_at, AreBytes}
 use Rattle.hart_core.specs.HartState.{HartState}
 use Rattle.multi_hart_logic.specs.Uses.{Use, Control, Fixed, Owned, Shared, Job, Task, Setup}
 use Rattle.multi_hart_logic.specs.Paths.{Stand, Block, Writes}

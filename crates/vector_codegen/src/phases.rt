@@ -6,7 +6,7 @@ ghost use Rattle.rv_insn.specs.declared.instructions.Insn.{Insn as Instruction};
 ghost use Rattle.rv_insn.specs.declared.instructions.Insn.TheVariants as insns;
 ghost use Rattle.rv_insn.specs.declared.operations.BranchOp.TheVariants.{Bgeu, Bne};
 ghost use Rattle.rv_insn.specs.declared.operations.LoadOp.TheVariants.{Lw};
-ghost use Rattle.memory.specs.Addresses.{most_words};
+ghost use Rattle.memory.specs.Access.{most_words};
 ghost use Rattle.task_code_scalar.specs.Faults.{IsFault};
 ghost use Rattle.task_code_scalar.specs.Words.{Emits};
 ghost use Rattle.vector_codegen.specs.PhaseCode as spec;

@@ -15,18 +15,17 @@ use Rattle.schedule.specs.declared.standings.Standing.{Standing}
 use Rattle.schedule.specs.Accepted.{IsAccepted, IsPlan}
 use Rattle.bounds.specs.declared.boxes.SourceBox.{SourceBox}
 use Rattle.bounds.specs.declared.verdict.Boxes.{Boxes}
-use Rattle.bounds.specs.Boxes.{box_in}
+use Rattle.bounds.specs.Extents.{box_in, corner_of}
 use Rattle.bounds.specs.Verdict.{inferred}
 use Rattle.bounds_laws.proofs.BoxFacts.{has_box}
 use Rattle.bounds_laws.proofs.PutIn.{pair_there}
 use Rattle.loop_ir.specs.declared.statements.Phase.{Phase}
 use Rattle.lowering.specs.Lowered.{ArePhasesOf, None_yet, One_more, IsNotAtRoot, AreLowered, No_func, Passed, Computed}
-use Rattle.lowering.specs.Planes.{corner_of, held}
-use Rattle.lowering.specs.PurePhases.{IsAtRoot}
+use Rattle.lowering.specs.Planes.{held}
+use Rattle.bounds.specs.Stages.{IsAtRoot, StagePlace, stages_to, stages_where, stages_at, stages_below}
 use Rattle.lowering.specs.Stages.{after_stages}
 use Rattle.vector_codegen_laws.specs.Points.{RootPoint}
 use Rattle.vector_codegen_laws.proofs.Counting.{length_behind}
-use Rattle.vector_codegen_laws.specs.Stages.{StagePlace, stages_to, stages_where, stages_at, stages_below}
 use Rattle.vector_codegen_laws.proofs.Facts.{Work, stage_of, IsKnown, known_phase}
 use Rattle.vector_codegen_laws.proofs.Matters.{start_of, result_of, AgreeAtRoots}
 

@@ -16,30 +16,27 @@ use Rattle.schedule.specs.declared.standings.Place.TheVariants as standpoints
 use Rattle.schedule.specs.declared.standings.Standing.{Standing}
 use Rattle.schedule.specs.Accepted.{IsAccepted}
 use Rattle.schedule.specs.Legal.{is_root}
-use Rattle.schedule_loops.specs.Iterations.{iteration_count}
+use Rattle.schedule_loops.specs.Visits.{iteration_count, owns}
 use Rattle.bounds_ranges.specs.Laws.{AnswerWords}
 use Rattle.bounds.specs.declared.boxes.SourceBox.{SourceBox}
 use Rattle.bounds.specs.declared.verdict.Boxes.{Boxes}
-use Rattle.bounds.specs.Boxes.{box_in, extent}
+use Rattle.bounds.specs.Extents.{box_in, extent, extents_of, update_extents}
 use Rattle.bounds.specs.Verdict.{inferred}
-use Rattle.bounds.specs.Views.{extents_of}
 use Rattle.bounds_laws.specs.Laws.{IsComputed}
 use Rattle.bounds_laws.proofs.BoxFacts.{HasBox, has_box}
 use Rattle.loop_ir.specs.declared.statements.Phase.{Phase}
 use Rattle.loop_ir.specs.Stores.{is_stored_by_task}
-use Rattle.lowering.specs.HostedFuncs.{hosted_from, is_hosted, is_at_loop_of}
+use Rattle.lowering.specs.ProducedFuncs.{produced_from, is_produced, is_at_loop_of}
 use Rattle.lowering.specs.Lowered.{IsStagePhase, Pure, Updating}
 use Rattle.lowering.specs.Phases.{Hold}
-use Rattle.lowering.specs.Planes.{held, has_point, box_points, owns}
-use Rattle.lowering.specs.PurePhases.{IsAtRoot}
+use Rattle.lowering.specs.Planes.{held, has_point, box_points}
+use Rattle.bounds.specs.Stages.{IsAtRoot, names, StagePlace, iterations, iterations_in, iterations_of, update_iterations, writes, writes_in, writes_of, update_writes}
 use Rattle.lowering.specs.Stages.{is_at_loop, is_private_in, is_private, after_stages, DoesStage}
-use Rattle.lowering.specs.Stored.{names}
 use Rattle.lowering.specs.Rounds.{RoundsMayBeAtOnce}
 use Rattle.lowering.specs.Runs.{StoresInRuns}
 use Rattle.lowering.specs.Touching.{is_listed, is_root_at, is_root_in, TouchesItsOwn}
-use Rattle.lowering.specs.Updates.{IsUpdateAt, update_extents, owns_update}
+use Rattle.lowering.specs.Updates.{IsUpdateAt, owns_update}
 use Rattle.vector_codegen_laws.specs.Points.{RootPoint, PrivatePoint}
-use Rattle.vector_codegen_laws.specs.Stages.{StagePlace, iterations, iterations_in, iterations_of, update_iterations, writes, writes_in, writes_of, update_writes}
 
 -- ---- points of a buffer
 
@@ -111,46 +108,46 @@ module _ (pipeline : Pipeline) (schedule : Schedule) (boxes : Boxes) where
         by_place own b standpoints.Inlined w c = absurd c
         by_place own b standpoints.Nowhere w c = absurd c
 
--- ---- Funcs at loops of a host
+-- ---- Funcs at loops of a consumer
 
-record Listed (host at k : ℕ) (standings : List Standing) : Type 0 where
+record Listed (consumer at k : ℕ) (standings : List Standing) : Type 0 where
   n : ℕ
   place_is : k ≡ at + n
   own : Standing
   there : slice_get standings n ≡ Some own
-  hosted : is_hosted host own ≡ true
+  produced : is_produced consumer own ≡ true
 
-listed_later : (host at k : ℕ) (first : Standing) (others : List Standing) → Listed host (suc at) k others → Listed host at k (first ∷ others)
-listed_later host at k first others l = let e = l.place_is in record { n = suc l.n; place_is = omega (arith, e); own = l.own; there = l.there; hosted = l.hosted }
+listed_later : (consumer at k : ℕ) (first : Standing) (others : List Standing) → Listed consumer (suc at) k others → Listed consumer at k (first ∷ others)
+listed_later consumer at k first others l = let e = l.place_is in record { n = suc l.n; place_is = omega (arith, e); own = l.own; there = l.there; produced = l.produced }
 
-listed_here : (host at k : ℕ) (first : Standing) (others : List Standing) → (is_listed (hosted_from host (suc at) others) k ≡ true → Listed host (suc at) k others)
-    → (b : Bool) → is_hosted host first ≡ b → is_listed (cond b (at ∷ hosted_from host (suc at) others) (hosted_from host (suc at) others)) k ≡ true → Listed host at k (first ∷ others)
-listed_here host at k first others next false f e = listed_later host at k first others (next e)
-listed_here host at k first others next true f e = elim (cases_eq at k) [
-  | inl q ↦ record { n = 0; place_is = omega (arith, q); own = first; there = refl; hosted = f }
-  | inr d ↦ listed_later host at k first others (next (sym (ap (λ (b : Bool). b || is_listed (hosted_from host (suc at) others) k) (ne_eqb at k d)) ∙ e))
+listed_here : (consumer at k : ℕ) (first : Standing) (others : List Standing) → (is_listed (produced_from consumer (suc at) others) k ≡ true → Listed consumer (suc at) k others)
+    → (b : Bool) → is_produced consumer first ≡ b → is_listed (cond b (at ∷ produced_from consumer (suc at) others) (produced_from consumer (suc at) others)) k ≡ true → Listed consumer at k (first ∷ others)
+listed_here consumer at k first others next false f e = listed_later consumer at k first others (next e)
+listed_here consumer at k first others next true f e = elim (cases_eq at k) [
+  | inl q ↦ record { n = 0; place_is = omega (arith, q); own = first; there = refl; produced = f }
+  | inr d ↦ listed_later consumer at k first others (next (sym (ap (λ (b : Bool). b || is_listed (produced_from consumer (suc at) others) k) (ne_eqb at k d)) ∙ e))
 ]
 
-listed_of : (host at : ℕ) (standings : List Standing) (k : ℕ) → is_listed (hosted_from host at standings) k ≡ true → Listed host at k standings
-listed_of host at [] k e = absurd (true≢false (sym e))
-listed_of host at (first ∷ others) k e = listed_here host at k first others (λ f. listed_of host (suc at) others k f) (is_hosted host first) refl e
+listed_of : (consumer at : ℕ) (standings : List Standing) (k : ℕ) → is_listed (produced_from consumer at standings) k ≡ true → Listed consumer at k standings
+listed_of consumer at [] k e = absurd (true≢false (sym e))
+listed_of consumer at (first ∷ others) k e = listed_here consumer at k first others (λ f. listed_of consumer (suc at) others k f) (is_produced consumer first) refl e
 
 record LoopOf (place : Place) : Type 0 where
   loop : LoopPlace
   is : place ≡ standpoints.At loop
 
-loop_of : (host : ℕ) (place : Place) → is_at_loop_of host place ≡ true → LoopOf place
-loop_of host (standpoints.At at) e = record { loop = at; is = refl }
-loop_of host standpoints.Root e = absurd (true≢false (sym e))
-loop_of host standpoints.Inlined e = absurd (true≢false (sym e))
-loop_of host standpoints.Nowhere e = absurd (true≢false (sym e))
+loop_of : (consumer : ℕ) (place : Place) → is_at_loop_of consumer place ≡ true → LoopOf place
+loop_of consumer (standpoints.At at) e = record { loop = at; is = refl }
+loop_of consumer standpoints.Root e = absurd (true≢false (sym e))
+loop_of consumer standpoints.Inlined e = absurd (true≢false (sym e))
+loop_of consumer standpoints.Nowhere e = absurd (true≢false (sym e))
 
-hosted_at_loop : (schedule : Schedule) (host func : ℕ) → is_listed (hosted_from host 0 schedule.standings) func ≡ true → IsAtLoop schedule func
-hosted_at_loop schedule host func e =
-    let l = listed_of host 0 schedule.standings func e in
+produced_at_loop : (schedule : Schedule) (consumer func : ℕ) → is_listed (produced_from consumer 0 schedule.standings) func ≡ true → IsAtLoop schedule func
+produced_at_loop schedule consumer func e =
+    let l = listed_of consumer 0 schedule.standings func e in
     let p = l.place_is in
     let here : l.n ≡ func = omega (arith, p) in
-    let loop = loop_of host l.own.place (and_parts l.own.is_reached (is_at_loop_of host l.own.place) l.hosted).1 in
+    let loop = loop_of consumer l.own.place (and_parts l.own.is_reached (is_at_loop_of consumer l.own.place) l.produced).1 in
     record { standing = l.own; standing_is = ap (slice_get schedule.standings) (sym here) ∙ l.there; loop = loop.loop; at_loop = loop.is }
 
 -- ---- the phase of a stage
@@ -178,7 +175,7 @@ pub record IsKnown (pipeline : Pipeline) (schedule : Schedule) (boxes : Boxes) (
   pub standing_is : slice_get schedule.standings work.place ≡ Some standing
   pub at_root : standing.place ≡ standpoints.Root
   -- its private buffers are those of Funcs at loops
-  pub hosted : (func : ℕ) → is_listed work.phase.private func ≡ true → IsAtLoop schedule func
+  pub produced : (func : ℕ) → is_listed work.phase.private func ≡ true → IsAtLoop schedule func
   pub does : DoesStage pipeline schedule boxes work.place work.func work.number work.owned work.phase
   pub touches : TouchesItsOwn pipeline schedule boxes work.place work.owned work.phase
   pub rounds : RoundsMayBeAtOnce work.phase
@@ -240,7 +237,7 @@ module _ (pipeline : Pipeline) (schedule : Schedule) (boxes : Boxes) (place : �
       standing = at.standing;
       standing_is = at.there.standing;
       at_root = at.placed_is;
-      hosted = λ k e. hosted_at_loop schedule place k (sym (ap (λ (l : List ℕ). is_listed l k) private_is) ∙ e);
+      produced = λ k e. produced_at_loop schedule place k (sym (ap (λ (l : List ℕ). is_listed l k) private_is) ∙ e);
       does = does;
       touches = touches;
       rounds = rounds;
@@ -259,7 +256,7 @@ module _ (pipeline : Pipeline) (schedule : Schedule) (boxes : Boxes) (place : �
       standing = at.standing;
       standing_is = at.there.standing;
       at_root = at.placed_is;
-      hosted = λ k e. absurd (true≢false (sym e ∙ ap (λ (l : List ℕ). is_listed l k) private_is));
+      produced = λ k e. absurd (true≢false (sym e ∙ ap (λ (l : List ℕ). is_listed l k) private_is));
       does = does;
       touches = touches;
       rounds = rounds;

@@ -6,9 +6,8 @@ use Rattle.std.proofs.lemmas.Bool.{cases_Bool, cases_lt, cases_eq, ne_eqb}
 use Rattle.std.proofs.lemmas.Bool.Decides.{nat_tests}
 use Rattle.std.proofs.lemmas.Nat.{div-mul-add, mod-mul-add}
 use Rattle.std.proofs.Math.Nat.{mul-le-mul_right}
-use Rattle.memory.specs.Addresses.{byte_at, AreBytes}
-use Rattle.memory.specs.Access.{Size, Word, number_in, word_at}
-use Rattle.hart_core.specs.Alu.{load_size}
+use Rattle.memory.specs.Access.{byte_at, AreBytes, Size, Word, number_in, word_at}
+use Rattle.hart_core.specs.Scalar.{load_size}
 use Rattle.halide_pipeline.specs.declared.expressions.Source.{Source}
 use Rattle.halide_pipeline.specs.declared.expressions.Source.TheVariants as sources
 use Rattle.halide_pipeline.specs.Pipelines.{Pipeline}
@@ -21,7 +20,7 @@ use Rattle.schedule.specs.declared.standings.Standing.{Standing}
 use Rattle.bounds_ranges.specs.Laws.{AnswerWords}
 use Rattle.multi_hart_logic.specs.Uses.{Use, Control as ForControl, Fixed, Owned, Given}
 use Rattle.bounds.specs.declared.boxes.SourceBox.{SourceBox}
-use Rattle.bounds.specs.Boxes.{box_in, extent, points}
+use Rattle.bounds.specs.Extents.{box_in, extent, points}
 use Rattle.bounds.specs.Layout.{placed, root_bytes, root_sizes}
 use Rattle.loop_ir.specs.Buffers.{Points}
 use Rattle.bounds.specs.Parts.{Part, Control, Input as InputPart, Root, Copies, Frame, Outside, sizes_of}

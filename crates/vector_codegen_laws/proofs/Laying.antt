@@ -5,11 +5,9 @@ use Rattle.std.proofs.lemmas.Bool.{cases_Bool, cases_lt, cases_eq, ne_eqb}
 use Rattle.std.proofs.lemmas.Bool.Decides.{nat_tests}
 use Rattle.std.proofs.lemmas.Nat.{div-mul-add, mod-mul-add}
 use Rattle.std.proofs.Math.Nat.{mul-le-mul_right}
-use Rattle.memory.specs.Addresses.{most_bytes}
-use Rattle.memory.specs.Access.{Size, Word, Byte, touched}
-use Rattle.hart_core.specs.Scalar.{one_access}
-use Rattle.hart_core.specs.Alu.{load_size}
-use Rattle.multi_hart.specs.Frame.{Within}
+use Rattle.memory.specs.Access.{most_bytes, Size, Word, Byte, touched}
+use Rattle.hart_core.specs.Scalar.{one_access, load_size}
+use Rattle.multi_hart.specs.Run.{Within}
 use Rattle.halide_pipeline.specs.declared.expressions.Source.{Source}
 use Rattle.halide_pipeline.specs.declared.expressions.Source.TheVariants as sources
 use Rattle.halide_pipeline.specs.Pipelines.{Pipeline}
@@ -19,9 +17,9 @@ use Rattle.multi_hart_logic.specs.Uses.{Use, Fixed, Owned, Private, Task, MayRea
 use Rattle.multi_hart_logic.specs.Alone.{World}
 use Rattle.multi_hart_logic.specs.Paths.{Readable, MayBeWritten}
 use Rattle.bounds.specs.declared.boxes.SourceBox.{SourceBox}
-use Rattle.bounds.specs.Boxes.{box_in, extent, points}
+use Rattle.bounds.specs.Extents.{box_in, extent, points}
 use Rattle.bounds.specs.Layout.{data_start, frame_bytes, laid_in, laid_out}
-use Rattle.bounds_weights.specs.Need.{has_frames, needs}
+use Rattle.bounds_weights.specs.Weight.{has_frames, needs}
 use Rattle.loop_ir.specs.Buffers.{Points}
 use Rattle.bounds.specs.Parts.{Part, Sizes, Input as InputPart, Root, Copies, Frame, sizes_of}
 use Rattle.bounds.specs.Finding.{frames_at}

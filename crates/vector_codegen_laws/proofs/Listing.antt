@@ -7,7 +7,7 @@ use Rattle.schedule.specs.declared.standings.Place.{Place as Standpoint}
 use Rattle.schedule.specs.declared.standings.Place.TheVariants as standpoints
 use Rattle.schedule.specs.declared.standings.Standing.{Standing}
 use Rattle.bounds.specs.declared.boxes.SourceBox.{SourceBox}
-use Rattle.bounds.specs.Boxes.{points}
+use Rattle.bounds.specs.Extents.{points}
 use Rattle.bounds.specs.Layout.{input_bytes, root_bytes, private_bytes, root_sizes, private_sizes, placed}
 use Rattle.task_code_scalar.specs.Code.{nowhere}
 use Rattle.vector_codegen_laws.specs.Places.{input_place, input_places, func_place, func_places}

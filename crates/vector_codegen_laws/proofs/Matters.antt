@@ -6,11 +6,12 @@ use Rattle.halide_pipeline.specs.Pipelines.{Pipeline}
 use Rattle.halide_pipeline.specs.Pixel.{Planes}
 use Rattle.schedule.specs.declared.schedules.Schedule.{Schedule}
 use Rattle.bounds.specs.declared.verdict.Boxes.{Boxes}
-use Rattle.bounds.specs.Views.{extents_of}
+use Rattle.bounds.specs.Extents.{extents_of}
 use Rattle.bounds.specs.Parts.{Part, Control, Input as InputPart, Root, Copies, Frame, Outside}
 use Rattle.vector_codegen.specs.Sharing.{Matter}
 use Rattle.lowering.specs.Planes.{held}
-use Rattle.lowering.specs.Runs.{runs, is_in_run}
+use Rattle.lowering.specs.Runs.{is_in_run}
+use Rattle.schedule_loops.specs.Runs.{runs}
 use Rattle.lowering.specs.Stages.{after_stages}
 use Rattle.vector_codegen_laws.specs.Uses.{Owners, greatest, width_of, byte_of, byte_in}
 use Rattle.vector_codegen_laws.specs.Points.{RootPoint, part}
@@ -18,7 +19,7 @@ use Rattle.vector_codegen_laws.specs.RunBytes.{rule_of}
 use Rattle.vector_codegen_laws.specs.Settings.{uses}
 use Rattle.vector_codegen_laws.proofs.Holding.{root-byte-point}
 use Rattle.vector_codegen_laws.specs.Runs.{writes_runs}
-use Rattle.vector_codegen_laws.specs.Stages.{writes}
+use Rattle.bounds.specs.Stages.{writes}
 use Rattle.vector_codegen_laws.proofs.Facts.{Work, stage_of}
 
 abbrev pub owners_of : Work → Owners

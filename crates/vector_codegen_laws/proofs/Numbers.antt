@@ -5,8 +5,7 @@ use Rattle.std.specs.Int.{w32, from_le_bytes, to_le_bytes}
 use Rattle.std.proofs.lemmas.Bool.{cases_lt}
 use Rattle.std.proofs.lemmas.Bool.Decides.{nat_tests}
 use Rattle.std.proofs.lemmas.Nat.{from_le_bytes-to_le_bytes_4, le_bytes_4}
-use Rattle.memory.specs.Addresses.{data_start, text_start, byte_at, AreBytes}
-use Rattle.memory.specs.Access.{word_at}
+use Rattle.memory.specs.Access.{data_start, text_start, byte_at, AreBytes, word_at}
 use Rattle.vector_codegen_laws.specs.Uses.{byte_of}
 
 remainder-below : (n : ℕ) → n % 256 < 256

@@ -12,19 +12,19 @@ use Rattle.schedule.specs.declared.standings.Place.TheVariants as standpoints
 use Rattle.schedule.specs.declared.standings.Standing.{Standing}
 use Rattle.schedule.specs.Accepted.{IsAccepted}
 use Rattle.bounds_ranges.specs.declared.ranges.Range.{Range}
-use Rattle.bounds_ranges.specs.Ranges.{origin, widened}
-use Rattle.bounds_weights.specs.Need.{needs, has_frames}
-use Rattle.bounds_weights.specs.Weight.{flags_of}
+use Rattle.bounds_ranges.specs.Ranges.{widened}
+use Rattle.bounds_ranges.specs.Numbers.{origin}
+use Rattle.bounds_weights.specs.Weight.{needs, has_frames, flags_of}
 use Rattle.bounds.specs.declared.boxes.SourceBox.{SourceBox}
 use Rattle.bounds.specs.declared.faults.BoundsFault.{BoundsFault}
 use Rattle.bounds.specs.declared.faults.BoundsFault.TheVariants as faults
 use Rattle.bounds.specs.declared.layout.Layout.{Layout}
 use Rattle.bounds.specs.declared.verdict.Boxes.{Boxes}
-use Rattle.bounds.specs.Boxes.{extent, points, are_near, is_near}
+use Rattle.bounds.specs.Boxes.{are_near, is_near}
+use Rattle.bounds.specs.Extents.{extent, points}
 use Rattle.bounds.specs.Inference.{boxes_from, inputs_from}
-use Rattle.bounds.specs.Judging.{inputs_hold, shifts_hold, have_few_points}
+use Rattle.bounds.specs.Verdict.{inputs_hold, shifts_hold, have_few_points, sized, boxes_of, judged, with_inputs, with_funcs, inferred}
 use Rattle.bounds.specs.Layout.{data_start, input_bytes, root_sizes, private_sizes, phases, total, placed, laid_in, laid_out}
-use Rattle.bounds.specs.Verdict.{sized, boxes_of, judged, with_inputs, with_funcs, inferred}
 use Rattle.bounds_laws.proofs.BoxFacts.{has_box, is_judged}
 use Rattle.task_code_scalar.specs.Code.{nowhere}
 use Rattle.task_code_scalar.specs.Evaluation.{IsPlace, ArePlaces}

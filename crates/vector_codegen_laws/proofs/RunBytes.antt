@@ -14,14 +14,15 @@ use Rattle.bounds.specs.declared.boxes.SourceBox.{SourceBox}
 use Rattle.loop_ir.specs.Buffers.{Points}
 use Rattle.multi_hart_logic.specs.Uses.{Owned, Private}
 use Rattle.multi_hart_logic.specs.Alone.{Keeps}
-use Rattle.multi_hart.specs.Frame.{is_in}
+use Rattle.multi_hart.specs.Run.{is_in}
 use Rattle.multi_hart_logic.specs.LaneMemory.{firsts, accesses_to}
 use Rattle.task_code_scalar.specs.declared.places.Place.{Place}
 use Rattle.task_code_scalar.specs.Code.{place_of, pixel_bytes, address}
 use Rattle.task_code_scalar.specs.Doing.{AreRun}
 use Rattle.task_code_vector.proofs.Rows.{in-places}
 use Rattle.vector_codegen_laws.specs.Points.{RootPoint, address_at}
-use Rattle.vector_codegen_laws.specs.RunBytes.{has_word, is_byte_of, is_run, rule_of, IsByteOf, RulesSayRuns, IsNamed, RunsAreNamed}
+use Rattle.vector_codegen_laws.specs.RunBytes.{has_word, is_byte_of, is_run, rule_of, RulesSayRuns, IsNamed, RunsAreNamed}
+use Rattle.vector_codegen_laws.specs.Runs.{IsByteOf}
 use Rattle.vector_codegen_laws.specs.Settings.{places, uses, task_world, IsWritten}
 use Rattle.vector_codegen_laws.specs.Held.{setting, IsTask, TasksMayWriteRuns}
 use Rattle.vector_codegen_laws.specs.Uses.{Owners}

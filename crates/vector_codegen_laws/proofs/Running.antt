@@ -4,7 +4,7 @@ use Rattle.std.specs.List.{list_any}
 use Rattle.std.specs.Prelude.{◌⊎◌, ◌==◌, ◌&&◌, ◌||◌, slice_get, nat_lt, Ok}
 use Rattle.std.proofs.lemmas.Bool.{and_parts, cases_eq, ne_eqb, eq-eqb, eqb-true, ltb-true}
 use Rattle.rv_insn.specs.declared.instructions.Insn.{Insn}
-use Rattle.memory.specs.Addresses.{byte_at, AreBytes}
+use Rattle.memory.specs.Access.{byte_at, AreBytes}
 use Rattle.halide_pipeline.specs.declared.definitions.Input.{Input}
 use Rattle.halide_pipeline.specs.declared.expressions.Source.{Source}
 use Rattle.halide_pipeline.specs.declared.expressions.Source.TheVariants as sources
@@ -14,12 +14,11 @@ use Rattle.halide_pipeline.specs.Pixel.{Planes, Reads, reads_of, pixels}
 use Rattle.halide_pipeline.specs.Points.{Point}
 use Rattle.schedule.specs.declared.schedules.Schedule.{Schedule}
 use Rattle.schedule.specs.Accepted.{IsAccepted}
-use Rattle.schedule_loops.specs.Counts.{counts}
-use Rattle.schedule_loops.specs.Visits.{is_slice}
+use Rattle.schedule_loops.specs.Visits.{counts, is_slice}
 use Rattle.bounds_ranges.specs.Laws.{AnswerWords}
 use Rattle.bounds.specs.declared.verdict.Boxes.{Boxes}
 use Rattle.bounds.specs.Verdict.{inferred}
-use Rattle.bounds.specs.Views.{extents_of}
+use Rattle.bounds.specs.Extents.{extents_of}
 use Rattle.bounds_laws.specs.Closure.{is_within}
 use Rattle.multi_hart_logic.specs.Uses.{Owned, Given}
 use Rattle.vector_codegen_sharing.specs.Turns.{ticket_word}
@@ -30,7 +29,8 @@ use Rattle.loop_ir.specs.Soundness.{Have}
 use Rattle.lowering_nests.specs.Nests.{loops_of}
 use Rattle.lowering.specs.Phases.{Hold, DoesPhase}
 use Rattle.lowering.specs.Planes.{box_points}
-use Rattle.lowering.specs.Runs.{is_vectorized_first, outside_innermost, run_of, are_turns, is_in_run}
+use Rattle.lowering.specs.Runs.{is_in_run}
+use Rattle.schedule_loops.specs.Runs.{is_vectorized_first, outside_innermost, run_of, are_turns}
 use Rattle.lowering.specs.Stages.{is_private}
 use Rattle.lowering.specs.Touching.{is_listed, is_root_at, may_write, may_load_at, may_load}
 use Rattle.lowering.proofs.RunLists.{runs_are_listed}
@@ -135,7 +135,7 @@ module _ (pipeline : Pipeline) (schedule : Schedule) (boxes : Boxes) (rules : Is
               inl (subst (λ (n : ℕ). RootPoint pipeline schedule boxes.funcs n x y) (sym e) (own_point x y o), (e, o))
           | inr d ↦
               let both = and_parts listed there (by_other func work.place (work.owned task x y) (listed && there) d t) in
-              inr (private_point pipeline schedule boxes func x y (known.hosted func both.0) both.1)
+              inr (private_point pipeline schedule boxes func x y (known.produced func both.0) both.1)
         ]
 
     loads_so : (source : Source) (x y : ℕ) → may_load_at pipeline schedule boxes work.place (work.owned task) work.phase.private source x y ≡ true
@@ -155,7 +155,7 @@ module _ (pipeline : Pipeline) (schedule : Schedule) (boxes : Boxes) (rules : Is
               let both = and_parts (root || listed) there (by_other func work.place (work.owned task x y) ((root || listed) && there) d t) in
               elim (or_cases root listed both.0) [
                 | inl r ↦ inl (listed_root_point pipeline schedule boxes func x y r both.1, λ f. absurd (d f))
-                | inr l ↦ inr (private_point pipeline schedule boxes func x y (known.hosted func l) both.1)
+                | inr l ↦ inr (private_point pipeline schedule boxes func x y (known.produced func l) both.1)
               ]
         ]
 

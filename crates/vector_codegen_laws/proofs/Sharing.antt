@@ -4,8 +4,7 @@ use Rattle.std.specs.Prelude.{◌⊎◌, ◌-◌, slice_get, slice_index_or, Ok}
 use Rattle.std.specs.List.{AllByRecursion, list_any}
 use Rattle.std.proofs.lemmas.Bool.{cases_lt, eq-eqb, lt-ltb, le-leb, lt-leb}
 use Rattle.std.proofs.lemmas.Option.{slice_get_within}
-use Rattle.memory.specs.Addresses.{text_start, data_start, byte_at}
-use Rattle.memory.specs.Access.{word_at}
+use Rattle.memory.specs.Access.{text_start, data_start, byte_at, word_at}
 use Rattle.hart_core.specs.HartState.{HartState}
 use Rattle.halide_pipeline.specs.declared.definitions.Func.{Func}
 use Rattle.halide_pipeline.specs.declared.expressions.Source.TheVariants as sources
@@ -20,16 +19,15 @@ use Rattle.schedule_loops.specs.Visits.{Visit, is_slice}
 use Rattle.bounds_ranges.specs.Laws.{AnswerWords}
 use Rattle.bounds.specs.declared.boxes.SourceBox.{SourceBox}
 use Rattle.bounds.specs.declared.verdict.Boxes.{Boxes}
-use Rattle.bounds.specs.Boxes.{box_in, extent}
+use Rattle.bounds.specs.Extents.{box_in, extent, extents_of, corner_of}
 use Rattle.bounds.specs.Layout.{laid_in, phases}
 use Rattle.bounds.specs.Verdict.{inferred}
-use Rattle.bounds.specs.Views.{extents_of}
 use Rattle.bounds.specs.Parts.{Part, Control, Input as InputPart, Root, Copies, Frame, Outside, sizes_of, in_data}
 use Rattle.bounds.proofs.Finding.{control-found}
 use Rattle.loop_ir.specs.declared.statements.Phase.{Phase}
 use Rattle.loop_ir.specs.Stores.{is_stored_by_task}
-use Rattle.lowering.specs.Planes.{corner_of, held, box_points}
-use Rattle.lowering.specs.PurePhases.{IsAtRoot}
+use Rattle.lowering.specs.Planes.{held, box_points}
+use Rattle.bounds.specs.Stages.{IsAtRoot, StagePlace, stages, iterations, writes}
 use Rattle.lowering.proofs.RunLists.{runs_are_listed}
 use Rattle.multi_hart_logic.specs.Uses.{Control as ForControl, Fixed, Owned, Shared, Task}
 use Rattle.multi_hart_logic.specs.Paths.{Stand, Writes}
@@ -47,17 +45,15 @@ use Rattle.vector_codegen.specs.Programs.{ArePartsOf, HasFewTasks}
 use Rattle.vector_codegen.proofs.ProgramStanding.{parts-length}
 use Rattle.vector_codegen_laws.specs.Uses.{use_of, width_in, width_of, byte_of, byte_in}
 use Rattle.vector_codegen_laws.specs.Held.{funcs_in}
-use Rattle.vector_codegen_laws.specs.Points.{RootPoint, part, address_at}
-use Rattle.vector_codegen_laws.specs.RunBytes.{IsByteOf}
+use Rattle.vector_codegen_laws.specs.Points.{RootFunc, RootPoint, part, address_at}
+use Rattle.vector_codegen_laws.specs.Runs.{IsByteOf, writes_runs, IsOneRun}
 use Rattle.vector_codegen_laws.specs.Settings.{places, size}
 use Rattle.vector_codegen_laws.proofs.Holding.{OwnByte, own-byte, own-byte-lies, root-byte-point}
 use Rattle.vector_codegen_laws.proofs.Laying.{column-of, row-of, root-use, own-use}
 use Rattle.vector_codegen_laws.proofs.Numbers.{bytes-word}
 use Rattle.vector_codegen_laws.proofs.RunBytes.{rules-say-runs}
 use Rattle.vector_codegen_laws.proofs.There.{roots-are-there}
-use Rattle.vector_codegen_laws.specs.Runs.{writes_runs, IsOneRun}
 use Rattle.vector_codegen_laws.specs.Sharing.{OpensWith, IsOwnedIn, PhasesAreShared}
-use Rattle.vector_codegen_laws.specs.Stages.{StagePlace, stages, iterations, writes}
 use Rattle.vector_codegen_laws.proofs.Between.{Stays, HasOwner, root_use}
 use Rattle.vector_codegen_laws.proofs.Chain.{left_by, Told, funcs_told, some_work}
 use Rattle.vector_codegen_laws.proofs.Counting.{all_counted}
@@ -351,6 +347,18 @@ module _ (pipeline : Pipeline) (schedule : Schedule) (boxes : Boxes) (rules : Is
         × ((matter k).writes task (address_at pipeline schedule boxes.funcs 0 (sources.Func s.func) x y + byte) ≡ true)) same_stage
         (used task below x y byte here small, written_there task below x y byte here small)
 
+    root_there : RootFunc pipeline schedule boxes.funcs stage.func
+    root_there =
+        let here = known k there in
+        subst (λ (s : StagePlace). RootFunc pipeline schedule boxes.funcs s.func) same_stage
+        (record {
+          standing = here.standing;
+          standing_is = here.standing_is;
+          at_root = here.at_root;
+          own = (work k).own;
+          box_is = here.at.box_is;
+        })
+
     number_there : (func : Func) → slice_get pipeline.funcs stage.func ≡ Some func → stage.number ≤ length func.updates
     number_there func found =
         let at = (known k there).number_is in
@@ -409,13 +417,13 @@ module _ (pipeline : Pipeline) (schedule : Schedule) (boxes : Boxes) (rules : Is
     in_runs : writes_runs (work k).plan (work k).number ≡ true
     in_runs = ap (λ (p : FuncPlan). writes_runs p (work k).number) same_plan ∙ ap (λ (n : ℕ). writes_runs plan n) same_number ∙ vectors
 
-    one_run : (task : ℕ) (written : List ℕ) → (matter k).rule task written ≡ true → IsOneRun pipeline schedule boxes place (extents_of own) plan.pure written
+    one_run : (task : ℕ) (written : List ℕ) → (matter k).rule task written ≡ true → IsOneRun (address_at pipeline schedule boxes.funcs 0 (sources.Func place)) (extents_of own) plan.pure written
     one_run task written kept =
         let bytes_of = rules-say-runs pipeline schedule boxes.funcs (owners_of (work k)) written in_runs kept in
         let run = (runs_are_listed (extents_of (work k).own) (work k).plan.pure).1 bytes_of.visits bytes_of.there in
-        subst (λ (p : ℕ). IsOneRun pipeline schedule boxes p (extents_of own) plan.pure written) same_place
-        (subst (λ (p : FuncPlan). IsOneRun pipeline schedule boxes (work k).place (extents_of own) p.pure written) same_plan
-        (subst (λ (o : SourceBox). IsOneRun pipeline schedule boxes (work k).place (extents_of o) (work k).plan.pure written) same_own
+        subst (λ (p : ℕ). IsOneRun (address_at pipeline schedule boxes.funcs 0 (sources.Func p)) (extents_of own) plan.pure written) same_place
+        (subst (λ (p : FuncPlan). IsOneRun (address_at pipeline schedule boxes.funcs 0 (sources.Func (work k).place)) (extents_of own) p.pure written) same_plan
+        (subst (λ (o : SourceBox). IsOneRun (address_at pipeline schedule boxes.funcs 0 (sources.Func (work k).place)) (extents_of o) (work k).plan.pure written) same_own
         (record {
           turns = run.turns;
           are = run.are;
@@ -556,6 +564,8 @@ phases-are-shared pipeline schedule boxes rules accepted is inputs begun list ar
           tasks_there pipeline schedule boxes rules accepted is inputs begun list planes told harts few parts coded countable last count counted text;
       own_bytes =
           own_bytes pipeline schedule boxes rules accepted is inputs begun list planes told harts few parts coded countable last count counted text;
+      roots_are =
+          root_there pipeline schedule boxes rules accepted is inputs begun list planes told harts few parts coded countable last count counted text;
       numbers_are =
           λ k stage func e found. number_there pipeline schedule boxes rules accepted is inputs begun list planes told harts few parts coded countable
           last count counted text k stage e func found;

@@ -10,7 +10,7 @@ use Rattle.halide_pipeline.specs.Pipelines.{Pipeline}
 use Rattle.schedule.specs.declared.schedules.Schedule.{Schedule}
 use Rattle.schedule.specs.declared.standings.Standing.{Standing}
 use Rattle.bounds.specs.declared.boxes.SourceBox.{SourceBox}
-use Rattle.bounds.specs.Boxes.{extent, points}
+use Rattle.bounds.specs.Extents.{extent, points}
 use Rattle.bounds.specs.Layout.{data_start, laid_in, laid_out, root_bytes, private_bytes, placed, total}
 use Rattle.bounds.specs.Parts.{Input as InputPart, Sizes, sizes_of, part_at}
 use Rattle.bounds.specs.Finding.{inputs_at, roots_at, privates_at}

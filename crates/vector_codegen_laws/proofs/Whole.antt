@@ -19,31 +19,27 @@ use Rattle.schedule.specs.Accepted.{IsAccepted, IsPlan, IsUpdateStage}
 use Rattle.schedule.specs.Legal.{is_inlined, is_root}
 use Rattle.schedule.proofs.Uses.{IsSome}
 use Rattle.schedule_loops.specs.declared.extents.Extents.{Extents}
-use Rattle.schedule_loops.specs.Iterations.{HasOwner, iteration, iteration_count}
+use Rattle.schedule_loops.specs.Visits.{HasOwner, iteration, iteration_count, owns, is_slice, rising, slice, upto, visits}
 use Rattle.schedule_loops.specs.Stages.{IsStageOf, KeepsRules, extent_in, first_loops, has_variable, is_slice_of, points_of}
-use Rattle.schedule_loops.specs.Visits.{is_slice, rising, slice, upto, visits}
 use Rattle.schedule_loops.proofs.AcceptedStages.{pair_at}
 use Rattle.schedule_loops.proofs.Parallel.{all_iterations, slice_owner}
 use Rattle.schedule_loops.proofs.Rising.{slice_is}
 use Rattle.bounds.specs.declared.boxes.SourceBox.{SourceBox}
 use Rattle.bounds.specs.declared.verdict.Boxes.{Boxes}
-use Rattle.bounds.specs.Boxes.{box_in, extent}
+use Rattle.bounds.specs.Extents.{box_in, extent, extents_of, update_extents}
 use Rattle.bounds.specs.Verdict.{inferred}
-use Rattle.bounds.specs.Views.{extents_of}
 use Rattle.bounds_laws.specs.Reached.{is_computed_there}
 use Rattle.bounds_laws.proofs.BoxFacts.{has_box}
 use Rattle.bounds_laws.proofs.PutIn.{pair_there}
 use Rattle.bounds_laws.proofs.Reached.{boxes_are_of_reached_funcs}
-use Rattle.lowering.specs.Planes.{owns}
-use Rattle.lowering.specs.PurePhases.{IsAtRoot}
-use Rattle.lowering.specs.Updates.{IsUpdateAt, update_extents}
+use Rattle.bounds.specs.Stages.{IsAtRoot, StagePlace, stages_to, stages_where, stages_at, stages_below, iterations, iterations_in, iterations_of, update_iterations, writes, writes_in, writes_of}
+use Rattle.lowering.specs.Updates.{IsUpdateAt}
 use Rattle.lowering.proofs.Covered as covered
 use Rattle.lowering.proofs.Facts.{fits, is_box, staged}
 use Rattle.lowering.proofs.Lists.{none_kept}
 use Rattle.lowering.proofs.Tasks.{some_owner}
 use Rattle.lowering.proofs.UpdateFacts.{first_extent, points_are, second_few}
 use Rattle.lowering.proofs.UpdateStages as updates
-use Rattle.vector_codegen_laws.specs.Stages.{StagePlace, stages_to, stages_where, stages_at, stages_below, iterations, iterations_in, iterations_of, update_iterations, writes, writes_in, writes_of}
 use Rattle.vector_codegen_laws.specs.Whole.{reached_at, reached_below, StagesAreReached, StagesHaveIterations, IsWritten, PureStagesWriteAll}
 
 -- ---- lists

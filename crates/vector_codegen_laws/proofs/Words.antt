@@ -12,8 +12,8 @@ use Rattle.halide_pipeline.specs.Pixel.{Planes, reads_of, stage, pixels}
 use Rattle.bounds_ranges.specs.Laws.{AnswerWords}
 use Rattle.bounds_ranges.proofs.PixelWords.{with_words, stage_words, pixels_words}
 use Rattle.bounds.specs.declared.boxes.SourceBox.{SourceBox}
-use Rattle.bounds.specs.Boxes.{box_in}
-use Rattle.lowering.specs.Planes.{corner_of, held}
+use Rattle.bounds.specs.Extents.{box_in, corner_of}
+use Rattle.lowering.specs.Planes.{held}
 use Rattle.lowering.specs.Stages.{after_stages}
 
 add_small : (a b : ℕ) → word.add a b < 2 ^ 32

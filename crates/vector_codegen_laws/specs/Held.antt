@@ -1,8 +1,7 @@
 -- What memory holds before and behind a task: the inputs' pixels, and of Funcs the words at their points.
 -- This project's own.
 use Rattle.std.specs.Prelude.{◌≡◌, ◌<◌, ◌≤◌, ℕ, ◌^◌, ◌==◌, ◌&&◌, Bool, true, List, length, slice_get, Option}
-use Rattle.memory.specs.Addresses.{byte_at, AreBytes, most_bytes}
-use Rattle.memory.specs.Access.{word_at}
+use Rattle.memory.specs.Access.{byte_at, AreBytes, most_bytes, word_at}
 use Rattle.halide_pipeline.specs.declared.expressions.Source.TheVariants as sources
 use Rattle.halide_pipeline.specs.Pipelines.{Pipeline}
 use Rattle.halide_pipeline.specs.Pixel.{Planes, reads_of}

@@ -4,7 +4,6 @@ pub mod Points
 pub mod RunBytes
 pub mod Settings
 pub mod Held
-pub mod Stages
 pub mod Runs
 pub mod Sharing
 pub mod Whole

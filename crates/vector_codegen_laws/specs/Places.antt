@@ -9,7 +9,7 @@ use Rattle.schedule.specs.declared.standings.Place.TheVariants as standpoints
 use Rattle.schedule.specs.declared.standings.Standing.{Standing}
 use Rattle.bounds.specs.declared.boxes.SourceBox.{SourceBox}
 use Rattle.bounds.specs.declared.layout.Layout.{Layout}
-use Rattle.bounds.specs.Boxes.{extent, points}
+use Rattle.bounds.specs.Extents.{extent, points}
 use Rattle.task_code_scalar.specs.declared.places.Pixels.TheVariants as pixels
 use Rattle.task_code_scalar.specs.declared.places.Place.{Place}
 use Rattle.task_code_scalar.specs.declared.places.Places.{Places}

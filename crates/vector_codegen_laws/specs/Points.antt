@@ -10,7 +10,7 @@ use Rattle.schedule.specs.declared.standings.LoopPlace.{LoopPlace}
 use Rattle.schedule.specs.declared.standings.Place.TheVariants as standpoints
 use Rattle.schedule.specs.declared.standings.Standing.{Standing}
 use Rattle.bounds.specs.declared.boxes.SourceBox.{SourceBox}
-use Rattle.bounds.specs.Boxes.{extent, points}
+use Rattle.bounds.specs.Extents.{extent, points}
 use Rattle.bounds.specs.Layout.{data_start, laid_out}
 use Rattle.bounds.specs.Parts.{Part, Input as InputPart, Root, Copies, sizes_of, part_at}
 use Rattle.task_code_scalar.specs.Code.{place_of, address}
@@ -18,6 +18,14 @@ use Rattle.vector_codegen_laws.specs.Places.{places_of}
 
 module _ (pipeline : Pipeline) (schedule : Schedule) (boxes : List (Option SourceBox)) where
   -- ---- points
+
+  -- the Func at a place is computed at root, and has a box
+  pub record RootFunc (func : ℕ) : Type 0 where
+    pub standing : Standing
+    pub standing_is : slice_get schedule.standings func ≡ Some standing
+    pub at_root : standing.place ≡ standpoints.Root
+    pub own : SourceBox
+    pub box_is : slice_get boxes func ≡ Some (Some own)
 
   pub record RootPoint (func x y : ℕ) : Type 0 where
     pub standing : Standing

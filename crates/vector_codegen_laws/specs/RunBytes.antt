@@ -9,9 +9,10 @@ use Rattle.schedule.specs.declared.schedules.Schedule.{Schedule}
 use Rattle.schedule_loops.specs.Visits.{Visit, is_slice}
 use Rattle.bounds.specs.declared.boxes.SourceBox.{SourceBox}
 use Rattle.loop_ir.specs.Counters.{Values}
-use Rattle.multi_hart.specs.Frame.{is_in}
+use Rattle.multi_hart.specs.Run.{is_in}
 use Rattle.vector_codegen_laws.specs.Points.{address_at}
 use Rattle.vector_codegen_laws.specs.Uses.{Owners}
+use Rattle.vector_codegen_laws.specs.Runs.{IsByteOf}
 
 -- ---- as a test
 
@@ -33,15 +34,6 @@ module _ (pipeline : Pipeline) (schedule : Schedule) (boxes : List (Option Sourc
       if owners.in_runs then list_any (is_run (address_at pipeline schedule boxes 0 (sources.Func owners.func)) places) owners.runs else true
 
 -- ---- what it says
-
--- the place is a byte of a point that is visited
-pub record IsByteOf (at : ℕ → ℕ → ℕ) (visits : List Visit) (place : ℕ) : Type 0 where
-  pub x : ℕ
-  pub y : ℕ
-  pub byte : ℕ
-  pub visited : list_any (is_slice x y) visits ≡ true
-  pub small : byte < 4
-  pub is : place ≡ at x y + byte
 
 -- The places are those of one of these runs.
 pub record AreBytesOf (at : ℕ → ℕ → ℕ) (runs : List (List Visit)) (places : List ℕ) : Type 0 where

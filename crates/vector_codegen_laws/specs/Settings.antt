@@ -7,7 +7,7 @@ use Rattle.halide_pipeline.specs.declared.expressions.Source.TheVariants as sour
 use Rattle.halide_pipeline.specs.Pipelines.{Pipeline}
 use Rattle.halide_pipeline.specs.Points.{Point}
 use Rattle.schedule.specs.declared.schedules.Schedule.{Schedule}
-use Rattle.memory.specs.Addresses.{most_bytes}
+use Rattle.memory.specs.Access.{most_bytes}
 use Rattle.multi_hart_logic.specs.Uses.{Use, Task}
 use Rattle.multi_hart_logic.specs.Alone.{World}
 use Rattle.bounds.specs.declared.boxes.SourceBox.{SourceBox}

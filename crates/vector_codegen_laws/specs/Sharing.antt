@@ -2,8 +2,7 @@
 -- This project's own.
 use Rattle.std.specs.Prelude.{◌≡◌, ◌<◌, ◌≤◌, ◌⊎◌, ℕ, suc, ◌+◌, true, List, length, slice_get, Some, Ok}
 use Rattle.std.specs.List.{AllByRecursion}
-use Rattle.memory.specs.Addresses.{text_start, data_start, byte_at, AreBytes}
-use Rattle.memory.specs.Access.{word_at}
+use Rattle.memory.specs.Access.{text_start, data_start, byte_at, AreBytes, word_at}
 use Rattle.halide_pipeline.specs.declared.definitions.Func.{Func}
 use Rattle.halide_pipeline.specs.declared.expressions.Source.TheVariants as sources
 use Rattle.halide_pipeline.specs.Pipelines.{Pipeline}
@@ -16,21 +15,20 @@ use Rattle.bounds_ranges.specs.Laws.{AnswerWords}
 use Rattle.bounds.specs.declared.boxes.SourceBox.{SourceBox}
 use Rattle.bounds.specs.declared.verdict.Boxes.{Boxes}
 use Rattle.bounds.specs.Verdict.{inferred}
-use Rattle.bounds.specs.Views.{extents_of}
+use Rattle.bounds.specs.Extents.{extents_of}
 use Rattle.loop_ir.specs.declared.statements.Phase.{Phase}
 use Rattle.lowering.specs.Lowered.{AreLowered}
 use Rattle.lowering.specs.Planes.{held}
-use Rattle.lowering.specs.PurePhases.{IsAtRoot}
+use Rattle.bounds.specs.Stages.{IsAtRoot, StagePlace, stages, iterations, writes}
 use Rattle.multi_hart_logic.specs.Uses.{Fixed, Owned}
 use Rattle.multi_hart_logic.specs.Paths.{Stand}
 use Rattle.vector_codegen.specs.PhaseCode.{Part, program}
 use Rattle.vector_codegen.specs.Sharing.{Matter, IsShared, part_at}
 use Rattle.vector_codegen.specs.Programs.{ArePartsOf, HasFewTasks}
-use Rattle.vector_codegen_laws.specs.Points.{RootPoint, part, address_at}
+use Rattle.vector_codegen_laws.specs.Points.{RootFunc, RootPoint, part, address_at}
 use Rattle.vector_codegen_laws.specs.Settings.{places, size}
 use Rattle.vector_codegen_laws.specs.Uses.{byte_in}
 use Rattle.vector_codegen_laws.specs.Runs.{writes_runs, IsOneRun}
-use Rattle.vector_codegen_laws.specs.Stages.{StagePlace, stages, iterations, writes}
 
 module _ (pipeline : Pipeline) (schedule : Schedule) (boxes : Boxes) where
   -- The data begin so: the inputs' pixels, and zeros.
@@ -68,6 +66,8 @@ module _ (pipeline : Pipeline) (schedule : Schedule) (boxes : Boxes) where
         → (x y byte : ℕ) → writes pipeline schedule boxes inputs stage task x y ≡ true → byte < 4
         → let address = address_at pipeline schedule boxes.funcs 0 (sources.Func stage.func) x y + byte in
         ((matter k).uses address ≡ Owned task) × ((matter k).writes task address ≡ true)
+    -- their Funcs are computed at root, and have boxes
+    pub roots_are : (k : ℕ) (stage : StagePlace) → slice_get (stages pipeline schedule boxes) k ≡ Some stage → RootFunc pipeline schedule boxes.funcs stage.func
     -- a stage is a pure definition or an update
     pub numbers_are : (k : ℕ) (stage : StagePlace) (func : Func) → slice_get (stages pipeline schedule boxes) k ≡ Some stage → slice_get pipeline.funcs stage.func ≡ Some func
         → stage.number ≤ length func.updates
@@ -79,7 +79,7 @@ module _ (pipeline : Pipeline) (schedule : Schedule) (boxes : Boxes) where
     pub runs_are : (k place : ℕ) (func : Func) (plan : FuncPlan) (own : SourceBox) (number : ℕ) → IsAtRoot pipeline schedule boxes place func plan own
         → slice_get (stages pipeline schedule boxes) k ≡ Some (record { func = place; number = number })
         → writes_runs plan number ≡ true
-        → (task : ℕ) (written : List ℕ) → (matter k).rule task written ≡ true → IsOneRun pipeline schedule boxes place (extents_of own) plan.pure written
+        → (task : ℕ) (written : List ℕ) → (matter k).rule task written ≡ true → IsOneRun (address_at pipeline schedule boxes.funcs 0 (sources.Func place)) (extents_of own) plan.pure written
     pub ends : (left : List ℕ)
         → ((address task : ℕ) → task < (part_at text (size pipeline schedule boxes.funcs) harts parts matter last).tasks
         → (matter last).uses address ≡ Owned task → byte_at text left address ≡ (matter last).result address)

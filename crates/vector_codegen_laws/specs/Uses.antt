@@ -5,7 +5,7 @@ use Rattle.std.specs.Int.{w32, to_le_bytes}
 use Rattle.halide_pipeline.specs.declared.definitions.Input.{Input}
 use Rattle.halide_pipeline.specs.Pixel.{Planes}
 use Rattle.bounds.specs.declared.boxes.SourceBox.{SourceBox}
-use Rattle.bounds.specs.Boxes.{box_in, extent, points}
+use Rattle.bounds.specs.Extents.{box_in, extent, points}
 use Rattle.schedule_loops.specs.Visits.{Visit}
 use Rattle.loop_ir.specs.Counters.{Values}
 use Rattle.multi_hart_logic.specs.Uses.{Use, Control as ForControl, Fixed, Owned, Private}

@@ -12,9 +12,9 @@ use Rattle.schedule.specs.Accepted.{IsAccepted}
 use Rattle.schedule.specs.Legal.{is_root}
 use Rattle.bounds.specs.declared.boxes.SourceBox.{SourceBox}
 use Rattle.bounds.specs.declared.verdict.Boxes.{Boxes}
-use Rattle.bounds.specs.Boxes.{extent}
+use Rattle.bounds.specs.Extents.{extent}
 use Rattle.bounds.specs.Verdict.{inferred}
-use Rattle.vector_codegen_laws.specs.Stages.{StagePlace, stages_to, stages, iterations, writes}
+use Rattle.bounds.specs.Stages.{StagePlace, stages_to, stages, iterations, writes}
 
 -- ---- which stages they are, without a word of boxes
 

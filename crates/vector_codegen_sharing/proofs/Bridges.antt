@@ -2,10 +2,9 @@
 use Rattle.std.proofs.Common.{◌≡◌, ℕ, zero, suc, ◌+◌, ◌-◌, ◌<◌, List, [], ◌∷◌, length, Some, true, false, refl, ap, ◌∙◌, sym, subst, arith}
 use Rattle.std.specs.Prelude.{◌/◌, ◌%◌, ◌==◌, nat_lt, slice_get, slice_index_or}
 use Rattle.std.proofs.lemmas.Bool.Decides.{nat_tests}
-use Rattle.memory.specs.Addresses.{AreBytes}
-use Rattle.lanes.specs.Registers.{element}
-use Rattle.lanes.specs.Masks.{mask_bit}
-use Rattle.hart_core.specs.Alu.{one_if}
+use Rattle.memory.specs.Access.{AreBytes}
+use Rattle.lanes.specs.Words.{element, mask_bit}
+use Rattle.hart_core.specs.Scalar.{one_if}
 use Rattle.hart_core.specs.declared.harts.Status.TheVariants.{Running}
 use Rattle.hart_core.specs.HartState.{HartState, register, vector}
 use Rattle.multi_hart_logic.specs.Uses.{Job}

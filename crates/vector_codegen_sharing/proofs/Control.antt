@@ -15,18 +15,15 @@ use Rattle.rv_insn.specs.declared.instructions.Insn.TheVariants.{AmoaddW, Branch
 use Rattle.rv_insn.specs.declared.operations.BranchOp.TheVariants.{Bgeu, Bne}
 use Rattle.rv_insn.specs.declared.operations.LoadOp.TheVariants.{Lw}
 use Rattle.rv_encoding.specs.Decoding.{decoded}
-use Rattle.memory.specs.Addresses.{data_start, byte_at, fetched, NotIn}
-use Rattle.memory.specs.Access.{Word, Reads, Updates, word_at, put_number, first_fault, touched, or_else, spread}
+use Rattle.memory.specs.Access.{data_start, byte_at, fetched, NotIn, Word, Reads, Updates, word_at, put_number, first_fault, touched, or_else, spread}
 use Rattle.memory.proofs.Putting.{byte-put}
 use Rattle.memory.proofs.Words.{word-put, word-other}
 use Rattle.memory.proofs.StaysBytes.{none-bytes, spread-bytes}
 use Rattle.hart_core.specs.declared.harts.Status.TheVariants.{Finished as Done}
 use Rattle.hart_core.specs.HartState.{HartState, advanced, at_pc, given, with_status}
-use Rattle.hart_core.specs.Scalar.{one_access, jump_of, jump_fault, jumped, offset_from}
-use Rattle.hart_core.specs.Alu.{plus}
+use Rattle.hart_core.specs.Scalar.{one_access, jump_of, jump_fault, jumped, offset_from, plus}
 use Rattle.hart_core.specs.Turn.{Does, Rests, Effect, next_of, effect, if_running, due}
-use Rattle.multi_hart.specs.Run.{State, turn}
-use Rattle.multi_hart.specs.Frame.{writes, Within}
+use Rattle.multi_hart.specs.Run.{State, turn, writes, Within}
 use Rattle.multi_hart_logic.specs.Uses.{Use, Control, Fixed, Owned, Private, Task, Setup, Given}
 use Rattle.vector_codegen_sharing.specs.Phases.{Phase, Kept, Stands, IsControl, Code, HasGate, HasEnd}
 use Rattle.vector_codegen_sharing.specs.Solo.{Begins, TaskDone, TaskWrites}

@@ -3,7 +3,7 @@ use Rattle.std.proofs.Common.{◌≡◌, ℕ, zero, suc, ◌+◌, ◌*◌, ◌<�
 use Rattle.std.specs.Prelude.{◌&&◌, ◌||◌, nat_le, nat_lt}
 use Rattle.std.proofs.lemmas.Bool.{cases_lt, le-leb, lt-ltb, and_from}
 use Rattle.std.proofs.lemmas.List.Folds.{list_any-append}
-use Rattle.memory.specs.Addresses.{data_start}
+use Rattle.memory.specs.Access.{data_start}
 use Rattle.vector_codegen_sharing.specs.Turns.{ticket_word, gate_word, is_byte_of, control_words}
 
 left-true : (a b : Bool) → a ≡ true → (a || b) ≡ true

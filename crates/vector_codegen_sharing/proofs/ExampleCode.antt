@@ -2,14 +2,12 @@
 use Rattle.std.proofs.Common.{◌≡◌, ℕ, zero, suc, ◌+◌, ◌-◌, ◌*◌, ◌%◌, ◌^◌, ◌<◌, ◌≤◌, List, length, set, Some, None, true, false, refl, ap, ◌∙◌, sym, subst, arith, length-set, get_or-set_other}
 use Rattle.std.specs.Prelude.{◌==◌, slice_get, slice_index, pos, replicate}
 use Rattle.std.proofs.lemmas.List.{get_or-set_same}
-use Rattle.memory.specs.Addresses.{data_start, byte_at, AreBytes}
-use Rattle.memory.specs.Access.{Word, word_at, put_number, touched, or_else, places_of, access_at, bytes_of}
+use Rattle.memory.specs.Access.{data_start, byte_at, AreBytes, Word, word_at, put_number, touched, or_else, places_of, access_at, bytes_of}
 use Rattle.memory.proofs.Putting.{length-put}
 use Rattle.memory.proofs.Words.{word-put}
 use Rattle.hart_core.specs.HartState.{HartState, advanced, given, opening_hart}
-use Rattle.hart_core.specs.Scalar.{one_access, jump_fault, offset_from}
-use Rattle.hart_core.specs.Alu.{plus}
-use Rattle.multi_hart.specs.Frame.{Within}
+use Rattle.hart_core.specs.Scalar.{one_access, jump_fault, offset_from, plus}
+use Rattle.multi_hart.specs.Run.{Within}
 use Rattle.multi_hart_logic.specs.Uses.{Use, Control, Fixed, Owned, Private, Task, Setup, MayRead, MayWrite}
 use Rattle.vector_codegen_sharing.specs.Phases.{Phase, Stands}
 use Rattle.vector_codegen_sharing.specs.Solo.{Leaves, SoonDone}

@@ -3,7 +3,7 @@ use Rattle.std.proofs.Common.{◌≡◌, ℕ, zero, suc, ◌+◌, ◌-◌, ◌%�
 use Rattle.std.specs.Prelude.{slice_index, nat_lt, cond, pos}
 use Rattle.std.proofs.lemmas.Bool.{cases_lt, cases_Bool}
 use Rattle.std.proofs.lemmas.Bool.Decides.{nat_tests}
-use Rattle.memory.specs.Addresses.{data_start, byte_at}
+use Rattle.memory.specs.Access.{data_start, byte_at}
 use Rattle.hart_core.specs.HartState.{given}
 use Rattle.multi_hart.specs.Run.{run, opened}
 use Rattle.multi_hart_logic.specs.Uses.{Use, Control, Fixed, Private, Given, Shared}

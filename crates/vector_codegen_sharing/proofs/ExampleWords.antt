@@ -1,12 +1,11 @@
 -- The words and bytes of the example's data.
-use Rattle.multi_hart.specs.Frame.{Within, is_in}
+use Rattle.multi_hart.specs.Run.{Within, is_in}
 use Rattle.std.proofs.Common.{◌≡◌, ℕ, zero, suc, ◌+◌, ◌-◌, ◌*◌, ◌%◌, ◌^◌, ◌<◌, ◌≤◌, List, [], ◌∷◌, length, true, false, refl, ap, ◌∙◌, sym, arith, inl, inr}
 use Rattle.std.specs.Prelude.{◌≢◌, ◌==◌, map, slice_index, nat_lt, cond, replicate}
 use Rattle.std.proofs.lemmas.Bool.{ltb-false, cases_eq, cases_Bool}
 use Rattle.std.proofs.lemmas.Bool.Decides.{nat_tests}
 use Rattle.std.specs.Int.{w32, to_le_bytes, from_le_bytes}
-use Rattle.memory.specs.Addresses.{data_start, byte_at}
-use Rattle.memory.specs.Access.{Word, word_at, put_number, touched}
+use Rattle.memory.specs.Access.{data_start, byte_at, Word, word_at, put_number, touched}
 use Rattle.hart_core.specs.Scalar.{one_access}
 use Rattle.multi_hart_logic.specs.Uses.{Use, Control, Fixed, Owned, Private}
 use Rattle.std.specs.Prelude.{◌/◌}

@@ -9,13 +9,11 @@ use Rattle.std.proofs.lemmas.Option.{slice_get_within}
 use Rattle.hart_core.specs.declared.harts.Status.{Status}
 use Rattle.hart_core.specs.declared.harts.Status.TheVariants.{Running, Finished as Done}
 use Rattle.hart_core.specs.HartState.{HartState}
-use Rattle.multi_hart.specs.Finished.{all_finished}
-use Rattle.multi_hart.specs.Run.{State, turn, turned, run, hart_at}
+use Rattle.multi_hart.specs.Run.{all_finished, State, turn, turned, run, hart_at, is_in}
 use Rattle.multi_hart.proofs.Framing.{others-stay}
 use Rattle.multi_hart.proofs.Resting.{there, turn-resting, run-append}
 use Rattle.multi_hart.proofs.TurnByTurn.{shape-run}
 use Rattle.multi_hart_logic.specs.Uses.{Setup}
-use Rattle.multi_hart.specs.Frame.{is_in}
 use Rattle.vector_codegen_sharing.specs.Phases.{Phase, HasGate, HasEnd}
 use Rattle.vector_codegen_sharing.specs.Programs.{Program, start, Opens}
 use Rattle.vector_codegen_sharing.specs.Promises.{CanFinish}

@@ -1,12 +1,11 @@
 -- What a hart has written of the gate words, along a run.
-use Rattle.multi_hart.specs.Frame.{Within, is_in}
+use Rattle.multi_hart.specs.Run.{Within, is_in, State, turn}
 use Rattle.std.proofs.Common.{◌≡◌, ℕ, zero, suc, ◌+◌, ◌<◌, ◌≤◌, List, [], ◌∷◌, set, Some, Bool, true, false, refl, ap, ◌∙◌, sym, subst, arith, inl, inr}
 use Rattle.std.specs.Prelude.{◌≢◌, ◌⊎◌, ◌==◌, ◌&&◌, ◌||◌, if◌then◌else◌, map, slice_get, cond}
 use Rattle.std.proofs.lemmas.Bool.{cases_eq}
 use Rattle.std.proofs.lemmas.Bool.Decides.{nat_tests}
 use Rattle.memory.specs.Access.{Word, touched}
 use Rattle.hart_core.specs.Scalar.{one_access}
-use Rattle.multi_hart.specs.Run.{State, turn}
 use Rattle.multi_hart.proofs.Framing.{slice_get-set_other}
 use Rattle.multi_hart_logic.specs.Uses.{Use, Control, Fixed, Owned, Private, Job, Task, Setup, MayWrite}
 use Rattle.vector_codegen_sharing.specs.Phases.{Phase}

@@ -2,14 +2,12 @@
 use Rattle.std.proofs.Common.{◌≡◌, ℕ, suc, ◌+◌, ◌<◌, ◌≤◌, List, [], ◌∷◌, set, Some, refl, ap, ◌∙◌, sym, subst, arith, inl, inr}
 use Rattle.std.specs.Prelude.{◌≢◌, slice_get}
 use Rattle.std.proofs.lemmas.Bool.{cases_eq}
-use Rattle.memory.specs.Addresses.{byte_at, put}
-use Rattle.memory.specs.Access.{word_at}
+use Rattle.memory.specs.Access.{byte_at, put, word_at}
 use Rattle.memory.proofs.Putting.{byte-put}
 use Rattle.memory.proofs.Words.{word-same}
 use Rattle.hart_core.specs.HartState.{HartState}
 use Rattle.hart_core.specs.Turn.{effect}
-use Rattle.multi_hart.specs.Run.{State, turn, turned, run}
-use Rattle.multi_hart.specs.Frame.{Within}
+use Rattle.multi_hart.specs.Run.{State, turn, turned, run, Within}
 use Rattle.multi_hart.proofs.Framing.{places-are}
 use Rattle.vector_codegen_sharing.specs.Phases.{Phase}
 use Rattle.vector_codegen_sharing.specs.Programs.{Link, Program}

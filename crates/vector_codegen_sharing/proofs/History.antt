@@ -1,13 +1,12 @@
 -- Who wrote a byte last, along parts of a run in which one hart alone has turns.
 use Rattle.multi_hart_logic.specs.Alone.{Covers}
-use Rattle.multi_hart.specs.Frame.{is_in, writes}
+use Rattle.multi_hart.specs.Run.{is_in, writes, State, turn, run}
 use Rattle.std.proofs.Common.{◌≡◌, ℕ, zero, suc, ◌+◌, ◌<◌, ◌≤◌, List, [], ◌∷◌, ◌++◌, length, set, Option, Some, Bool, true, false, refl, ap, ◌∙◌, sym, subst, arith, inl, inr}
 use Rattle.std.specs.Prelude.{◌⊎◌, slice_get, cond}
 use Rattle.std.proofs.lemmas.Bool.{cases_Bool}
 use Rattle.memory.specs.Access.{word_at}
 use Rattle.hart_core.specs.HartState.{HartState, advanced}
 use Rattle.hart_core.specs.Turn.{next_of, step}
-use Rattle.multi_hart.specs.Run.{State, turn, run}
 use Rattle.multi_hart_logic.specs.Uses.{Control, Owned, Task, Setup}
 use Rattle.vector_codegen_sharing.specs.Phases.{Phase, Code, HasGate, HasEnd}
 use Rattle.vector_codegen_sharing.specs.Solo.{TaskDone, TaskWrites}

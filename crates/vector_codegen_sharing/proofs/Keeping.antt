@@ -2,14 +2,12 @@
 use Rattle.std.proofs.Common.{◌≡◌, ℕ, zero, suc, ◌+◌, ◌<◌, ◌≤◌, List, [], ◌∷◌, length, set, Option, Some, refl, ap, ◌∙◌, sym, subst, arith, inl, inr, length-set}
 use Rattle.std.specs.Prelude.{◌≢◌, ◌⊎◌, slice_get}
 use Rattle.std.proofs.lemmas.Bool.{cases_eq, cases_lt}
-use Rattle.memory.specs.Addresses.{byte_at, put, AreBytes, NotIn}
-use Rattle.memory.specs.Access.{word_at}
+use Rattle.memory.specs.Access.{byte_at, put, AreBytes, NotIn, word_at}
 use Rattle.memory.proofs.Putting.{length-put, byte-put}
 use Rattle.memory.proofs.Words.{word-same}
 use Rattle.memory.proofs.StaysBytes.{put-bytes}
 use Rattle.hart_core.specs.HartState.{HartState}
-use Rattle.multi_hart.specs.Run.{State}
-use Rattle.multi_hart.specs.Frame.{Within}
+use Rattle.multi_hart.specs.Run.{State, Within}
 use Rattle.multi_hart.proofs.Framing.{slice_get-set_other}
 use Rattle.multi_hart_logic.specs.Uses.{Use, Control, Fixed, Owned, Private, Job, Task, Setup, MayRead, MayWrite}
 use Rattle.vector_codegen_sharing.specs.Phases.{Phase}

@@ -3,8 +3,7 @@ use Rattle.std.proofs.Common.{◌≡◌, ℕ, zero, suc, ◌+◌, ◌<◌, ◌�
 use Rattle.std.specs.Prelude.{◌⊎◌, map, slice_get, replicate}
 use Rattle.std.proofs.lemmas.Bool.{cases_eq, cases_lt}
 use Rattle.std.specs.Int.{w32, from_le_bytes}
-use Rattle.memory.specs.Addresses.{byte_at}
-use Rattle.memory.specs.Access.{word_at}
+use Rattle.memory.specs.Access.{byte_at, word_at}
 use Rattle.hart_core.specs.HartState.{HartState}
 use Rattle.multi_hart.specs.Run.{State, turn, turned, run}
 use Rattle.multi_hart_logic.specs.Uses.{Shared}

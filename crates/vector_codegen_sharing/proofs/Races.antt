@@ -1,6 +1,6 @@
 -- No race outside the control words.
 use Rattle.multi_hart_logic.specs.Alone.{Says}
-use Rattle.multi_hart.specs.Frame.{Within, is_in, reads, writes}
+use Rattle.multi_hart.specs.Run.{Within, is_in, reads, writes, State, run}
 use Rattle.std.proofs.Common.{◌≡◌, ℕ, suc, ◌+◌, ◌<◌, ◌≤◌, List, [], ◌∷◌, length, Option, Some, None, true, false, refl, ap, ◌∙◌, sym, subst, arith, inl, inr, true≢false}
 use Rattle.std.specs.Prelude.{◌≢◌, ◌==◌, slice_get, cond, pos}
 use Rattle.std.proofs.lemmas.Bool.{cases_eq}
@@ -10,14 +10,11 @@ use Rattle.rv_insn.specs.declared.instructions.Insn.{Insn}
 use Rattle.rv_insn.specs.declared.instructions.Insn.TheVariants.{AmoaddW, Branch, Load, Ecall}
 use Rattle.rv_insn.specs.declared.operations.BranchOp.TheVariants.{Bgeu, Bne}
 use Rattle.rv_insn.specs.declared.operations.LoadOp.TheVariants.{Lw}
-use Rattle.memory.specs.Addresses.{fetched}
-use Rattle.memory.specs.Access.{Word, touched, read_by, written_by}
+use Rattle.memory.specs.Access.{fetched, Word, touched, read_by, written_by}
 use Rattle.hart_core.specs.declared.harts.Status.TheVariants.{Running}
 use Rattle.hart_core.specs.HartState.{HartState}
-use Rattle.hart_core.specs.Scalar.{one_access, kind_of, accesses}
-use Rattle.hart_core.specs.Alu.{plus}
+use Rattle.hart_core.specs.Scalar.{one_access, kind_of, accesses, plus}
 use Rattle.hart_core.specs.Turn.{next_of, if_running, due, meant, judged, fault}
-use Rattle.multi_hart.specs.Run.{State, run}
 use Rattle.multi_hart_logic.specs.Uses.{Use, Control, Fixed, Owned, Private, Job, Task, Setup, MayRead, MayWrite}
 use Rattle.vector_codegen_sharing.specs.Phases.{Phase, IsControl, Code}
 use Rattle.vector_codegen_sharing.specs.Programs.{Link, Program, start}

@@ -1,12 +1,11 @@
 -- Where a hart comes that is given turns alone.
-use Rattle.multi_hart.specs.Frame.{Within, is_in}
+use Rattle.multi_hart.specs.Run.{Within, is_in, State, turn, run}
 use Rattle.std.proofs.Common.{◌≡◌, ℕ, zero, suc, ◌+◌, ◌<◌, ◌≤◌, List, [], ◌∷◌, ◌++◌, length, set, Some, Bool, true, false, refl, ap, ◌∙◌, sym, subst, arith, inl, inr}
 use Rattle.std.specs.Prelude.{◌⊎◌, ◌==◌, ◌||◌, if◌then◌else◌, slice_get}
 use Rattle.std.proofs.lemmas.Bool.{cases_eq}
 use Rattle.std.proofs.lemmas.Bool.Decides.{nat_tests}
 use Rattle.memory.specs.Access.{Word, touched}
 use Rattle.hart_core.specs.Scalar.{one_access}
-use Rattle.multi_hart.specs.Run.{State, turn, run}
 use Rattle.multi_hart_logic.specs.Uses.{Job, Task, Setup}
 use Rattle.vector_codegen_sharing.specs.Phases.{Phase, Code, HasGate, HasEnd}
 use Rattle.vector_codegen_sharing.specs.Solo.{TaskDone}

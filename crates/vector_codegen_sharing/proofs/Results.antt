@@ -1,7 +1,7 @@
 -- No hart traps, and there is one result.
 use Rattle.std.proofs.Common.{◌≡◌, ℕ, zero, suc, List, [], ◌∷◌, Some, Bool, true, false, refl, ap, ◌∙◌, sym, subst, inl, inr}
 use Rattle.std.specs.Prelude.{◌&&◌, slice_get}
-use Rattle.memory.specs.Addresses.{byte_at}
+use Rattle.memory.specs.Access.{byte_at}
 use Rattle.hart_core.specs.declared.harts.Status.{Status}
 use Rattle.hart_core.specs.declared.harts.Status.TheVariants.{Running, Finished as Done, Trapped as Stopped}
 use Rattle.hart_core.specs.HartState.{HartState}

@@ -1,8 +1,7 @@
 -- The invariant of a program's runs: where each hart is, and what holds of the state by that.
 use Rattle.std.proofs.Common.{◌≡◌, ℕ, zero, suc, ◌+◌, ◌<◌, ◌≤◌, false, List, [], ◌∷◌, length, set, Some}
 use Rattle.std.specs.Prelude.{◌≢◌, ◌⊎◌, if◌then◌else◌, slice_get, slice_index, nat_le}
-use Rattle.memory.specs.Addresses.{byte_at, AreBytes}
-use Rattle.memory.specs.Access.{word_at}
+use Rattle.memory.specs.Access.{byte_at, AreBytes, word_at}
 use Rattle.hart_core.specs.declared.harts.Status.TheVariants.{Finished as Done}
 use Rattle.hart_core.specs.HartState.{HartState}
 use Rattle.multi_hart.specs.Run.{State}

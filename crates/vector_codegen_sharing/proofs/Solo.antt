@@ -1,6 +1,6 @@
 -- Rules for the run of one job alone: one more instruction in front, and a counted loop.
 use Rattle.multi_hart_logic.specs.Alone.{Covers, Says, Keeps}
-use Rattle.multi_hart.specs.Frame.{Within, is_in, writes}
+use Rattle.multi_hart.specs.Run.{Within, is_in, writes}
 use Rattle.std.proofs.Common.{◌≡◌, ℕ, zero, suc, ◌+◌, ◌*◌, ◌%◌, ◌^◌, ◌≤◌, List, length, set, None, Bool, true, false, refl, ap, ◌∙◌, sym, subst, arith, inl, inr, get_or-set_other, [], ◌∷◌, length-set}
 use Rattle.std.specs.Prelude.{◌≢◌, ◌⊎◌, ◌==◌, ◌||◌, not, slice_index, slice_get, nat_lt, Some, ℤ}
 use Rattle.std.proofs.lemmas.Bool.{ltb-true}
@@ -9,19 +9,16 @@ use Rattle.std.proofs.lemmas.List.{get_or-set_same}
 use Rattle.rv_insn.specs.declared.instructions.Insn.{Insn}
 use Rattle.rv_insn.specs.declared.instructions.Insn.TheVariants.{Load}
 use Rattle.rv_insn.specs.declared.operations.LoadOp.TheVariants.{Lw}
-use Rattle.memory.specs.Addresses.{data_start, AreBytes}
-use Rattle.memory.specs.Access.{Word, Reads, word_at, put_number, first_fault, touched, read_by, written_by, or_else}
+use Rattle.memory.specs.Access.{data_start, AreBytes, Word, Reads, word_at, put_number, first_fault, touched, read_by, written_by, or_else, Writes}
 use Rattle.hart_core.specs.declared.harts.Status.TheVariants.{Running}
 use Rattle.hart_core.specs.HartState.{HartState, advanced, register, given}
-use Rattle.hart_core.specs.Scalar.{one_access, kind_of, accesses}
-use Rattle.hart_core.specs.Alu.{plus}
+use Rattle.hart_core.specs.Scalar.{one_access, kind_of, accesses, plus}
 use Rattle.hart_core.specs.Turn.{Does, done, numbers_read, applied, step, fault}
 use Rattle.multi_hart_logic.specs.Uses.{Owned, Job, Task, Setup, MayRead, MayWrite}
 use Rattle.vector_codegen_sharing.specs.Phases.{Phase, Kept, Stands}
 use Rattle.vector_codegen_sharing.specs.Solo.{world, SoonDone}
 use Rattle.rv_insn.specs.declared.instructions.Insn.TheVariants.{Store}
 use Rattle.rv_insn.specs.declared.operations.StoreOp.TheVariants.{Sw}
-use Rattle.memory.specs.Access.{Writes}
 use Rattle.multi_hart_logic.proofs.Rules.{effect-does, next-by, left, in-front}
 use Rattle.vector_codegen_sharing.proofs.Control.{kept-set}
 

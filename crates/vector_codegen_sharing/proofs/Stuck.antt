@@ -4,13 +4,12 @@ use Rattle.std.specs.Prelude.{slice_get}
 use Rattle.std.specs.List.{concat}
 use Rattle.rv_encoding.specs.Decoding.{decoded}
 use Rattle.rv_encoding.specs.Decoding as decode
-use Rattle.rv_encoding.specs.Keys.{key_in}
+use Rattle.rv_encoding.specs.Operations.{key_in}
 use Rattle.rv_insn.specs.Table.{scalar_table, r_type, i_type, s_type, b_type, u_type, j_type, amo_type, whole_word}
 use Rattle.rv_insn.specs.Encoding.{fixed, span}
 use Rattle.hart_core.specs.declared.harts.Status.TheVariants.{Running}
 use Rattle.hart_core.specs.HartState.{HartState}
-use Rattle.multi_hart.specs.Finished.{all_finished}
-use Rattle.multi_hart.specs.Run.{State, run}
+use Rattle.multi_hart.specs.Run.{all_finished, State, run}
 use Rattle.multi_hart.proofs.Resting.{run-append}
 use Rattle.vector_codegen_sharing.specs.Turns.{are_rounds}
 use Rattle.vector_codegen_sharing.specs.Stuck.{stuck, NoCount}

@@ -4,15 +4,13 @@ use Rattle.std.proofs.Common.{◌≡◌, ℕ, zero, suc, ◌+◌, ◌-◌, List,
 use Rattle.std.specs.Prelude.{◌⊎◌, slice_get, nat_lt, cond}
 use Rattle.std.proofs.lemmas.Bool.{cases_eq}
 use Rattle.rv_insn.specs.declared.instructions.Insn.{Insn}
-use Rattle.memory.specs.Addresses.{data_start, byte_at, put, put_byte, fetched, NotIn}
-use Rattle.memory.specs.Access.{word_at}
+use Rattle.memory.specs.Access.{data_start, byte_at, put, put_byte, fetched, NotIn, word_at}
 use Rattle.memory.proofs.Putting.{length-put, length-put_byte, byte-put, byte-put_byte}
 use Rattle.memory.proofs.Words.{word-same}
 use Rattle.hart_core.specs.declared.harts.Status.TheVariants.{Running}
 use Rattle.hart_core.specs.HartState.{HartState}
 use Rattle.hart_core.specs.Turn.{Next, Does, Effect, next_of, effect, made, applied, step, if_running, due, meant, judged, fault}
-use Rattle.multi_hart.specs.Run.{State, turn, turned, put_back}
-use Rattle.multi_hart.specs.Frame.{reads, writes, Agree, Within}
+use Rattle.multi_hart.specs.Run.{State, turn, turned, put_back, reads, writes, Agree, Within}
 use Rattle.multi_hart.proofs.Framing.{frame, agree-within, places-are}
 use Rattle.multi_hart.proofs.TurnByTurn.{effect-bytes}
 use Rattle.multi_hart_logic.specs.Uses.{Control, Owned, Job, Task, Setup, MayRead, MayWrite}

@@ -3,12 +3,11 @@ use Rattle.std.proofs.Common.{◌≡◌, ℕ, zero, suc, ◌+◌, List, [], ◌�
 use Rattle.std.specs.Prelude.{◌==◌, ◌||◌, Bool, slice_get, cond}
 use Rattle.std.proofs.lemmas.Bool.{cases_eq}
 use Rattle.std.proofs.lemmas.Bool.Decides.{nat_tests}
-use Rattle.memory.specs.Addresses.{byte_at, put, NotIn}
+use Rattle.memory.specs.Access.{byte_at, put, NotIn}
 use Rattle.memory.proofs.Putting.{length-put, byte-put}
 use Rattle.hart_core.specs.HartState.{HartState}
 use Rattle.hart_core.specs.Turn.{next_of, effect, step}
-use Rattle.multi_hart.specs.Run.{State, turn, turned, run}
-use Rattle.multi_hart.specs.Frame.{Within, is_in, reads, writes}
+use Rattle.multi_hart.specs.Run.{State, turn, turned, run, Within, is_in, reads, writes}
 use Rattle.multi_hart.proofs.Framing.{frame-by, places-are, turn-is}
 use Rattle.multi_hart_logic.specs.Uses.{Job, Task, Setup}
 use Rattle.vector_codegen_sharing.specs.Phases.{Phase, Stands}

@@ -1,9 +1,8 @@
 -- From paths of code to tasks: where a task begins a hart stands with its own numbers, and a path from there to the draw that keeps
 -- what the phase keeps and leaves the task's bytes does the task. This project's own.
 use Rattle.std.specs.Prelude.{◌≡◌, ℕ, ◌-◌, ◌/◌, ◌%◌, ◌==◌, nat_lt, if◌then◌else◌, List}
-use Rattle.lanes.specs.Registers.{element}
-use Rattle.lanes.specs.Masks.{mask_bit}
-use Rattle.hart_core.specs.Alu.{one_if}
+use Rattle.lanes.specs.Words.{element, mask_bit}
+use Rattle.hart_core.specs.Scalar.{one_if}
 use Rattle.hart_core.specs.HartState.{HartState, register, vector}
 use Rattle.multi_hart_logic.specs.Uses.{Job}
 use Rattle.multi_hart_logic.specs.Paths.{At, Path}

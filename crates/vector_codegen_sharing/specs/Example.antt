@@ -7,10 +7,8 @@
 use Rattle.std.specs.Prelude.{◌≡◌, ◌≤◌, ℕ, zero, suc, ◌+◌, ◌-◌, ◌/◌, ◌%◌, ◌*◌, nat_lt, ◌==◌, if◌then◌else◌, List, [], ◌∷◌, ◌++◌, length, slice_index, replicate, Bool, true}
 use Rattle.std.specs.Int.{w32, to_le_bytes}
 use Rattle.std.specs.List.{concat}
-use Rattle.memory.specs.Addresses.{data_start}
-use Rattle.memory.specs.Access.{word_at}
-use Rattle.multi_hart.specs.Finished.{all_finished}
-use Rattle.multi_hart.specs.Run.{opened, run}
+use Rattle.memory.specs.Access.{data_start, word_at}
+use Rattle.multi_hart.specs.Run.{all_finished, opened, run}
 use Rattle.multi_hart_logic.specs.Uses.{Use, Control, Fixed, Owned, Private, Job, Task, Setup}
 use Rattle.vector_codegen_sharing.specs.Phases.{Phase}
 use Rattle.vector_codegen_sharing.specs.Solo.{TaskWrites}

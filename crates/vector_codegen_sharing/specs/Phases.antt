@@ -10,7 +10,7 @@ use Rattle.std.specs.Prelude.{◌≡◌, ◌≤◌, ◌<◌, ℕ, ◌+◌, ◌%�
 use Rattle.rv_insn.specs.declared.instructions.Insn.TheVariants.{AmoaddW, Branch, Load, Ecall}
 use Rattle.rv_insn.specs.declared.operations.BranchOp.TheVariants.{Bgeu, Bne}
 use Rattle.rv_insn.specs.declared.operations.LoadOp.TheVariants.{Lw}
-use Rattle.memory.specs.Addresses.{data_start, most_bytes, AreBytes}
+use Rattle.memory.specs.Access.{data_start, most_bytes, AreBytes}
 use Rattle.hart_core.specs.declared.harts.Status.TheVariants.{Running}
 use Rattle.hart_core.specs.HartState.{HartState}
 use Rattle.hart_core.specs.Scalar.{offset_from}

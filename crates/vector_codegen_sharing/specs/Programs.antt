@@ -3,8 +3,7 @@
 -- bytes on its gate word. The last phase has no gate: its gate word stays 0.
 use Rattle.std.specs.Prelude.{◌≡◌, ◌<◌, ◌≤◌, ◌⊎◌, ℕ, suc, ◌+◌, ◌*◌, List, [], ◌∷◌, length}
 use Rattle.std.specs.Int.{w32, from_le_bytes}
-use Rattle.memory.specs.Addresses.{data_start, byte_at, AreBytes}
-use Rattle.memory.specs.Access.{word_at}
+use Rattle.memory.specs.Access.{data_start, byte_at, AreBytes, word_at}
 use Rattle.hart_core.specs.HartState.{HartState, opening_hart}
 use Rattle.multi_hart.specs.Run.{State, opened}
 use Rattle.multi_hart_logic.specs.Uses.{Use, Control, Fixed, Owned, Private, Shared, Setup}

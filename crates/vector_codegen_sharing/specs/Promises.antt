@@ -1,13 +1,10 @@
 -- What holds on every list of turns of a program that shares its work, for every number of harts. This project's own.
 use Rattle.std.specs.Prelude.{◌≡◌, ◌≢◌, ◌<◌, ◌≤◌, ◌⊎◌, ℕ, suc, true, List, ◌∷◌, ◌++◌, length, slice_get, Some, None}
-use Rattle.memory.specs.Addresses.{byte_at}
-use Rattle.memory.specs.Access.{word_at}
+use Rattle.memory.specs.Access.{byte_at, word_at}
 use Rattle.hart_core.specs.declared.harts.Status.TheVariants.{Finished}
 use Rattle.hart_core.specs.HartState.{HartState}
-use Rattle.multi_hart.specs.Finished.{all_finished}
-use Rattle.multi_hart.specs.Run.{State, run}
+use Rattle.multi_hart.specs.Run.{all_finished, State, run, is_in}
 use Rattle.multi_hart_logic.specs.Uses.{Fixed, Owned}
-use Rattle.multi_hart.specs.Frame.{is_in}
 use Rattle.vector_codegen_sharing.specs.Phases.{Phase}
 use Rattle.vector_codegen_sharing.specs.Solo.{TaskWrites}
 use Rattle.vector_codegen_sharing.specs.Programs.{Program, Opens, start}

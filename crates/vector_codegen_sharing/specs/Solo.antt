@@ -1,7 +1,7 @@
 -- What is asked of the code of a task: its run alone, told forwards from where it begins. Nothing of other harts enters here.
 -- This project's own.
 use Rattle.std.specs.Prelude.{◌≡◌, ◌<◌, ℕ, suc, ◌+◌, List, length, true, slice_index}
-use Rattle.memory.specs.Addresses.{byte_at, AreBytes}
+use Rattle.memory.specs.Access.{byte_at, AreBytes}
 use Rattle.hart_core.specs.HartState.{HartState}
 use Rattle.multi_hart_logic.specs.Uses.{Owned, Job, Task, Setup, Given}
 use Rattle.multi_hart_logic.specs.Alone.{World, Soon, Covers}

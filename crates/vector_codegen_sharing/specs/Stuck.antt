@@ -5,8 +5,7 @@ use Rattle.std.specs.Prelude.{◌≡◌, ◌≤◌, ℕ, List, [], ◌∷◌, le
 use Rattle.std.specs.List.{concat}
 use Rattle.hart_core.specs.declared.harts.Status.TheVariants.{Running}
 use Rattle.hart_core.specs.HartState.{HartState}
-use Rattle.multi_hart.specs.Finished.{all_finished}
-use Rattle.multi_hart.specs.Run.{State, opened, run}
+use Rattle.multi_hart.specs.Run.{all_finished, State, opened, run}
 use Rattle.vector_codegen_sharing.specs.Turns.{are_rounds}
 
 -- from 0x00010000 on:

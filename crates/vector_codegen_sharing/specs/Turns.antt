@@ -4,13 +4,11 @@
 use Rattle.std.specs.Prelude.{◌≡◌, ◌≢◌, ◌<◌, ◌⊎◌, ℕ, zero, suc, ◌+◌, ◌*◌, ◌==◌, ◌||◌, ◌&&◌, nat_le, nat_lt, Bool, true, false, if◌then◌else◌, List, [], ◌∷◌, ◌++◌, length, slice_get, Option, Some, None}
 use Rattle.std.specs.List.{list_all, list_any}
 use Rattle.rv_insn.specs.declared.outcomes.Trap.{Trap}
-use Rattle.memory.specs.Addresses.{data_start}
-use Rattle.memory.specs.Access.{word_at}
+use Rattle.memory.specs.Access.{data_start, word_at}
 use Rattle.hart_core.specs.declared.harts.Status.TheVariants.{Trapped as HasTrapped}
 use Rattle.hart_core.specs.HartState.{HartState}
 use Rattle.hart_core.specs.Turn.{next_of}
-use Rattle.multi_hart.specs.Frame.{Within, is_in, reads, writes}
-use Rattle.multi_hart.specs.Run.{State, turn, run}
+use Rattle.multi_hart.specs.Run.{Within, is_in, reads, writes, State, turn, run}
 
 -- ---- the words of control: of each phase one to draw tasks and one to wait at
 

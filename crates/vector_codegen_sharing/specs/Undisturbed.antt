@@ -1,10 +1,9 @@
 -- A job among the turns of other harts: as long as none of them writes a byte that the job's run alone touches, it is done after as
 -- many turns of its hart as its run alone takes, wherever the others' turns stand. This project's own.
 use Rattle.std.specs.Prelude.{◌≡◌, ◌≢◌, ℕ, ◌+◌, ◌==◌, if◌then◌else◌, List, [], ◌∷◌, length, slice_get, Bool, true, Some}
-use Rattle.memory.specs.Addresses.{byte_at}
+use Rattle.memory.specs.Access.{byte_at}
 use Rattle.hart_core.specs.HartState.{HartState}
-use Rattle.multi_hart.specs.Frame.{Within}
-use Rattle.multi_hart.specs.Run.{State, turn, run}
+use Rattle.multi_hart.specs.Run.{Within, State, turn, run}
 use Rattle.multi_hart_logic.specs.Uses.{Owned, Job, Task, Setup}
 use Rattle.multi_hart_logic.specs.Alone.{touches}
 use Rattle.vector_codegen_sharing.specs.Phases.{Phase, Stands}

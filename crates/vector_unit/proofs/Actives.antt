@@ -5,13 +5,11 @@ use Rattle.std.proofs.lemmas.Bool.Decides.{nat_tests}
 use Rattle.std.proofs.lemmas.List.{map-id}
 use Rattle.std.proofs.lemmas.List.FromFn.{take-map-range_with_len}
 use Rattle.std.specs.List.{range_with_len}
-use Rattle.lanes.specs.Elementwise.{chosen_of}
-use Rattle.lanes.specs.Masks.{active, is_active}
+use Rattle.lanes.specs.Words.{chosen_of, active, is_active}
 use Rattle.lanes.specs.Words as word
 use Rattle.rv_insn.specs.declared.vector_operations.ElementWidth.{ElementWidth}
 use Rattle.vector_unit.specs.declared.accesses.Spacing.{Spacing}
-use Rattle.vector_unit.specs.VectorState.{Vectors, register}
-use Rattle.vector_unit.specs.Vector.{bits_of, count, element_from, active_in}
+use Rattle.vector_unit.specs.Vector.{Vectors, register, bits_of, count, element_from, active_in}
 use Rattle.vector_unit.specs.Accesses.{offset, offsets_by, addresses_by, active_numbers}
 use Rattle.vector_unit.proofs.Choices.{picked}
 use Rattle.vector_unit.proofs.Parts.{from-start}

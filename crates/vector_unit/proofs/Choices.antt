@@ -2,7 +2,7 @@
 use Rattle.std.proofs.Common.{◌≡◌, ℕ, suc, ◌+◌, ◌-◌, ◌<◌, ◌≤◌, Bool, true, false, List, [], ◌∷◌, ◌++◌, map, refl, sym, ◌∙◌, ap, arith, append_assoc}
 use Rattle.std.proofs.lemmas.List.{append-nil}
 use Rattle.std.specs.List.{range_with_len}
-use Rattle.lanes.specs.Elementwise.{chosen_of}
+use Rattle.lanes.specs.Words.{chosen_of}
 
 -- what the active ones of n indices from i on give
 abbrev pub picked : (ℕ → Bool) → (ℕ → ℕ) → ℕ → ℕ → List ℕ

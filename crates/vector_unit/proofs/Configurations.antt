@@ -5,8 +5,7 @@ use Rattle.std.proofs.lemmas.Bool.{and_parts, leb-true, not-false}
 use Rattle.lanes.specs.Words.{IsWidth}
 use Rattle.rv_insn.specs.declared.vector_operations.ElementWidth.{ElementWidth}
 use Rattle.rv_insn.specs.declared.vector_operations.ElementWidth.TheVariants.{Bits8, Bits16, Bits32}
-use Rattle.vector_unit.specs.VectorState.{Vectors, is_supported, has_vill, vlmul_of, vsew_of, group_of, most_elements}
-use Rattle.vector_unit.specs.Vector.{bits_of, width, group, group_at, count, is_misplaced}
+use Rattle.vector_unit.specs.Vector.{Vectors, is_supported, has_vill, vlmul_of, vsew_of, group_of, most_elements, bits_of, width, group, group_at, count, is_misplaced}
 
 few : (k : ℕ) → k ≤ 2 → 2 ^ k ≤ 4
 few zero l = omega arith

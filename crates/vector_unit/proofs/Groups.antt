@@ -5,18 +5,14 @@ use Rattle.std.specs.List.{range_with_len}
 use Rattle.std.proofs.Math.Nat.{mul-le-mul_right, suc-mul}
 use Rattle.std.proofs.lemmas.List.{drop-drop, drop_all, map-id}
 use Rattle.std.proofs.lemmas.List.FromFn.{length-map-range_with_len}
-use Rattle.lanes.specs.Words.{IsWidth}
-use Rattle.lanes.specs.Registers.{element, elements}
-use Rattle.lanes.specs.Masks.{active, mask_bit, mask_bits, is_active, with_mask_bits_from}
-use Rattle.lanes.specs.Elementwise.{zip_with, merged, reduced}
+use Rattle.lanes.specs.Words.{IsWidth, element, elements, zip_with, merged, reduced, active, mask_bit, mask_bits, is_active, with_mask_bits_from}
 use Rattle.rv_insn.specs.declared.vector_operations.CompareVxOp.{CompareVxOp}
 use Rattle.rv_insn.specs.declared.vector_operations.ReductionOp.{ReductionOp}
 use Rattle.vector_unit.specs.declared.elements.NewElements.{NewElements}
 use Rattle.vector_unit.specs.declared.elements.NewElements.TheVariants.{Arithmetic, Multiply, Merge, Copy, Numbers, Bytes}
 use Rattle.vector_unit.specs.declared.operands.Operand.{Operand}
 use Rattle.vector_unit.specs.declared.operands.Operand.TheVariants.{Register, Number, Immediate, Amount}
-use Rattle.vector_unit.specs.VectorState.{Vectors, register, with_register, has_vill}
-use Rattle.vector_unit.specs.Vector.{width, count, group, of_group, element_from, active_in, with_registers, with_elements}
+use Rattle.vector_unit.specs.Vector.{Vectors, register, with_register, has_vill, width, count, group, of_group, element_from, active_in, with_registers, with_elements}
 use Rattle.vector_unit.specs.Operands.{operand_elements}
 use Rattle.vector_unit.specs.Operations as op
 use Rattle.vector_unit.specs.inner.Parts.{own_count, register_part, operand_part, active_part, new_part, new_elements, merged_register, with_parts, with_part_bits, with_parts_bits, reduced_parts}

@@ -2,9 +2,7 @@
 use Rattle.std.proofs.Common.{◌≡◌, ℕ, zero, suc, ◌+◌, ◌-◌, ◌*◌, ◌<◌, ◌≤◌, Bool, true, false, cond, List, [], ◌∷◌, map, take, drop, refl, sym, ◌∙◌, ap, arith}
 use Rattle.std.proofs.Math.ListN.{replicate}
 use Rattle.std.specs.List.{range_with_len}
-use Rattle.lanes.specs.Elementwise.{zip_with, merged}
-use Rattle.lanes.specs.Masks.{with_mask_bits_from, with_mask_bit}
-use Rattle.lanes.specs.Elementwise.{reduced, chosen_of}
+use Rattle.lanes.specs.Words.{zip_with, merged, reduced, chosen_of, with_mask_bits_from, with_mask_bit}
 use Rattle.std.proofs.lemmas.List.{take-replicate, drop-replicate}
 
 -- so many elements, from those of a part on

@@ -6,15 +6,13 @@
 use Rattle.std.specs.Prelude.{ℕ, ◌+◌, ◌*◌, ◌/◌, ◌%◌, ◌^◌, Bool, true, false, List, [], ◌∷◌, map, Option, Some, None}
 use Rattle.std.specs.List.{range_with_len}
 use Rattle.lanes.specs.Words as word
-use Rattle.lanes.specs.Registers.{with_element}
-use Rattle.lanes.specs.Elementwise.{chosen_of}
+use Rattle.lanes.specs.Words.{with_element, chosen_of}
 use Rattle.rv_insn.specs.declared.vector_instructions.VectorInsn.{VectorInsn}
 use Rattle.rv_insn.specs.declared.vector_operations.ElementWidth.{ElementWidth}
 use Rattle.rv_insn.specs.declared.vector_instructions.VectorInsn.TheVariants as v
 use Rattle.rv_insn.specs.declared.vector_instructions.Addressing.{Addressing}
 use Rattle.rv_insn.specs.declared.vector_instructions.Addressing.TheVariants as addressings
-use Rattle.vector_unit.specs.VectorState.{Vectors, register, with_register}
-use Rattle.vector_unit.specs.Vector.{bits_of, width, count, element_from, active_in}
+use Rattle.vector_unit.specs.Vector.{Vectors, register, with_register, bits_of, width, count, element_from, active_in}
 use Rattle.vector_unit.specs.declared.accesses.Spacing.{Spacing}
 use Rattle.vector_unit.specs.declared.accesses.Spacing.TheVariants.{UnitStride, Strided, Indexed}
 

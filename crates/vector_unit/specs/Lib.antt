@@ -2,5 +2,4 @@ pub mod Accesses
 pub mod Operands
 pub mod Operations
 pub mod Vector
-pub mod VectorState
 pub mod inner

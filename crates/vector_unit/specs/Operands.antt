@@ -6,8 +6,7 @@ use Rattle.rv_insn.specs.declared.vector_instructions.VectorInsn.TheVariants as 
 use Rattle.vector_unit.specs.declared.operands.Operand.{Operand}
 use Rattle.vector_unit.specs.declared.operands.Operand.TheVariants.{Register, Number, Immediate, Amount}
 use Rattle.vector_unit.specs.declared.operands.Pair.{Pair}
-use Rattle.vector_unit.specs.VectorState.{Vectors}
-use Rattle.vector_unit.specs.Vector.{count, of_group, of_scalar, of_immediate}
+use Rattle.vector_unit.specs.Vector.{Vectors, count, of_group, of_scalar, of_immediate}
 
 abbrev pub operand_elements : Vectors → Operand → List ℕ
 operand_elements state (Register v) = of_group state v

@@ -2,9 +2,9 @@
 //! themselves, one by one.
 
 ghost use Rattle.std.specs.Prelude.{◌≡◌, ◌<◌, ◌≤◌, ◌+◌, ◌*◌, ◌/◌, true, false, length, replicate};
-ghost use Rattle.lanes.specs.Registers.{element, with_element};
-ghost use Rattle.lanes.specs.Masks.{is_active};
-ghost use Rattle.vector_unit.specs.VectorState.{register, with_register, has_vill};
+ghost use Rattle.lanes.specs.Words.{element, with_element};
+ghost use Rattle.lanes.specs.Words.{is_active};
+ghost use Rattle.vector_unit.specs.Vector.{register, with_register, has_vill};
 ghost use Rattle.vector_unit.specs.Vector as spec;
 ghost use Rattle.vector_unit.specs.Vector.{width, count, group_at, element_from, active_in};
 ghost use Rattle.vector_unit.specs.Accesses.{offset, addresses_by, active_numbers, filled_from, loaded};

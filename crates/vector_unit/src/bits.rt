@@ -2,9 +2,9 @@
 
 ghost use Rattle.std.specs.Prelude.{◌≡◌, ◌<◌, ◌≤◌, ◌+◌, ◌%◌, ◌^◌, false};
 ghost use Rattle.lanes.specs.Words as word;
-ghost use Rattle.lanes.specs.Registers.{element};
-ghost use Rattle.lanes.specs.Elementwise.{zip_with, reduced};
-ghost use Rattle.vector_unit.specs.VectorState.{register, has_vill};
+ghost use Rattle.lanes.specs.Words.{element};
+ghost use Rattle.lanes.specs.Words.{zip_with, reduced};
+ghost use Rattle.vector_unit.specs.Vector.{register, has_vill};
 ghost use Rattle.vector_unit.specs.Vector.{width, of_group, active_in, with_bits, with_first};
 ghost use Rattle.vector_unit.specs.Operands.{operand_elements};
 ghost use Rattle.vector_unit.specs.inner.Parts.{with_part_bits, with_parts_bits, reduced_parts};

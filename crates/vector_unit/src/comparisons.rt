@@ -2,7 +2,7 @@
 //! that there are; the other groups have some of them.
 
 ghost use Rattle.std.specs.Prelude.{◌≡◌};
-ghost use Rattle.lanes.specs.Elementwise.{zip_with, reduced};
+ghost use Rattle.lanes.specs.Words.{zip_with, reduced};
 ghost use Rattle.vector_unit.specs.Operations as op;
 
 use lanes::{LaneKernels, LaneKind, Lanes};

@@ -2,7 +2,7 @@
 
 ghost use Rattle.std.specs.Prelude.{◌≡◌, true, false, OnOk, OnErr, IfOk, IfErr};
 ghost use Rattle.rv_insn.specs.declared.outcomes.Trap.TheVariants.{IllegalInstruction};
-ghost use Rattle.vector_unit.specs.VectorState.{asked_by, configured, is_illegal_configuration};
+ghost use Rattle.vector_unit.specs.Vector.{asked_by, configured, is_illegal_configuration};
 
 use crate::states::{VILL, VILL_COUNT, VectorState};
 use crate::vtypes::{is_supported, most_elements};

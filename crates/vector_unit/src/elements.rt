@@ -1,7 +1,7 @@
 //! Instructions that write the elements of a group, at the configured width.
 
 ghost use Rattle.std.specs.Prelude.{◌≡◌, ◌<◌, ◌≤◌, ◌+◌, false};
-ghost use Rattle.vector_unit.specs.VectorState.{has_vill, with_register};
+ghost use Rattle.vector_unit.specs.Vector.{has_vill, with_register};
 ghost use Rattle.vector_unit.specs.Vector.{group, width, with_elements};
 ghost use Rattle.vector_unit.specs.inner.Parts.{new_elements, new_part, merged_register, with_parts, AtWords};
 

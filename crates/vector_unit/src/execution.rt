@@ -2,12 +2,12 @@
 
 ghost use Rattle.std.specs.Prelude.{◌≡◌, ◌==◌, ◌%◌, ℕ, true, false, ◌&&◌, not, None, Some, OnOk, OnErr, IfOk, IfErr};
 ghost use Rattle.rv_insn.specs.declared.outcomes.Trap.TheVariants.{IllegalInstruction};
-ghost use Rattle.vector_unit.specs.VectorState.{has_vill};
+ghost use Rattle.vector_unit.specs.Vector.{has_vill};
 ghost use Rattle.vector_unit.specs.Vector.{vector_after, scalar_given, number_of, is_own, is_other_width, is_refused};
 ghost use Rattle.vector_unit.specs.Vector.{overwrites_mask, fixed_width, group, groups_in, is_misplaced, moved_in};
 ghost use Rattle.vector_unit.specs.Vector.{is_unfit, width, of_group, merged_by_mask, with_elements};
 ghost use Rattle.vector_unit.specs.Operations as op;
-ghost use Rattle.lanes.specs.Elementwise.{zip_with};
+ghost use Rattle.lanes.specs.Words.{zip_with};
 ghost use Rattle.vector_unit.specs.Operands.{operand_elements, pair_of};
 
 use crate::elements::NewElements;

@@ -5,9 +5,9 @@
 //! by the crate that has a memory: [`VectorState::refuses`], [`VectorState::addresses`],
 //! [`VectorState::active_numbers`] and [`VectorState::load`] are the unit's part in them.
 //!
-//! `specs/VectorState.antt` has the state and its configuration, `specs/Operations.antt` what each operation
-//! makes of two elements, `specs/Vector.antt` what each instruction leaves, gives and refuses, and
-//! `specs/Accesses.antt` where the elements of loads and stores lie. Nothing here allocates.
+//! `specs/Vector.antt` has the state and its configuration, and what each instruction leaves, gives and refuses,
+//! `specs/Operations.antt` what each operation makes of two elements, and `specs/Accesses.antt` where
+//! the elements of loads and stores lie. Nothing here allocates.
 #![tactic(auto)]
 
 pub mod accesses;

@@ -2,10 +2,10 @@
 
 ghost use Rattle.std.specs.Prelude.{◌≡◌, ◌+◌, ◌*◌, ◌<◌, ◌≤◌, ◌%◌, ◌^◌};
 ghost use Rattle.lanes.specs.Words.{wrapped};
-ghost use Rattle.lanes.specs.Registers.{register_of};
-ghost use Rattle.lanes.specs.Masks.{active};
-ghost use Rattle.lanes.specs.Elementwise.{merged};
-ghost use Rattle.vector_unit.specs.VectorState.{register};
+ghost use Rattle.lanes.specs.Words.{register_of};
+ghost use Rattle.lanes.specs.Words.{active};
+ghost use Rattle.lanes.specs.Words.{merged};
+ghost use Rattle.vector_unit.specs.Vector.{register};
 ghost use Rattle.vector_unit.specs.Vector.{width};
 ghost use Rattle.vector_unit.specs.Operands.{pair_of};
 ghost use Rattle.vector_unit.specs.inner.Parts.{operand_part};

@@ -2,7 +2,7 @@
 //! are of arithmetic; the other groups have some of them.
 
 ghost use Rattle.std.specs.Prelude.{◌≡◌};
-ghost use Rattle.lanes.specs.Elementwise.{zip_with};
+ghost use Rattle.lanes.specs.Words.{zip_with};
 ghost use Rattle.vector_unit.specs.Operations as op;
 
 use lanes::{LaneKernels, Lanes};

@@ -2,8 +2,8 @@
 //! and widths is needed there.
 
 ghost use Rattle.std.specs.Prelude.{◌≡◌, ℕ, true, false, None};
-ghost use Rattle.lanes.specs.Elementwise.{zip_with};
-ghost use Rattle.vector_unit.specs.VectorState.{has_vill};
+ghost use Rattle.lanes.specs.Words.{zip_with};
+ghost use Rattle.vector_unit.specs.Vector.{has_vill};
 ghost use Rattle.vector_unit.specs.Vector.{group, is_own, is_refused, of_group, scalar_given, vector_after, width};
 ghost use Rattle.vector_unit.specs.Vector.{with_elements};
 ghost use Rattle.vector_unit.specs.Operations as op;

@@ -1,7 +1,7 @@
 //! The vector state of a hart.
 
 ghost use Rattle.std.specs.Prelude.{◌≡◌, ◌<◌, ◌≤◌, ◌+◌, false, [], slice_index_or};
-ghost use Rattle.vector_unit.specs.VectorState.{register, with_register, opening_vector_state, has_vill};
+ghost use Rattle.vector_unit.specs.Vector.{register, with_register, opening_vector_state, has_vill};
 ghost use Rattle.vector_unit.specs.Vector.{group};
 
 use crate::vtypes::group_of;
@@ -29,7 +29,7 @@ pub struct VectorState {
 
 impl Model for VectorState {
     ghost use Rattle.std.specs.Prelude.{◌≡◌};
-    ghost use Rattle.vector_unit.specs.VectorState.{Vectors, most_elements, is_supported};
+    ghost use Rattle.vector_unit.specs.Vector.{Vectors, most_elements, is_supported};
 
     ghost Value = { Vectors };
 

@@ -1,7 +1,7 @@
 //! What a vtype says of the elements.
 
 ghost use Rattle.std.specs.Prelude.{◌≡◌, ◌≤◌, true};
-ghost use Rattle.vector_unit.specs.VectorState.{is_supported, group_of, most_elements, width_of};
+ghost use Rattle.vector_unit.specs.Vector.{is_supported, group_of, most_elements, width_of};
 ghost use Rattle.vector_unit.specs.Vector.{bits_of};
 
 use rv_insn::ElementWidth;

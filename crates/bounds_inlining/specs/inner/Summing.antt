@@ -5,9 +5,8 @@ use Rattle.halide_pipeline.specs.declared.definitions.Func.{Func}
 use Rattle.bounds_inlining.specs.declared.counts.CountCall.{CountCall}
 use Rattle.bounds_inlining.specs.declared.counts.Sum.{Sum}
 use Rattle.bounds_inlining.specs.declared.needs.Need.{Need}
-use Rattle.bounds_inlining.specs.Inlining.{Inside, second_of, inside, made_in, func_in, flagged}
+use Rattle.bounds_inlining.specs.Inlining.{Inside, second_of, inside, made_in, func_in, flagged, counting, needing}
 use Rattle.bounds_inlining.specs.Laws.{RelatesSeconds}
-use Rattle.bounds_inlining.specs.Weights.{counting, needing}
 
 abbrev pub most : ℕ
 most = 2 ^ 32 - 1

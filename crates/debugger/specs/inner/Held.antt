@@ -1,7 +1,7 @@
 -- What every session keeps: the machine that it holds is the one at its place, which lies within the log, what it knows of the text and of
 -- kept places is right, and there are no more marks than there may be. This project's own.
 use Rattle.std.specs.Prelude.{◌≡◌, ◌≤◌, List, length, map, Option}
-use Rattle.memory.specs.Addresses.{most_words}
+use Rattle.memory.specs.Access.{most_words}
 use Rattle.rv_insn.specs.declared.instructions.Insn.{Insn}
 use Rattle.hart_core.specs.HartState.{HartState}
 use Rattle.multi_hart.specs.Run.{State}

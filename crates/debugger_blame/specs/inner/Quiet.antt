@@ -3,7 +3,7 @@ use Rattle.std.specs.Prelude.{◌≡◌, ℕ, ◌+◌, ◌*◌, ◌<◌, Bool, t
 use Rattle.rv_insn.specs.declared.instructions.Insn.{Insn}
 use Rattle.rv_insn.specs.declared.instructions.Insn.TheVariants as i
 use Rattle.rv_encoding.specs.Decoding.{decoded}
-use Rattle.memory.specs.Addresses.{text_start}
+use Rattle.memory.specs.Access.{text_start}
 use Rattle.debugger_stores.specs.Stored.{store_in}
 
 -- behind a turn of the instruction the next word is due

@@ -1,7 +1,7 @@
 -- Places whose pages are marked. This project's own.
 use Rattle.std.specs.Prelude.{◌≡◌, ℕ, ◌-◌, ◌/◌, ◌≤◌, Bool, true, List}
-use Rattle.memory.specs.Addresses.{data_start}
-use Rattle.multi_hart.specs.Frame.{is_in}
+use Rattle.memory.specs.Access.{data_start}
+use Rattle.multi_hart.specs.Run.{is_in}
 use Rattle.debugger_pages.specs.Pages.{is_written}
 
 -- the page of each of the places that is one of data is marked

@@ -7,8 +7,7 @@ use Rattle.halide_parser_syntax.specs.declared.tokens.Token.TheVariants as t
 use Rattle.halide_parser_syntax.specs.declared.tokens.SumOperator.TheVariants.{Subtract}
 use Rattle.halide_parser.specs.declared.readers.Reader.{Reader}
 use Rattle.halide_parser.specs.declared.scopes.Scope.{Scope}
-use Rattle.halide_parser.specs.Readers.{func, func_place}
-use Rattle.halide_parser.specs.Scopes.{empty}
+use Rattle.halide_parser.specs.Expressions.{func, func_place, empty}
 
 -- behind the first `over`
 abbrev pub behind_over : List Token → List Token

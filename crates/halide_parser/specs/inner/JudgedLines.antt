@@ -1,7 +1,7 @@
 -- A line with what is known of its expressions, in place of the expressions themselves: its least fault, and what it adds.
 -- This project's own.
 use Rattle.std.specs.Prelude.{◌≡◌, ℕ, Bool, false, not, ◌||◌, if◌then◌else◌, List, Option, Some, None, Result, Ok, Err}
-use Rattle.line_text.specs.Reading.{◌>>=◌}
+use Rattle.line_text.specs.Lines.{◌>>=◌}
 use Rattle.halide_pipeline.specs.declared.expressions.Expr.{Expr}
 use Rattle.halide_pipeline.specs.declared.expressions.Expr.TheVariants as e
 use Rattle.halide_pipeline.specs.declared.expressions.Variable.{Variable}
@@ -24,9 +24,8 @@ use Rattle.halide_parser.specs.declared.judging.Judged.{Judged}
 use Rattle.halide_parser.specs.declared.readers.Reader.{Reader}
 use Rattle.halide_parser.specs.inner.Judging.{judging, no_marks, both_marks}
 use Rattle.halide_parser.specs.Meaning.{applied}
-use Rattle.halide_parser.specs.Readers.{func_place}
+use Rattle.halide_parser.specs.Expressions.{func_place, scope_of}
 use Rattle.halide_parser.specs.Rules as r
-use Rattle.halide_parser.specs.Scopes.{scope_of}
 
 -- ---- marks
 

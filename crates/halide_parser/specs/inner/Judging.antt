@@ -22,9 +22,7 @@ use Rattle.halide_parser_syntax.specs.declared.tokens.TwoFunction.{TwoFunction}
 use Rattle.halide_parser_syntax.specs.declared.tokens.ThreeFunction.{ThreeFunction}
 use Rattle.halide_parser_syntax.specs.declared.tokens.ThreeFunction.TheVariants as threes
 use Rattle.halide_parser_syntax.specs.inner.Algebra.{Algebra}
-use Rattle.halide_parser.specs.Expressions.{is_own, two_operation, sum_operation, comparison_operation}
-use Rattle.halide_parser.specs.Readers.{source}
-use Rattle.halide_parser.specs.Scopes.{variable}
+use Rattle.halide_parser.specs.Expressions.{is_own, two_operation, sum_operation, comparison_operation, variable, source}
 
 abbrev pub no_marks : Marks
 no_marks = record { is_unknown = false; is_wrong_count = false; is_bad_divisor = false; uses_first = false; uses_second = false; calls_own = false; moves_first = false; moves_second = false }

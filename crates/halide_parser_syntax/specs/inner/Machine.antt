@@ -14,7 +14,14 @@ use Rattle.halide_parser_syntax.specs.declared.states.Bracket.TheVariants as b
 use Rattle.halide_parser_syntax.specs.declared.states.Frame.{Frame}
 use Rattle.halide_parser_syntax.specs.declared.states.State.{State}
 use Rattle.halide_parser_syntax.specs.inner.Algebra.{Algebra}
-use Rattle.halide_parser_syntax.specs.inner.Stacks.{is_empty}
+
+-- ---- Whether a list has no items.
+
+abbrev pub is_empty : {A : Type 0} → List A → Bool
+is_empty [] = true
+is_empty (item ∷ items) = false
+
+-- ---- inner.Machine
 
 -- a state after some tokens, and the tokens that are left
 abbrev pub Moved : Type 0 → Type 0

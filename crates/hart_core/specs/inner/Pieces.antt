@@ -2,10 +2,8 @@
 -- not believe.
 use Rattle.std.specs.Prelude.{◌≡◌, ◌<◌, ℕ, zero, suc, ◌+◌, ◌*◌, ◌%◌, ◌^◌, Bool, true, IsTrue, List, [], ◌∷◌, replicate}
 use Rattle.rv_insn.specs.declared.vector_operations.ElementWidth.{ElementWidth}
-use Rattle.memory.specs.Addresses.{in_data}
-use Rattle.memory.specs.Access.{Access, bytes_in}
-use Rattle.vector_unit.specs.VectorState.{Vectors}
-use Rattle.vector_unit.specs.Vector.{count, active_in}
+use Rattle.memory.specs.Access.{in_data, Access, bytes_in}
+use Rattle.vector_unit.specs.Vector.{Vectors, count, active_in}
 use Rattle.vector_unit.specs.declared.accesses.Spacing.{Spacing}
 use Rattle.vector_unit.specs.declared.accesses.Spacing.TheVariants.{UnitStride}
 use Rattle.vector_unit.specs.Accesses.{addresses_by}

@@ -8,7 +8,8 @@ use Rattle.lowering.specs.Lowered.{AreLowered}
 use Rattle.vector_codegen_laws.specs.Places.{places_of}
 use Rattle.vector_codegen.specs.PhaseCode.{ends_from}
 use Rattle.vector_codegen.specs.Programs.{IsProgram}
-use Rattle.hrv_compiler.specs.Compiled.{CompiledContents, IsCompiled}
+use Rattle.hrv_compiler.specs.Compiled.{CompiledContents}
+use Rattle.hrv_compiler.specs.Verdict.{IsCompiled}
 
 -- The words are of a program that does the phases of a pipeline under a schedule, where the layout has the buffers, and the code of each ends here.
 pub record AreWordsOf (pipeline : Pipeline) (schedule : Schedule) (boxes : Boxes) (words ends : List ℕ) : Type 0 where

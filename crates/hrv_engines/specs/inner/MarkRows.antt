@@ -1,7 +1,7 @@
 -- Rows of marks that stand in a list as the rows of an output stand in data, a mark a word.
 use Rattle.std.specs.Prelude.{ℕ, zero, suc, ◌+◌, ◌*◌, ◌/◌, List, [], ◌∷◌, ◌++◌, slice_index}
 use Rattle.loader.specs.declared.outputs.Output.{Output}
-use Rattle.picture.specs.Spelling as spelling
+use Rattle.picture.specs.Reading as spelling
 
 abbrev pub mark_in : List ℕ → Output → ℕ → ℕ → ℕ
 mark_in marks output x y = slice_index marks (y * (output.stride / 4) + x)

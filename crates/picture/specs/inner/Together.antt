@@ -3,7 +3,7 @@
 use Rattle.std.specs.Prelude.{◌≡◌, ℕ, zero, suc, false, true, ◌==◌, ◌&&◌, if◌then◌else◌}
 use Rattle.halide_pipeline.specs.declared.definitions.Update.{Update}
 use Rattle.halide_pipeline.specs.declared.environments.Environment.{Environment}
-use Rattle.halide_pipeline.specs.Definitions.{is_first_in_place, is_second_in_place}
+use Rattle.halide_pipeline.specs.WellFormed.{is_first_in_place, is_second_in_place}
 use Rattle.halide_pipeline.specs.Pixel.{Plane, Reads, after, index_value, stage, value}
 use Rattle.picture.specs.Slices.{is_forward}
 use Rattle.picture.specs.declared.lines.Along.{Along}

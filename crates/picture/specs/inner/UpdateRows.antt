@@ -3,7 +3,7 @@
 use Rattle.std.specs.Prelude.{◌≡◌, ℕ, ◌<◌}
 use Rattle.halide_pipeline.specs.declared.definitions.Update.{Update}
 use Rattle.halide_pipeline.specs.declared.environments.Environment.{Environment}
-use Rattle.halide_pipeline.specs.Definitions.{is_first_in_place, is_second_in_place}
+use Rattle.halide_pipeline.specs.WellFormed.{is_first_in_place, is_second_in_place}
 use Rattle.halide_pipeline.specs.Words as word
 use Rattle.halide_pipeline.specs.Pixel.{Plane, value, index_value, at_reduction}
 use Rattle.picture.specs.declared.scenes.Scene.{Scene}

@@ -9,7 +9,7 @@ use Rattle.schedule_lines.specs.Directives.{is_shift}
 use Rattle.schedule_loops.specs.declared.extents.Extents.{Extents}
 use Rattle.schedule_loops.specs.declared.sizes.LoopSize.{LoopSize}
 use Rattle.schedule_loops.specs.declared.sizes.SizedSplit.{SizedSplit}
-use Rattle.schedule_loops.specs.Counts.{extent_of, rounds, AreSplits}
+use Rattle.schedule_loops.specs.Visits.{extent_of, rounds, AreSplits}
 
 abbrev pub whole_size : Extents → Variable → LoopSize
 whole_size extents variable = record { count = extent_of extents variable; stride = 1; is_uneven = false }

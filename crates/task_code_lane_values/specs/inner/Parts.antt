@@ -9,7 +9,7 @@ use Rattle.rv_insn.specs.declared.vector_operations.CompareVvOp.TheVariants as c
 use Rattle.rv_insn.specs.declared.vector_operations.MultiplyOp.TheVariants as multiplies
 use Rattle.rv_insn.specs.declared.vector_operations.ArithmeticVxOp.{ArithmeticVxOp}
 use Rattle.rv_insn.specs.declared.vector_operations.CompareVxOp.{CompareVxOp}
-use Rattle.hart_core.specs.Alu.{one_if}
+use Rattle.hart_core.specs.Scalar.{one_if}
 use Rattle.vector_unit.specs.Operations.{arithmetic_vx, compare_vx}
 use Rattle.halide_pipeline.specs.declared.expressions.Operation.{Operation}
 use Rattle.halide_pipeline.specs.declared.expressions.Operation.TheVariants as operations

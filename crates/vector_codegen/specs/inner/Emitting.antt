@@ -1,6 +1,6 @@
 -- Words of phases that are appended, and why those of one aren't. This project's own.
 use Rattle.std.specs.Prelude.{◌≡◌, ◌<◌, ◌≤◌, ◌++◌, ℕ, Bool, List, length}
-use Rattle.memory.specs.Addresses.{most_words}
+use Rattle.memory.specs.Access.{most_words}
 use Rattle.loop_ir.specs.declared.statements.Phase.{Phase}
 use Rattle.vector_codegen_sharing.specs.Turns.{ticket_word}
 use Rattle.task_code_scalar.specs.declared.CodeFault.{CodeFault}

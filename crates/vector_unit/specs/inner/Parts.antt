@@ -2,17 +2,14 @@
 use Rattle.std.specs.Prelude.{◌≡◌, ℕ, zero, suc, ◌+◌, ◌*◌, ◌/◌, ◌%◌, ◌^◌, Bool, List, map, slice_index, replicate}
 use Rattle.std.specs.List.{range_with_len}
 use Rattle.lanes.specs.Words as word
-use Rattle.lanes.specs.Registers.{elements, register_of}
-use Rattle.lanes.specs.Masks.{active, mask_bits, with_mask_bits_from}
-use Rattle.lanes.specs.Elementwise.{zip_with, merged, reduced}
+use Rattle.lanes.specs.Words.{elements, register_of, zip_with, merged, reduced, active, mask_bits, with_mask_bits_from}
 use Rattle.rv_insn.specs.declared.vector_operations.CompareVxOp.{CompareVxOp}
 use Rattle.rv_insn.specs.declared.vector_operations.ReductionOp.{ReductionOp}
 use Rattle.vector_unit.specs.declared.elements.NewElements.{NewElements}
 use Rattle.vector_unit.specs.declared.elements.NewElements.TheVariants.{Arithmetic, Multiply, Merge, Copy, Numbers, Bytes}
 use Rattle.vector_unit.specs.declared.operands.Operand.{Operand}
 use Rattle.vector_unit.specs.declared.operands.Operand.TheVariants.{Register, Number, Immediate, Amount}
-use Rattle.vector_unit.specs.VectorState.{Vectors, register, with_register}
-use Rattle.vector_unit.specs.Vector.{width, count, of_group, bytes_of_register, merged_by_mask}
+use Rattle.vector_unit.specs.Vector.{Vectors, register, with_register, width, count, of_group, bytes_of_register, merged_by_mask}
 use Rattle.vector_unit.specs.Operands.{operand_elements}
 use Rattle.vector_unit.specs.Operations as op
 

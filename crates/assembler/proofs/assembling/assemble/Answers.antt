@@ -1,7 +1,6 @@
 use Rattle.std.proofs.Common.{◌≡◌, ◌≢◌, [], sym, ap, subst, ◌∙◌, arith}
 use Rattle.std.proofs.lemmas.Grind.{common_steps}
-use Rattle.line_text.specs.Lines.{lines_of}
-use Rattle.line_text.specs.Reading.{FailsAt}
+use Rattle.line_text.specs.Lines.{lines_of, FailsAt}
 use Rattle.line_text.specs.declared.read_errors.LocatedError.{LocatedError}
 use Rattle.assembler.specs.Object.{assembled}
 use Rattle.assembler.specs.declared.faults.AsmFault.{AsmFault}

@@ -1,5 +1,5 @@
 use Rattle.std.proofs.Common.{◌∙◌, arith}
-use Rattle.line_text.specs.Numbers.{decimal_number}
+use Rattle.line_text.specs.Lines.{decimal_number}
 use Rattle.assembler_syntax.proofs.Capping.{next_decimal, all_taken, no_digits}
 use Rattle.assembler_syntax.proofs.tokens.decimal.Goals as goal
 

@@ -1,5 +1,5 @@
 use Rattle.std.proofs.Common.{◌≡◌, ◌<◌, ◌^◌, ◌+◌, take}
-use Rattle.line_text.specs.Numbers.{decimal_number}
+use Rattle.line_text.specs.Lines.{decimal_number}
 use Rattle.assembler_syntax.specs.Tokens.{capped}
 use Rattle.assembler_syntax.proofs.tokens.decimal.Given as goal
 

@@ -1,5 +1,5 @@
 use Rattle.std.proofs.Common.{◌∙◌, arith}
-use Rattle.line_text.specs.Numbers.{hexadecimal_number}
+use Rattle.line_text.specs.Lines.{hexadecimal_number}
 use Rattle.assembler_syntax.proofs.Capping.{next_hexadecimal, all_taken, no_digits}
 use Rattle.assembler_syntax.proofs.tokens.hexadecimal.Goals as goal
 

@@ -1,5 +1,5 @@
 use Rattle.std.proofs.Common.{◌≡◌, ◌<◌, ◌^◌, ◌+◌, take}
-use Rattle.line_text.specs.Numbers.{hexadecimal_number}
+use Rattle.line_text.specs.Lines.{hexadecimal_number}
 use Rattle.assembler_syntax.specs.Tokens.{capped}
 use Rattle.assembler_syntax.proofs.tokens.hexadecimal.Given as goal
 

@@ -1,8 +1,7 @@
 use Rattle.std.proofs.Common.{◌≡◌, ℕ, ◌+◌, None, Some, sym, ap, ◌∙◌, arith}
 use Rattle.std.specs.Prelude.{min}
 use Rattle.halide_pipeline.specs.declared.expressions.Expr.{Expr}
-use Rattle.bounds_inlining.specs.Inlining.{arguments, answer, answered, through}
-use Rattle.bounds_inlining.specs.Weights.{counting}
+use Rattle.bounds_inlining.specs.Inlining.{arguments, answer, answered, through, counting}
 use Rattle.bounds_inlining.specs.inner.Summing.{most, Same, sum_at, counted}
 use Rattle.bounds_inlining.proofs.Capping.{both_same, four_same}
 use Rattle.bounds_inlining.proofs.Steps.{of_binary, of_divide, of_remainder, of_select, of_call1, of_call2}

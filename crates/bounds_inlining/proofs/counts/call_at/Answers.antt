@@ -1,8 +1,7 @@
 use Rattle.std.proofs.Common.{◌≡◌, ℕ, ◌+◌, Option, Some, sym, ap, subst, ◌∙◌}
 use Rattle.std.specs.Option.{option_copied}
 use Rattle.halide_pipeline.specs.declared.definitions.Func.{Func}
-use Rattle.bounds_inlining.specs.Inlining.{flagged, func_in, inside, made_in, made_of}
-use Rattle.bounds_inlining.specs.Weights.{counting}
+use Rattle.bounds_inlining.specs.Inlining.{flagged, func_in, inside, made_in, made_of, counting}
 use Rattle.bounds_inlining.specs.inner.Summing.{SameCall, count_call}
 use Rattle.bounds_inlining.proofs.Counting.{made_same}
 use Rattle.bounds_inlining.proofs.counts.call_at.Goals as goal

@@ -1,6 +1,5 @@
 use Rattle.std.proofs.Common.{ℕ, ap, ◌∙◌}
-use Rattle.bounds_inlining.specs.Inlining.{inlined, flagged}
-use Rattle.bounds_inlining.specs.Weights.{needing}
+use Rattle.bounds_inlining.specs.Inlining.{inlined, flagged, needing}
 use Rattle.bounds_weights.specs.inner.Tables.{capped, AllNeeds}
 use Rattle.bounds_weights.proofs.stage_needs.all_registers.Goals as goal
 

@@ -1,7 +1,6 @@
 use Rattle.std.proofs.Common.{◌≡◌, Bool, List, Option, sym, ap, subst, ◌∙◌}
 use Rattle.bounds_inlining.specs.declared.needs.Need.{Need}
-use Rattle.bounds_weights.specs.Need.{funcs_needs}
-use Rattle.bounds_weights.specs.Weight.{flags_of}
+use Rattle.bounds_weights.specs.Weight.{funcs_needs, flags_of}
 use Rattle.bounds_weights.specs.inner.Tables.{capped_needs, AllNeeds}
 use Rattle.bounds_weights.proofs.stage_needs.total_needs.Goals as goal
 

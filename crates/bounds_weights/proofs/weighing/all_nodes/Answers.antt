@@ -1,6 +1,5 @@
 use Rattle.std.proofs.Common.{ℕ, ap, ◌∙◌}
-use Rattle.bounds_inlining.specs.Inlining.{inlined, flagged}
-use Rattle.bounds_inlining.specs.Weights.{counting}
+use Rattle.bounds_inlining.specs.Inlining.{inlined, flagged, counting}
 use Rattle.bounds_weights.specs.inner.Tables.{capped, AllCounts}
 use Rattle.bounds_weights.proofs.weighing.all_nodes.Goals as goal
 

@@ -1,8 +1,7 @@
 use Rattle.std.proofs.Common.{List, ◌+◌, ap, ◌∙◌}
 use Rattle.halide_pipeline.specs.declared.definitions.Update.{Update}
 use Rattle.schedule_lines.specs.declared.stages.Stage.{Stage}
-use Rattle.bounds_weights.specs.Copies.{host_copies}
-use Rattle.bounds_weights.specs.Weight.{nodes_in, stage_weight, updates_weight}
+use Rattle.bounds_weights.specs.Weight.{consumer_copies, nodes_in, stage_weight, updates_weight}
 use Rattle.bounds_weights.specs.inner.Tables.{capped}
 use Rattle.bounds_weights.proofs.Capping.{plus_capped, times_capped}
 use Rattle.bounds_weights.proofs.weighing.func_weight.Goals as goal
@@ -15,5 +14,5 @@ returns c = λ flags funcs known.
     ∙ ap (λ (stages : List Stage). capped (updates_weight flags funcs c.args.func.now.updates stages)) c.as_slice-2.ensures in
     let own = stage_weight (nodes_in flags funcs c.args.func.now.pure) c.args.plan.now.pure in
     let others = updates_weight flags funcs c.args.func.now.updates c.args.plan.now.updates in
-    times_capped c.saturating_add.result c.host_copies.result (own + others) (host_copies c.args.plans.now c.args.own.now.place) c.saturating_mul.result
-    (plus_capped c.stage_weight-pure.result c.updates_weight-updates.result own others c.saturating_add.result p u c.saturating_add.ensures) c.host_copies.ensures c.saturating_mul.ensures
+    times_capped c.saturating_add.result c.consumer_copies.result (own + others) (consumer_copies c.args.plans.now c.args.own.now.place) c.saturating_mul.result
+    (plus_capped c.stage_weight-pure.result c.updates_weight-updates.result own others c.saturating_add.result p u c.saturating_add.ensures) c.consumer_copies.ensures c.saturating_mul.ensures

@@ -3,7 +3,7 @@ use Rattle.std.proofs.lemmas.Bool.{eqb-true}
 use Rattle.std.specs.List.{list_any}
 use Rattle.std.specs.Option.{option_copied}
 use Rattle.std.specs.Prelude.{is_some, option_and_then}
-use Rattle.memory.specs.Addresses.{fetched}
+use Rattle.memory.specs.Access.{fetched}
 use Rattle.multi_hart.specs.Run.{State, hart_at}
 use Rattle.multi_hart.proofs.TurnByTurn.{shape-turn}
 use Rattle.debugger_stores.specs.Stored.{store_in}

@@ -2,7 +2,7 @@ use Rattle.std.proofs.Common.{◌≡◌, ◌∙◌, ap, sym}
 use Rattle.std.specs.Prelude.{◌≢◌}
 use Rattle.rv_insn.specs.declared.outcomes.Outcome.TheVariants.{Stepped}
 use Rattle.hart_core.specs.Scalar.{illegal_fault}
-use Rattle.memory.specs.Addresses.{fetched}
+use Rattle.memory.specs.Access.{fetched}
 use Rattle.multi_hart.specs.Run.{hart_at, outcome}
 use Rattle.vector_codegen_sharing.specs.Turns.{is_word_in}
 use Rattle.debugger_stores.specs.Stored.{places_in, places_stored}

@@ -2,10 +2,9 @@ use Rattle.std.proofs.Common.{◌≡◌, ◌∙◌, ◌∷◌, [], ap, sym}
 use Rattle.std.specs.Prelude.{◌≢◌}
 use Rattle.rv_insn.specs.declared.outcomes.Outcome.TheVariants.{Stepped}
 use Rattle.hart_core.specs.Scalar.{illegal_fault}
-use Rattle.memory.specs.Addresses.{fetched}
+use Rattle.memory.specs.Access.{fetched, touched}
 use Rattle.multi_hart.specs.Run.{hart_at, outcome}
 use Rattle.vector_codegen_sharing.specs.Turns.{is_word_in}
-use Rattle.memory.specs.Access.{touched}
 use Rattle.hart_core.specs.VectorRows.{accesses_at}
 use Rattle.debugger_stores.specs.Stored.{places_stored}
 use Rattle.debugger_stores.proofs.Outcomes.{store_is}

@@ -1,7 +1,7 @@
 use Rattle.std.proofs.Common.{◌≡◌, ◌∙◌, Some, ap, sym}
 use Rattle.std.specs.Option.{option_copied}
 use Rattle.std.specs.Prelude.{option_and_then}
-use Rattle.memory.specs.Addresses.{fetched}
+use Rattle.memory.specs.Access.{fetched}
 use Rattle.hart_core.specs.Scalar.{illegal_fault}
 use Rattle.multi_hart.specs.Run.{hart_at}
 use Rattle.vector_codegen_sharing.specs.Turns.{is_word_in}

@@ -1,7 +1,7 @@
 use Rattle.std.proofs.Common.{◌≡◌, ◌∙◌, ◌+◌, ◌-◌, ◌*◌, ◌/◌, ℕ, sym, subst, length, arith}
 use Rattle.std.proofs.lemmas.Bool.{ltb-true}
 use Rattle.std.proofs.lemmas.Grind.{get_or_default_zero}
-use Rattle.memory.specs.Addresses.{text_start}
+use Rattle.memory.specs.Access.{text_start}
 use Rattle.debugger_blame.specs.inner.Quiet.{AreQuiet}
 use Rattle.debugger_blame.proofs.quiets.quiet_at.Goals as goal
 

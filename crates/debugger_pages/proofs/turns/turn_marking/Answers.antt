@@ -1,7 +1,7 @@
 use Rattle.std.proofs.Common.{◌≡◌, ◌∙◌, None, ap, sym}
 use Rattle.std.specs.Option.{option_copied}
 use Rattle.std.specs.Prelude.{option_and_then}
-use Rattle.memory.specs.Addresses.{fetched}
+use Rattle.memory.specs.Access.{fetched}
 use Rattle.multi_hart.specs.Run.{State, hart_at}
 use Rattle.debugger_stores.specs.Stored.{store_in}
 use Rattle.debugger_pages.proofs.Marking.{marks_quiet, quiet_memory}

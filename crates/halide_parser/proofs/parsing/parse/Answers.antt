@@ -1,6 +1,6 @@
 use Rattle.std.proofs.Common.{◌≡◌, ℕ, Result, Ok, arith}
 use Rattle.std.proofs.lemmas.Result.{err_from_is_err_and}
-use Rattle.line_text.specs.Reading.{FailsAt}
+use Rattle.line_text.specs.Lines.{FailsAt}
 use Rattle.halide_parser.specs.Parsing.{parsed}
 use Rattle.halide_pipeline.specs.Pipelines.{Pipeline}
 use Rattle.halide_parser_syntax.specs.declared.faults.ParseFault.{ParseFault}

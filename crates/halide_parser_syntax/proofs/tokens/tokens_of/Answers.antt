@@ -1,6 +1,6 @@
 use Rattle.std.proofs.Common.{◌≡◌, true, false, arith, sym, ◌∙◌}
 use Rattle.std.proofs.lemmas.Result.{err_from_is_err_and}
-use Rattle.line_text.specs.Classes.{ends, skip_blanks}
+use Rattle.line_text.specs.Lines.{ends, skip_blanks}
 use Rattle.halide_parser_syntax.proofs.TokenLoop.{starts, goes_on, stops, fails}
 use Rattle.halide_parser_syntax.proofs.tokens.tokens_of.Goals as goal
 

@@ -1,7 +1,6 @@
 use Rattle.std.proofs.Common.{◌≡◌, length}
 use Rattle.std.specs.Prelude.{None}
-use Rattle.memory.specs.Addresses.{put}
-use Rattle.memory.specs.Access.{Writes, first_fault, spread, touched}
+use Rattle.memory.specs.Access.{put, Writes, first_fault, spread, touched}
 use Rattle.hart_core.specs.VectorRows.{accesses_at}
 use Rattle.hart_core.proofs.element_accesses.write_numbers.Given as goal
 

@@ -1,5 +1,5 @@
 use Rattle.std.proofs.Common.{◌≤◌, ◌*◌, ◌++◌, List, ℕ, length, sym, ap, subst, ◌∙◌}
-use Rattle.hrv_compiler.specs.Data.{inputs_data}
+use Rattle.hrv_compiler.specs.Images.{inputs_data}
 use Rattle.loader.specs.Spelling.{padded}
 use Rattle.hrv_compiler.proofs.Images.{padded_nothing, room}
 use Rattle.hrv_compiler.proofs.data.image_data.Goals as goal

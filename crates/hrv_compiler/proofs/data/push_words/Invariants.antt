@@ -1,5 +1,5 @@
 use Rattle.std.proofs.Common.{◌≡◌, ◌++◌, take}
-use Rattle.hrv_compiler.specs.Data.{word_bytes}
+use Rattle.hrv_compiler.specs.Images.{word_bytes}
 use Rattle.hrv_compiler.proofs.data.push_words.Given as goal
 
 abbrev pub invariant-loop-pixel : goal.invariant-loop-pixel

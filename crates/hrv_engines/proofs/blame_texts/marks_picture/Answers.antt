@@ -1,5 +1,5 @@
 use Rattle.std.proofs.Common.{◌++◌, ◌∙◌, append-nil, append_assoc, ap, sym}
-use Rattle.picture.specs.Spelling.{heading, row_text}
+use Rattle.picture.specs.Reading.{heading, row_text}
 use Rattle.hrv_engines.specs.inner.MarkRows.{row_in, rows_in}
 use Rattle.hrv_engines.proofs.MarkRows.{rows_in-more, rows_in-none}
 use Rattle.hrv_engines.proofs.blame_texts.marks_picture.Goals as goal

@@ -1,6 +1,6 @@
 use Rattle.std.proofs.Common.{◌≡◌, ◌++◌}
 use Rattle.std.specs.String.{string_bytes}
-use Rattle.picture.specs.Spelling.{heading}
+use Rattle.picture.specs.Reading.{heading}
 use Rattle.hrv_engines.specs.inner.MarkRows.{rows_in}
 use Rattle.hrv_engines.proofs.blame_texts.marks_picture.Given as goal
 

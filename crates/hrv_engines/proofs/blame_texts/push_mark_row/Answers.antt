@@ -1,7 +1,7 @@
 use Rattle.std.proofs.Common.{◌++◌, ◌∙◌, append-nil, ap, sym}
 use Rattle.std.specs.Prelude.{codes, if◌then◌else◌, ◌==◌, []}
 use Rattle.std.specs.String.{string_bytes}
-use Rattle.picture.specs.Spelling.{number_text}
+use Rattle.picture.specs.Reading.{number_text}
 use Rattle.hrv_engines.proofs.MarkRows.{numbers_in, numbers_in-more, numbers_in-none}
 use Rattle.hrv_engines.proofs.Printing.{joined}
 use Rattle.hrv_engines.proofs.blame_texts.push_mark_row.Goals as goal

@@ -1,6 +1,5 @@
 use Rattle.std.proofs.Common.{◌∙◌}
-use Rattle.line_text.specs.Classes.{is_digit}
-use Rattle.line_text.specs.Numbers.{decimal_number}
+use Rattle.line_text.specs.Lines.{is_digit, decimal_number}
 use Rattle.hrv_engines.proofs.Numbers.{decimal_last, no_number}
 use Rattle.hrv_engines.proofs.commands.decimal_of.Goals as goal
 

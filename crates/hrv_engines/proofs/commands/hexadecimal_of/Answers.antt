@@ -1,6 +1,5 @@
 use Rattle.std.proofs.Common.{◌∙◌}
-use Rattle.line_text.specs.Classes.{is_hexadecimal}
-use Rattle.line_text.specs.Numbers.{hexadecimal_number}
+use Rattle.line_text.specs.Lines.{is_hexadecimal, hexadecimal_number}
 use Rattle.hrv_engines.proofs.Numbers.{hexadecimal_last, no_number}
 use Rattle.hrv_engines.proofs.commands.hexadecimal_of.Goals as goal
 

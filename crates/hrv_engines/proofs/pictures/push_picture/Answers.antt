@@ -1,7 +1,7 @@
 use Rattle.std.proofs.Common.{◌++◌, sym, ap, ◌∙◌}
 use Rattle.std.specs.String.{string_bytes}
 use Rattle.std.proofs.lemmas.List.{append-nil, append_assoc}
-use Rattle.picture.specs.Spelling.{heading, row_text}
+use Rattle.picture.specs.Reading.{heading, row_text}
 use Rattle.hrv_engines.specs.Dump.{rows, row}
 use Rattle.hrv_engines.proofs.Printing.{rows-more, joined}
 use Rattle.hrv_engines.proofs.pictures.push_picture.Goals as goal

@@ -1,6 +1,6 @@
 use Rattle.std.proofs.Common.{◌≡◌, ◌++◌}
 use Rattle.std.specs.String.{string_bytes}
-use Rattle.picture.specs.Spelling.{heading}
+use Rattle.picture.specs.Reading.{heading}
 use Rattle.hrv_engines.specs.Dump.{rows}
 use Rattle.hrv_engines.proofs.pictures.push_picture.Given as goal
 

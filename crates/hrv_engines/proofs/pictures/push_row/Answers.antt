@@ -2,7 +2,7 @@ use Rattle.std.proofs.Common.{◌++◌, sym, ap, ◌∙◌}
 use Rattle.std.specs.Prelude.{codes, if◌then◌else◌, ◌==◌, []}
 use Rattle.std.specs.String.{string_bytes}
 use Rattle.std.proofs.lemmas.List.{append-nil}
-use Rattle.picture.specs.Spelling.{number_text}
+use Rattle.picture.specs.Reading.{number_text}
 use Rattle.hrv_engines.specs.Dump.{row}
 use Rattle.hrv_engines.proofs.Printing.{numbers, numbers-more, joined}
 use Rattle.hrv_engines.proofs.pictures.push_row.Goals as goal

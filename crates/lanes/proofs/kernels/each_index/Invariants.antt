@@ -1,5 +1,5 @@
 use Rattle.std.proofs.Common.{◌≡◌, ◌<◌, take, length}
-use Rattle.lanes.specs.Elementwise.{EachFrom}
+use Rattle.lanes.specs.Words.{EachFrom}
 use Rattle.lanes.proofs.kernels.each_index.Given as goal
 
 -- the results so far are those of the indices so far

@@ -1,5 +1,5 @@
 use Rattle.std.proofs.Common.{◌≡◌, take, length}
-use Rattle.lanes.specs.Elementwise.{EachPair}
+use Rattle.lanes.specs.Words.{EachPair}
 use Rattle.lanes.proofs.kernels.each_pair.Given as goal
 
 -- the results so far are those of the pairs so far

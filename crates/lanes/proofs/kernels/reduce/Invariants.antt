@@ -1,5 +1,5 @@
 use Rattle.std.proofs.Common.{take}
-use Rattle.lanes.specs.Elementwise.{LeadsTo, chosen_of}
+use Rattle.lanes.specs.Words.{LeadsTo, chosen_of}
 use Rattle.lanes.proofs.kernels.reduce.Given as goal
 
 -- the active elements so far lead to the total

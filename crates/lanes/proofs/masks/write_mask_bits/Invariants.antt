@@ -1,5 +1,5 @@
 use Rattle.std.proofs.Common.{◌≡◌, ◌+◌, drop}
-use Rattle.lanes.specs.Masks.{with_mask_bits_from}
+use Rattle.lanes.specs.Words.{with_mask_bits_from}
 use Rattle.lanes.proofs.masks.write_mask_bits.Given as goal
 
 -- the bits that are left, written into the register so far, are all bits written into the first one

@@ -1,5 +1,5 @@
 use Rattle.std.proofs.Common.{◌≡◌, ◌*◌, ◌/◌, map, take, length}
-use Rattle.lanes.specs.Registers.{register_of}
+use Rattle.lanes.specs.Words.{register_of}
 use Rattle.lanes.proofs.registers.bytes_of.Given as goal
 
 -- the bytes of the elements so far are written

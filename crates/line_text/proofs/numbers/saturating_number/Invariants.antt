@@ -1,5 +1,5 @@
 use Rattle.std.proofs.Common.{◌≡◌, ◌+◌, min, take}
-use Rattle.line_text.specs.Numbers.{decimal_number}
+use Rattle.line_text.specs.Lines.{decimal_number}
 use Rattle.line_text.proofs.numbers.saturating_number.Given as goal
 
 abbrev pub invariant-loop-digit : goal.invariant-loop-digit

@@ -1,14 +1,14 @@
 use Rattle.std.proofs.Common.{None, List, length, ap, subst, sym, arith, [], append-nil}
 use Rattle.schedule_lines.specs.declared.stages.Loop.{Loop}
 use Rattle.schedule_lines.specs.declared.stages.Split.{Split}
-use Rattle.schedule_loops.specs.Counts.{AreSplits}
-use Rattle.bounds.specs.Views.{extents_of}
+use Rattle.schedule_loops.specs.Visits.{AreSplits}
+use Rattle.bounds.specs.Extents.{extents_of}
 use Rattle.schedule.specs.declared.standings.Place.TheVariants as places
 use Rattle.schedule_loops.specs.declared.extents.Extents.{Extents}
 use Rattle.schedule_loops.specs.Reach.{wholes}
 use Rattle.lowering_nests.specs.Nests.{AreFew, Repeats}
 use Rattle.lowering.proofs.Alone.{pure_alone, nest_alone}
-use Rattle.lowering.proofs.Facts.{is_box, splits, few, few_loops, hosted_before, staged}
+use Rattle.lowering.proofs.Facts.{is_box, splits, few, few_loops, produced_before, staged}
 use Rattle.lowering.proofs.Filling.{fills, touches}
 use Rattle.bounds_laws.specs.Laws.{IsComputed}
 use Rattle.schedule.specs.declared.standings.Place.{Place}
@@ -25,21 +25,21 @@ use Rattle.lowering.proofs.nests.pure_nest.Goals as goal
 pub extents_of-extents-requires : goal.extents_of-extents-requires
 extents_of-extents-requires c =
     is_box c.args.plan.now.pipeline.now c.args.plan.now.schedule.now c.args.plan.now.boxes.now c.args.computed.now.place c.args.computed.now.func.now c.args.computed.now.plan.now c.args.computed.now.own.now c.requires.plan.accepted c.requires.plan.boxes (places.At c.args.at)
-    (hosted_before c.args.plan.now.pipeline.now c.args.plan.now.schedule.now c.requires.plan.accepted c.args.computed.now.place c.requires.parts.standing c.requires.parts.there c.args.at c.requires.parts.placed_is) c.requires.parts
+    (produced_before c.args.plan.now.pipeline.now c.args.plan.now.schedule.now c.requires.plan.accepted c.args.computed.now.place c.requires.parts.standing c.requires.parts.there c.args.at c.requires.parts.placed_is) c.requires.parts
 
 -- src/nests.rt:78:16
 pub with_nest-requires-clause-splits : goal.with_nest-requires-clause-splits
 with_nest-requires-clause-splits c =
     subst AreSplits (sym c.as_slice.ensures)
     (splits c.args.plan.now.pipeline.now c.args.plan.now.schedule.now c.args.plan.now.boxes.now c.args.computed.now.place c.args.computed.now.func.now c.args.computed.now.plan.now c.args.computed.now.own.now c.requires.plan.accepted c.requires.plan.boxes (places.At c.args.at)
-    (hosted_before c.args.plan.now.pipeline.now c.args.plan.now.schedule.now c.requires.plan.accepted c.args.computed.now.place c.requires.parts.standing c.requires.parts.there c.args.at c.requires.parts.placed_is) c.requires.parts)
+    (produced_before c.args.plan.now.pipeline.now c.args.plan.now.schedule.now c.requires.plan.accepted c.args.computed.now.place c.requires.parts.standing c.requires.parts.there c.args.at c.requires.parts.placed_is) c.requires.parts)
 
 -- src/nests.rt:78:16
 pub with_nest-requires-clause-few : goal.with_nest-requires-clause-few
 with_nest-requires-clause-few c =
     subst AreFew (sym c.extents_of-extents.ensures)
     (few c.args.plan.now.pipeline.now c.args.plan.now.schedule.now c.args.plan.now.boxes.now c.args.computed.now.place c.args.computed.now.func.now c.args.computed.now.plan.now c.args.computed.now.own.now c.requires.plan.accepted c.requires.plan.boxes (places.At c.args.at)
-    (hosted_before c.args.plan.now.pipeline.now c.args.plan.now.schedule.now c.requires.plan.accepted c.args.computed.now.place c.requires.parts.standing c.requires.parts.there c.args.at c.requires.parts.placed_is) c.requires.parts)
+    (produced_before c.args.plan.now.pipeline.now c.args.plan.now.schedule.now c.requires.plan.accepted c.args.computed.now.place c.requires.parts.standing c.requires.parts.there c.args.at c.requires.parts.placed_is) c.requires.parts)
 
 pub returns-clause-does : goal.returns-clause-does
 returns-clause-does c =
@@ -64,9 +64,9 @@ returns-clause-sound c =
 
 pub returns-clause-few : goal.returns-clause-few
 returns-clause-few c =
-    let hosted = hosted_before c.args.plan.now.pipeline.now c.args.plan.now.schedule.now c.requires.plan.accepted c.args.computed.now.place c.requires.parts.standing c.requires.parts.there c.args.at c.requires.parts.placed_is in
-    let l = few_loops c.args.plan.now.pipeline.now c.args.plan.now.schedule.now c.args.plan.now.boxes.now c.args.computed.now.place c.args.computed.now.func.now c.args.computed.now.plan.now c.args.computed.now.own.now c.requires.plan.accepted c.requires.plan.boxes (places.At c.args.at) hosted c.requires.parts in
-    let s = (splits c.args.plan.now.pipeline.now c.args.plan.now.schedule.now c.args.plan.now.boxes.now c.args.computed.now.place c.args.computed.now.func.now c.args.computed.now.plan.now c.args.computed.now.own.now c.requires.plan.accepted c.requires.plan.boxes (places.At c.args.at) hosted c.requires.parts).few in
+    let produced = produced_before c.args.plan.now.pipeline.now c.args.plan.now.schedule.now c.requires.plan.accepted c.args.computed.now.place c.requires.parts.standing c.requires.parts.there c.args.at c.requires.parts.placed_is in
+    let l = few_loops c.args.plan.now.pipeline.now c.args.plan.now.schedule.now c.args.plan.now.boxes.now c.args.computed.now.place c.args.computed.now.func.now c.args.computed.now.plan.now c.args.computed.now.own.now c.requires.plan.accepted c.requires.plan.boxes (places.At c.args.at) produced c.requires.parts in
+    let s = (splits c.args.plan.now.pipeline.now c.args.plan.now.schedule.now c.args.plan.now.boxes.now c.args.computed.now.place c.args.computed.now.func.now c.args.computed.now.plan.now c.args.computed.now.own.now c.requires.plan.accepted c.requires.plan.boxes (places.At c.args.at) produced c.requires.parts).few in
     let el = ap (λ (x : List Loop). length x) c.as_slice-2.ensures in
     let es = ap (λ (x : List Split). length x) c.as_slice.ensures in
     let d = c.in_ok-made.ensures.depth in
@@ -75,16 +75,16 @@ returns-clause-few c =
 
 pub returns-clause-needs : goal.returns-clause-needs
 returns-clause-needs c =
-    let hosted = hosted_before c.args.plan.now.pipeline.now c.args.plan.now.schedule.now c.requires.plan.accepted c.args.computed.now.place c.requires.parts.standing c.requires.parts.there c.args.at c.requires.parts.placed_is in
-    let computed = subst (λ (p : Place). IsComputed c.args.computed.now.place p) (sym c.requires.parts.placed_is) hosted in
+    let produced = produced_before c.args.plan.now.pipeline.now c.args.plan.now.schedule.now c.requires.plan.accepted c.args.computed.now.place c.requires.parts.standing c.requires.parts.there c.args.at c.requires.parts.placed_is in
+    let computed = subst (λ (p : Place). IsComputed c.args.computed.now.place p) (sym c.requires.parts.placed_is) produced in
     let same = c.in_ok-made.ensures.needs in
     let few = c.in_ok-store.ensures.needs in
     pure-most c.args.plan.now.pipeline.now c.args.plan.now.schedule.now c.store_of.ensures.rules c.args.computed.now.place c.args.computed.now.func.now c.args.computed.now.plan.now c.requires.parts.standing c.requires.parts.func_is c.requires.parts.plan_is c.requires.parts.there computed _ (omega (arith, same, few))
 
 pub returns-clause-at_once : goal.returns-clause-at_once
 returns-clause-at_once c = λ reads values small.
-    let hosted = hosted_before c.args.plan.now.pipeline.now c.args.plan.now.schedule.now c.requires.plan.accepted c.args.computed.now.place c.requires.parts.standing c.requires.parts.there c.args.at c.requires.parts.placed_is in
-    let facts = staged c.args.plan.now.pipeline.now c.args.plan.now.schedule.now c.args.plan.now.boxes.now c.args.computed.now.place c.args.computed.now.func.now c.args.computed.now.plan.now c.args.computed.now.own.now c.requires.plan.accepted c.requires.plan.boxes (places.At c.args.at) hosted c.requires.parts in
+    let produced = produced_before c.args.plan.now.pipeline.now c.args.plan.now.schedule.now c.requires.plan.accepted c.args.computed.now.place c.requires.parts.standing c.requires.parts.there c.args.at c.requires.parts.placed_is in
+    let facts = staged c.args.plan.now.pipeline.now c.args.plan.now.schedule.now c.args.plan.now.boxes.now c.args.computed.now.place c.args.computed.now.func.now c.args.computed.now.plan.now c.args.computed.now.own.now c.requires.plan.accepted c.requires.plan.boxes (places.At c.args.at) produced c.requires.parts in
     let store = c.in_ok-store.ensures.stores in
     c.in_ok-made.ensures.rounds [] c.in_ok-store.ensures.leaf
     (subst (λ (ls : List Loop). MayBeUnder c.args.computed.now.place c.extents_of-extents.result c.as_slice.result.now ls [] c.in_ok-store.store)
@@ -97,8 +97,8 @@ returns-clause-at_once c = λ reads values small.
 
 pub returns-clause-sizes : goal.returns-clause-sizes
 returns-clause-sizes c =
-    let hosted = hosted_before c.args.plan.now.pipeline.now c.args.plan.now.schedule.now c.requires.plan.accepted c.args.computed.now.place c.requires.parts.standing c.requires.parts.there c.args.at c.requires.parts.placed_is in
-    let facts = staged c.args.plan.now.pipeline.now c.args.plan.now.schedule.now c.args.plan.now.boxes.now c.args.computed.now.place c.args.computed.now.func.now c.args.computed.now.plan.now c.args.computed.now.own.now c.requires.plan.accepted c.requires.plan.boxes (places.At c.args.at) hosted c.requires.parts in
+    let produced = produced_before c.args.plan.now.pipeline.now c.args.plan.now.schedule.now c.requires.plan.accepted c.args.computed.now.place c.requires.parts.standing c.requires.parts.there c.args.at c.requires.parts.placed_is in
+    let facts = staged c.args.plan.now.pipeline.now c.args.plan.now.schedule.now c.args.plan.now.boxes.now c.args.computed.now.place c.args.computed.now.func.now c.args.computed.now.plan.now c.args.computed.now.own.now c.requires.plan.accepted c.requires.plan.boxes (places.At c.args.at) produced c.requires.parts in
     let more = more-loops c.args.computed.now.func.now None c.args.computed.now.plan.now.pure facts.0 in
     let given = c.in_ok-store.ensures.sizes in
     let counts = pure-counted c.args.plan.now.pipeline.now c.store_of.ensures.rules (flags_of c.args.plan.now.schedule.now.standings) c.args.computed.now.place c.args.computed.now.func.now c.requires.parts.func_is in

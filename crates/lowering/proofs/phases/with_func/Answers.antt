@@ -1,7 +1,7 @@
 use Rattle.std.proofs.Common.{ℕ, suc, List, length, Option, refl, sym, ap, ◌∙◌}
 use Rattle.std.specs.Prelude.{slice_get}
 use Rattle.bounds.specs.declared.boxes.SourceBox.{SourceBox}
-use Rattle.bounds.specs.Boxes.{box_in}
+use Rattle.bounds.specs.Extents.{box_in}
 use Rattle.lowering.specs.Lowered.{Passed, Computed}
 use Rattle.lowering.proofs.Lowered.{not_standing, not_root, no_func, no_plan, no_box, stages_so}
 use Rattle.lowering.proofs.Parts.{at_root}

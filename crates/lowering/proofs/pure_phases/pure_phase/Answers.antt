@@ -2,13 +2,13 @@ use Rattle.std.proofs.Common.{◌≤◌, ◌+◌, None, Option, length, sym, ap,
 use Rattle.schedule.specs.declared.standings.Place.{Place}
 use Rattle.schedule.specs.declared.standings.Place.TheVariants as places
 use Rattle.schedule_loops.specs.declared.extents.Extents.{Extents}
-use Rattle.schedule_loops.specs.Iterations as iterations
+use Rattle.schedule_loops.specs.Visits as iterations
 use Rattle.bounds_laws.specs.Laws.{IsComputed}
 use Rattle.loop_ir.specs.declared.expressions.Counter.{Counter}
 use Rattle.loop_ir.specs.Depths.{depth, count_of}
 use Rattle.lowering_nests.specs.Nests.{AreFew}
-use Rattle.lowering.specs.HostedFuncs.{hosted_from}
-use Rattle.lowering.specs.Hosting.{IsBody}
+use Rattle.lowering.specs.ProducedFuncs.{produced_from}
+use Rattle.lowering.specs.Consuming.{IsBody}
 use Rattle.lowering.specs.PurePhases.{byte_places, inside_of}
 use Rattle.lowering.proofs.Depths.{body_few, body_need}
 use Rattle.lowering.proofs.Facts.{is_box, splits, few, few_loops}
@@ -18,17 +18,15 @@ use Rattle.lowering.proofs.StoredTasks.{stores_its_own, stores_in_its_runs}
 use Rattle.lowering.proofs.Tasks.{does_phase}
 use Rattle.lowering.proofs.Registers.{pure-most}
 use Rattle.lowering_nests.proofs.Few.{few_turns}
-use Rattle.lowering.proofs.HostRounds.{body_at_once}
+use Rattle.lowering.proofs.ConsumerRounds.{body_at_once}
 use Rattle.lowering.proofs.PureRounds.{pure_under}
 use Rattle.lowering.proofs.TaskRounds.{outside_of, loops_by, tasks_at_once}
 use Rattle.lowering.proofs.Facts.{staged}
 use Rattle.schedule_loops.proofs.FirstLoops.{plain, sound_made}
-use Rattle.bounds_weights.specs.Weight.{flags_of, nodes_in}
+use Rattle.bounds_weights.specs.Weight.{flags_of, nodes_in, all_copies}
 use Rattle.lowering.proofs.Shares.{body-size}
-use Rattle.schedule_loops.specs.Counts as loops
-use Rattle.bounds_weights.specs.Copies.{all_copies}
 use Rattle.loop_ir.specs.Sizes.{whole_size}
-use Rattle.lowering.specs.Sizes.{hosted_shares}
+use Rattle.lowering.specs.Sizes.{produced_shares}
 use Rattle.lowering.proofs.Copies.{stage-paid, copies-some, is-light}
 use Rattle.lowering.proofs.Sizes.{more-loops, pure-counted}
 use Rattle.lowering.proofs.pure_phases.pure_phase.Goals as goal
@@ -66,14 +64,14 @@ returns-clause-tasks c =
 
 -- src/pure_phases.rt:139:1
 pub returns-clause-does : goal.returns-clause-does
-returns-clause-does c = λ is_private shared hosted_private inputs begun.
+returns-clause-does c = λ is_private shared produced_private inputs begun.
     does_phase c.args.plan.now.pipeline.now c.args.plan.now.schedule.now c.args.plan.now.boxes.now c.inputs.ensures.rules c.requires.plan.accepted c.requires.plan.boxes c.args.computed.now.place c.args.computed.now.func.now c.args.computed.now.plan.now c.args.computed.now.own.now c.requires.at
     c.in_ok-store.store c.in_ok-store.ensures.stores
     (record { tasks = c.in_ok-tasks.tasks; counter = c.task_counter-counter.result; body = c.in_ok-body.body; private = c.in_ok-private.private; bytes = c.in_ok-bytes.bytes })
     (c.in_ok-tasks.ensures.is ∙ ap (λ (e : Extents). iterations.iteration_count e c.args.computed.now.plan.now.pure) c.extents_of-extents.ensures)
     c.task_counter-counter.ensures
     (subst (λ (e : Extents). IsBody c.args.plan.now.pipeline.now c.args.plan.now.schedule.now c.args.plan.now.boxes.now c.args.computed.now.place c.args.computed.now.plan.now.pure e c.in_ok-store.store c.in_ok-body.body) c.extents_of-extents.ensures c.in_ok-body.ensures)
-    is_private shared hosted_private inputs begun
+    is_private shared produced_private inputs begun
 
 -- src/pure_phases.rt:139:1
 pub returns-clause-stage : goal.returns-clause-stage
@@ -90,7 +88,7 @@ returns-clause-touches c =
     c.in_ok-store.store c.in_ok-store.ensures.stores
     (record { tasks = c.in_ok-tasks.tasks; counter = c.task_counter-counter.result; body = c.in_ok-body.body; private = c.in_ok-private.private; bytes = c.in_ok-bytes.bytes })
     (c.in_ok-tasks.ensures.is ∙ ap (λ (e : Extents). iterations.iteration_count e c.args.computed.now.plan.now.pure) c.extents_of-extents.ensures)
-    c.task_counter-counter.ensures (c.in_ok-private.ensures ∙ ap (hosted_from c.args.computed.now.place 0) c.as_slice.ensures)
+    c.task_counter-counter.ensures (c.in_ok-private.ensures ∙ ap (produced_from c.args.computed.now.place 0) c.as_slice.ensures)
     (subst (λ (e : Extents). IsBody c.args.plan.now.pipeline.now c.args.plan.now.schedule.now c.args.plan.now.boxes.now c.args.computed.now.place c.args.computed.now.plan.now.pure e c.in_ok-store.store c.in_ok-body.body) c.extents_of-extents.ensures c.in_ok-body.ensures)
 
 pub returns-clause-stores : goal.returns-clause-stores
@@ -154,12 +152,12 @@ returns-clause-light c =
     let given = c.in_ok-store.ensures.sizes in
     let counts = pure-counted c.args.plan.now.pipeline.now c.inputs.ensures.rules (flags_of c.args.plan.now.schedule.now.standings) c.args.computed.now.place c.args.computed.now.func.now c.requires.at.func_is in
     let light = is-light (whole_size c.in_ok-body.body) (all_copies c.args.computed.now.plan.now.pure.loops) (length c.args.computed.now.plan.now.pure.splits) (whole_size c.in_ok-store.store)
-    (nodes_in (flags_of c.args.plan.now.schedule.now.standings) c.args.plan.now.pipeline.now.funcs c.args.computed.now.func.now.pure) (length c.args.computed.now.plan.now.pure.loops) (hosted_shares c.args.plan.now.pipeline.now c.args.plan.now.schedule.now c.args.computed.now.place)
-    (copies-some (loops.counts c.extents_of-extents.result c.args.computed.now.plan.now.pure.splits) c.args.computed.now.plan.now.pure.loops paid) more (omega (arith, given, counts)) whole in
+    (nodes_in (flags_of c.args.plan.now.schedule.now.standings) c.args.plan.now.pipeline.now.funcs c.args.computed.now.func.now.pure) (length c.args.computed.now.plan.now.pure.loops) (produced_shares c.args.plan.now.pipeline.now c.args.plan.now.schedule.now c.args.computed.now.place)
+    (copies-some (iterations.counts c.extents_of-extents.result c.args.computed.now.plan.now.pure.splits) c.args.computed.now.plan.now.pure.loops paid) more (omega (arith, given, counts)) whole in
     omega (arith, light)
 
 pub returns-clause-private : goal.returns-clause-private
-returns-clause-private c = c.in_ok-private.ensures ∙ ap (hosted_from c.args.computed.now.place 0) c.as_slice.ensures
+returns-clause-private c = c.in_ok-private.ensures ∙ ap (produced_from c.args.computed.now.place 0) c.as_slice.ensures
 
 pub returns-clause-bytes : goal.returns-clause-bytes
 returns-clause-bytes c = c.in_ok-bytes.ensures ∙ ap (byte_places 0) c.inputs.ensures.value

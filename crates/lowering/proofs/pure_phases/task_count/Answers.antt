@@ -1,5 +1,5 @@
 use Rattle.std.proofs.Common.{ℕ, ◌≤◌, ◌^◌, ◌∙◌, ap, subst, sym}
-use Rattle.schedule_loops.specs.Iterations.{iteration_count}
+use Rattle.schedule_loops.specs.Visits.{iteration_count}
 use Rattle.lowering.proofs.Registers.{few_iterations}
 use Rattle.lowering.proofs.pure_phases.task_count.Goals as goal
 

@@ -1,8 +1,8 @@
 use Rattle.std.proofs.Common.{List, ◌+◌, length, ap, ◌∙◌, subst}
 use Rattle.schedule_lines.specs.declared.stages.Loop.{Loop}
 use Rattle.schedule_lines.specs.declared.stages.Split.{Split}
-use Rattle.schedule_loops.specs.Counts.{counts}
-use Rattle.schedule_loops.specs.Iterations as iterations
+use Rattle.schedule_loops.specs.Visits.{counts}
+use Rattle.schedule_loops.specs.Visits as iterations
 use Rattle.lowering_nests.specs.Nests.{Repeats}
 use Rattle.schedule_loops.specs.Reach.{wholes}
 use Rattle.loop_ir.specs.Depths.{depth}

@@ -1,7 +1,7 @@
 use Rattle.std.proofs.Common.{List, subst}
 use Rattle.schedule_lines.specs.declared.stages.Loop.{Loop}
 use Rattle.schedule_lines.specs.declared.stages.Split.{Split}
-use Rattle.schedule_loops.specs.Counts.{counts}
+use Rattle.schedule_loops.specs.Visits.{counts}
 use Rattle.loop_ir.specs.Sizes.{whole_size}
 use Rattle.lowering.proofs.Copies.{same-nest}
 use Rattle.lowering_nests.specs.Rounds.{IsLeaf, MayBeAtOnce, MayBeUnder}

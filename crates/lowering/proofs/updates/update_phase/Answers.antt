@@ -1,7 +1,7 @@
 use Rattle.std.proofs.Common.{length, ◌≤◌, ◌+◌, Option, Some, sym, ap, subst, ◌∙◌, arith, refl}
 use Rattle.schedule.specs.declared.standings.Place.{Place}
 use Rattle.schedule_loops.specs.declared.extents.Extents.{Extents}
-use Rattle.schedule_loops.specs.Iterations as iterations
+use Rattle.schedule_loops.specs.Visits as iterations
 use Rattle.schedule_loops.specs.Reach.{wholes}
 use Rattle.bounds_laws.specs.Laws.{IsComputed}
 use Rattle.loop_ir.specs.declared.expressions.Counter.{Counter}
@@ -11,7 +11,7 @@ use Rattle.lowering.specs.PurePhases as pure
 use Rattle.lowering.proofs.RootFacts.{is_box}
 use Rattle.lowering.proofs.Depths.{update_few}
 use Rattle.lowering.proofs.UpdateStages.{splits, few, few_loops, place_small}
-use Rattle.lowering.proofs.SoundHosts.{dark, dark_words}
+use Rattle.lowering.proofs.SoundConsumers.{dark, dark_words}
 use Rattle.lowering.proofs.UpdateTasks.{does_update, touches, names_owned, task_stores}
 use Rattle.lowering.proofs.Registers.{update-most}
 use Rattle.lowering_nests.specs.Rounds.{MayBeUnder}

@@ -3,7 +3,7 @@ use Rattle.std.specs.Option.{option_copied}
 use Rattle.halide_pipeline.specs.Expressions.{nodes}
 use Rattle.halide_pipeline.specs.declared.expressions.Expr.TheOpen as layer
 use Rattle.halide_pipeline.specs.declared.expressions.Source.{Source}
-use Rattle.bounds_inlining.specs.Inlining.{flagged, func_in, inside}
+use Rattle.bounds_inlining.specs.Inlining.{flagged, func_in, inside, counting}
 use Rattle.bounds_inlining.proofs.Steps.{less_size, less_place, few_nodes, func_in_parts, nodes-Binary, nodes-Divide, nodes-Remainder, nodes-Select, nodes-Call1, nodes-Call2}
 use Rattle.lowering_expressions.specs.inner.Following.{Follows, algebra, variable_terms, term_loads}
 use Rattle.loop_ir.specs.Needs.{need}
@@ -12,7 +12,6 @@ use Rattle.lowering_expressions.specs.inner.Taking.{call_need}
 use Rattle.lowering_expressions.proofs.Taking as taken
 use Rattle.lowering_expressions.proofs.Calling.{not_inlined, input, is_made, made_follows}
 use Rattle.lowering_expressions.proofs.Walking.{number_arm, variable_arm, binary_arm, divide_arm, remainder_arm, select_arm, call1_arm, call2_arm}
-use Rattle.bounds_inlining.specs.Weights.{counting}
 use Rattle.loop_ir.specs.Sizes.{size}
 use Rattle.lowering_expressions.specs.Sizing.{IsGiven}
 use Rattle.lowering_expressions.specs.inner.Sizing.{call_nodes}

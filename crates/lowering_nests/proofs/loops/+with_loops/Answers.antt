@@ -1,5 +1,5 @@
 use Rattle.lowering_nests.proofs.Nesting.{nested_repeats}
-use Rattle.schedule_loops.specs.Counts as loops
+use Rattle.schedule_loops.specs.Visits as loops
 use Rattle.loop_ir.specs.Sizes.{whole_size}
 use Rattle.lowering_nests.proofs.Rounds.{goes_around_more}
 use Rattle.lowering_nests.proofs.Sizing.{nested_size}

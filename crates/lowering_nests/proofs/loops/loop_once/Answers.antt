@@ -1,5 +1,5 @@
 use Rattle.std.proofs.Common.{ℕ, subst}
-use Rattle.schedule_loops.specs.Counts as loops
+use Rattle.schedule_loops.specs.Visits as loops
 use Rattle.schedule_loops.specs.Visits.{upto}
 use Rattle.loop_ir.specs.Sizes.{whole_size}
 use Rattle.lowering_nests.specs.Nests.{Repeats}

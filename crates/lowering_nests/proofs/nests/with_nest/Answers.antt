@@ -1,6 +1,6 @@
 use Rattle.lowering_nests.proofs.Nesting.{whole_nest}
 use Rattle.std.proofs.Common.{[], ◌∷◌, ◌++◌, subst}
-use Rattle.schedule_loops.specs.Counts as loops
+use Rattle.schedule_loops.specs.Visits as loops
 use Rattle.schedule_loops.specs.Sizes.{SizedLoops}
 use Rattle.lowering_nests.specs.Rounds.{MayBeAtOnce, MayBeAround}
 use Rattle.lowering_nests.proofs.Few.{few_turns}

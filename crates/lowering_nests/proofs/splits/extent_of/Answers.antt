@@ -1,5 +1,5 @@
 use Rattle.std.proofs.Common.{◌≡◌, ap, arith}
-use Rattle.schedule_loops.specs.Counts.{counts}
+use Rattle.schedule_loops.specs.Visits.{counts}
 use Rattle.schedule_loops.specs.declared.sizes.LoopSize.{LoopSize}
 use Rattle.lowering_nests.proofs.Few.{few_turns}
 use Rattle.lowering_nests.proofs.splits.extent_of.Goals as goal

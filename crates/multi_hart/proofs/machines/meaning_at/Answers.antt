@@ -2,7 +2,7 @@ use Rattle.std.proofs.Common.{◌∙◌, ◌≡◌, ◌≤◌, Option, Some, Non
 use Rattle.std.specs.Prelude.{ℕ, slice_get}
 use Rattle.std.proofs.lemmas.Option.{slice_get-map}
 use Rattle.std.proofs.lemmas.List.{length-map}
-use Rattle.memory.specs.Addresses.{most_words, fetched}
+use Rattle.memory.specs.Access.{most_words, fetched}
 use Rattle.rv_encoding.specs.Decoding.{decoded}
 use Rattle.hart_core.specs.Meanings.{insn_of, word_meaning}
 use Rattle.hart_core.proofs.Meant.{insn_of-meaning_of}

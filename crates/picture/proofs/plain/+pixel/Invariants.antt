@@ -1,7 +1,7 @@
 -- The Func, then the update, then its point, then the size of the expression.
 use Rattle.std.proofs.Common.{◌≡◌, ◌+◌, ◌-◌, ◌^◌}
 use Rattle.halide_pipeline.specs.Expressions.{nodes}
-use Rattle.halide_pipeline.specs.Definitions.{is_first_in_place, is_second_in_place}
+use Rattle.halide_pipeline.specs.WellFormed.{is_first_in_place, is_second_in_place}
 use Rattle.picture.specs.inner.Evaluation.{all_nodes, IsForward}
 use Rattle.picture.proofs.Measures.{measure, state_measure, last}
 use Rattle.picture.proofs.plain.+pixel.Given as goal

@@ -1,6 +1,5 @@
 use Rattle.std.proofs.Common.{◌≡◌, Ok, ◌∙◌}
-use Rattle.line_text.specs.Lines.{lines_of}
-use Rattle.line_text.specs.LineReading.{taken_from}
+use Rattle.line_text.specs.Lines.{lines_of, taken_from}
 use Rattle.schedule.specs.Reading.{start, taken}
 use Rattle.schedule.proofs.Whole.{read_keeps, ends}
 use Rattle.schedule.proofs.schedules.read.Goals as goal

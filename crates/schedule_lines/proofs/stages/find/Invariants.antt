@@ -1,5 +1,5 @@
 use Rattle.std.proofs.Common.{◌≡◌, length}
-use Rattle.schedule_lines.specs.Loops as spec
+use Rattle.schedule_lines.specs.Directives as spec
 use Rattle.schedule_lines.proofs.stages.find.Given as goal
 
 abbrev pub invariant-loops : goal.invariant-loops

@@ -1,5 +1,5 @@
 use Rattle.std.proofs.Common.{◌≡◌, ◌++◌, length}
-use Rattle.schedule_lines.specs.Words.{words_of, text_of}
+use Rattle.schedule_lines.specs.Lines.{words_of, text_of}
 use Rattle.schedule_lines.proofs.words.words_of.Given as goal
 
 abbrev pub invariant-words : goal.invariant-words

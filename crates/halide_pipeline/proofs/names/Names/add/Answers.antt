@@ -1,5 +1,5 @@
 use Rattle.std.proofs.Common.{◌≡◌, None, ap, ◌∙◌, ◌++◌, ◌∷◌, [], List}
-use Rattle.halide_pipeline.specs.Names.{lookup, pairs_of, Named}
+use Rattle.halide_pipeline.specs.Pipelines.{lookup, pairs_of, Named}
 use Rattle.halide_pipeline.proofs.Pairs.{added}
 use Rattle.halide_pipeline.proofs.names.Names.add.Goals as goal
 

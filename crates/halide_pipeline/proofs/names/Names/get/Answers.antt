@@ -1,5 +1,5 @@
 use Rattle.std.proofs.Common.{ap, ◌∙◌}
-use Rattle.halide_pipeline.specs.Names.{lookup}
+use Rattle.halide_pipeline.specs.Pipelines.{lookup}
 use Rattle.halide_pipeline.proofs.Pairs.{found}
 use Rattle.halide_pipeline.proofs.names.Names.get.Goals as goal
 

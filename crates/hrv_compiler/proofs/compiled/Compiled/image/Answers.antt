@@ -6,8 +6,7 @@ use Rattle.hrv_compiler.specs.Assigned.{IsAssigned}
 use Rattle.hrv_compiler.specs.Compiled.{CompiledContents, output_of}
 use Rattle.hrv_compiler.specs.inner.Held.{IsHeld}
 use Rattle.hrv_compiler.specs.Correct.{Correct}
-use Rattle.hrv_compiler.specs.Data.{image_data}
-use Rattle.hrv_compiler.specs.Images.{image_of}
+use Rattle.hrv_compiler.specs.Images.{image_data, image_of}
 use Rattle.hrv_compiler.specs.Runs.{WritesWholeRuns}
 use Rattle.hrv_compiler.proofs.Correct.{correct, is-assigned, stages-counted}
 use Rattle.hrv_compiler.proofs.Images.{is_ok, ok_is, parts_pass}

@@ -1,6 +1,6 @@
 use Rattle.std.proofs.Common.{ap, ◌∙◌}
 use Rattle.std.specs.List.{list_all}
-use Rattle.schedule_loops.specs.Counts.{shifts_fit}
+use Rattle.schedule_loops.specs.Visits.{shifts_fit}
 use Rattle.schedule_loops.specs.Sizes as spec
 use Rattle.schedule_loops.specs.inner.Table.{row_fits}
 use Rattle.schedule_loops.proofs.Tables.{table_fits}

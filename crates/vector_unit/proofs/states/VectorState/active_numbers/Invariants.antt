@@ -1,7 +1,6 @@
 use Rattle.std.proofs.Common.{◌≡◌, ◌≤◌, length}
-use Rattle.lanes.specs.Masks.{is_active}
-use Rattle.vector_unit.specs.VectorState.{register}
-use Rattle.vector_unit.specs.Vector.{bits_of, count, element_from}
+use Rattle.lanes.specs.Words.{is_active}
+use Rattle.vector_unit.specs.Vector.{register, bits_of, count, element_from}
 use Rattle.vector_unit.specs.Accesses.{active_numbers}
 use Rattle.vector_unit.proofs.Choices.{IsLeft}
 use Rattle.vector_unit.proofs.states.VectorState.active_numbers.Given as goal

@@ -1,8 +1,7 @@
 use Rattle.std.proofs.Common.{◌≡◌, ◌≤◌, length}
-use Rattle.lanes.specs.Masks.{is_active}
+use Rattle.lanes.specs.Words.{is_active}
 use Rattle.lanes.specs.Words as word
-use Rattle.vector_unit.specs.VectorState.{register}
-use Rattle.vector_unit.specs.Vector.{count}
+use Rattle.vector_unit.specs.Vector.{register, count}
 use Rattle.vector_unit.specs.Accesses.{offset, addresses_by}
 use Rattle.vector_unit.proofs.Choices.{IsLeft}
 use Rattle.vector_unit.proofs.states.VectorState.addresses.Given as goal

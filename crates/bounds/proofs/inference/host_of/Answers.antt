@@ -1,7 +1,0 @@
-use Rattle.std.proofs.Common.{sym, ap, ◌∙◌}
-use Rattle.std.specs.Option.{option_copied}
-use Rattle.bounds.proofs.inference.host_of.Goals as goal
-
-pub host_loop-requires-clause-small : goal.host_loop-requires-clause-small
-host_loop-requires-clause-small c =
-    c.requires.small.stages c.args.place.func c.in-Some.plan.now (sym c.get.ensures.value ∙ ap option_copied c.in-Some.is)

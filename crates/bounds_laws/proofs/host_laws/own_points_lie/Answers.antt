@@ -1,5 +1,0 @@
-use Rattle.bounds_laws.proofs.OwnPoints.{own_points_lie}
-use Rattle.bounds_laws.proofs.host_laws.own_points_lie.Goals as goal
-
-pub returns : goal.returns
-returns c = own_points_lie

@@ -1,5 +1,0 @@
-use Rattle.bounds_laws.proofs.BoxesHosted.{points_are_near}
-use Rattle.bounds_laws.proofs.host_laws.points_are_near.Goals as goal
-
-pub returns : goal.returns
-returns c = points_are_near

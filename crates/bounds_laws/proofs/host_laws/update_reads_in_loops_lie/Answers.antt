@@ -1,5 +1,0 @@
-use Rattle.bounds_laws.proofs.LoopReads.{update_reads_in_loops_lie}
-use Rattle.bounds_laws.proofs.host_laws.update_reads_in_loops_lie.Goals as goal
-
-pub returns : goal.returns
-returns c = update_reads_in_loops_lie

@@ -1,0 +1,250 @@
+-- Where loops of a consumer take arguments.
+--
+-- The consumer of a Func that is computed at a loop is the Func whose loop it is. While this loop and those outside of it are in given
+-- turns, those inside take all their values.
+-- This project's own.
+use Rattle.std.specs.Prelude.{◌≡◌, ◌<◌, ℕ, zero, suc, ◌+◌, ◌^◌, nat_lt, true, not, if◌then◌else◌, List, [], ◌∷◌, ◌++◌, take, drop, length, slice_get, Option, Some, None, Ok}
+use Rattle.std.specs.List.{AllByRecursion, Contains}
+use Rattle.halide_pipeline.specs.declared.definitions.Func.{Func}
+use Rattle.halide_pipeline.specs.declared.definitions.Update.{Update}
+use Rattle.halide_pipeline.specs.declared.expressions.Source.TheVariants as sources
+use Rattle.halide_pipeline.specs.declared.expressions.Variable.{Variable}
+use Rattle.halide_pipeline.specs.declared.expressions.Variable.TheVariants as variables
+use Rattle.halide_pipeline.specs.WellFormed.{is_first_in_place, is_second_in_place, IsWellFormed}
+use Rattle.halide_pipeline.specs.Pipelines.{Pipeline}
+use Rattle.halide_pipeline.specs.Pixel.{Reads, points}
+use Rattle.halide_pipeline.specs.Points.{Point}
+use Rattle.schedule_lines.specs.declared.stages.Loop.{Loop}
+use Rattle.schedule_lines.specs.declared.stages.LoopId.{LoopId}
+use Rattle.schedule_lines.specs.declared.stages.LoopId.TheVariants as ids
+use Rattle.schedule.specs.declared.plans.FuncPlan.{FuncPlan}
+use Rattle.schedule.specs.declared.schedules.Schedule.{Schedule}
+use Rattle.schedule.specs.declared.standings.LoopPlace.{LoopPlace}
+use Rattle.schedule.specs.declared.standings.Place.{Place}
+use Rattle.schedule.specs.declared.standings.Place.TheVariants as places
+use Rattle.schedule.specs.declared.standings.Standing.{Standing}
+use Rattle.schedule.specs.Accepted.{IsAccepted}
+use Rattle.schedule.specs.Uses.{StandsWithin}
+use Rattle.schedule_loops.specs.declared.extents.Extents.{Extents}
+use Rattle.schedule_loops.specs.Visits.{Values, counts, Visit}
+use Rattle.schedule_loops.specs.Reach.{wholes}
+use Rattle.schedule_loops.specs.Runs.{AreTurns}
+use Rattle.schedule_loops.specs.Stages.{IsStageOf, IsVisitOf, first_loops, has_variable}
+use Rattle.bounds_ranges.specs.declared.ranges.Range.{Range}
+use Rattle.bounds_ranges.specs.Ranges.{more_sum, less_sum}
+use Rattle.bounds_ranges.specs.Laws.{Below, Lies, AnswerWords}
+use Rattle.bounds_ranges.specs.Numbers.{spot}
+use Rattle.bounds.specs.declared.boxes.ConsumerLoop.{ConsumerLoop}
+use Rattle.bounds.specs.declared.boxes.SourceBox.{SourceBox}
+use Rattle.bounds.specs.declared.verdict.Boxes.{Boxes}
+use Rattle.bounds.specs.Boxes.{lasts_of, IsBox, same_source}
+use Rattle.bounds.specs.Extents.{extent, extents_of}
+use Rattle.bounds_laws.specs.Laws.{LiesIn, AreBoxed, LiesPartly, values_for, consumer_in, IsComputed, pure_points, update_points, IsNear, IsPartlyBoxed}
+use Rattle.bounds.specs.Verdict.{inferred}
+use Rattle.bounds.specs.Views.{inner_count, consumer_loop, consumer_view, settled, settled_box, view_of}
+
+-- ---- turns of the loops of a stage, innermost first
+
+-- of one loop; 0 where none is there
+abbrev pub turn_of : Values → Option Loop → ℕ
+turn_of turns None = 0
+turn_of turns (Some own) = turns own.id
+
+abbrev pub turn_at : ℕ → Values → List Loop → ℕ → ℕ
+turn_at inner turns loops at = if nat_lt at inner then 0 else turn_of turns (slice_get loops at)
+
+-- Those of the loop with so many inside it and of all outside of it; the loops inside, which have no turn yet, count as in their first.
+abbrev pub turns_from : ℕ → Values → List Loop → List ℕ
+turns_from inner turns loops =
+    turn_at inner turns loops 0 ∷ turn_at inner turns loops 1 ∷ turn_at inner turns loops 2 ∷ turn_at inner turns loops 3
+    ∷ turn_at inner turns loops 4 ∷ []
+
+-- ---- the consumer's arguments
+
+-- how far a value takes an argument from its least number; not at all, where the Func has no such argument
+abbrev pub gone : Func → Variable → Values → ℕ
+gone func variable whole = if has_variable variable (first_loops func None) then whole (ids.Whole variable) else 0
+
+-- The word is this far from the least number of a range.
+pub record IsGone (range : Range) (far x : ℕ) : Type 0 where
+  pub word : x < 2 ^ 32
+  pub is : spot x ≡ range.low + far
+
+-- These values of a Func's arguments take it to this point of its box.
+pub record IsTakenTo (func : Func) (own : SourceBox) (whole : Values) (x y : ℕ) : Type 0 where
+  pub first : IsGone own.x (gone func variables.FirstArgument whole) x
+  pub second : IsGone own.y (gone func variables.SecondArgument whole) y
+
+-- While a loop of a pure definition and those outside of it are in given turns, each point to which those inside take the arguments lies in
+-- the view of them that is asked with, under these turns.
+abbrev pub ConsumerArgumentsLie : Type 0
+ConsumerArgumentsLie = (func : Func) (plan : FuncPlan) (own : SourceBox) (id : LoopId) (inside outside : List Loop) (turns : Values)
+    → IsStageOf func None plan.pure → plan.pure.loops ≡ inside ++ outside → length inside ≡ inner_count id plan.pure.loops
+    → AreTurns (counts (extents_of own) plan.pure.splits) outside turns
+    → Below (turns_from (length inside) turns plan.pure.loops) (consumer_loop plan own id).lasts
+    × AllByRecursion
+    (λ whole. (x y : ℕ) → IsTakenTo func own whole x y → LiesIn (turns_from (length inside) turns plan.pure.loops) (consumer_view plan.pure own (consumer_loop plan own id)) x y)
+    (wholes (extents_of own) plan.pure.splits inside turns)
+
+-- ---- points of a box at a loop
+
+-- Values of loops agree from the loop with so many inside it outward.
+abbrev pub AgreeFrom : ℕ → List ℕ → List ℕ → Type 0
+AgreeFrom inner [] [] = Unit {0}
+AgreeFrom inner [] (w ∷ others) = ⊥
+AgreeFrom inner (v ∷ values) [] = ⊥
+AgreeFrom zero (v ∷ values) (w ∷ others) = (v ≡ w) × AgreeFrom zero values others
+AgreeFrom (suc inner) (v ∷ values) (w ∷ others) = AgreeFrom inner values others
+
+-- What lies in a range lies in the one where loops inside take all their values, whatever values these have.
+abbrev pub SettledRangesHold : Type 0
+SettledRangesHold = (inner : ℕ) (lasts values others : List ℕ) → Below values lasts → AgreeFrom inner values others
+    → (range : Range) (x : ℕ) → Lies lasts values range x → Lies lasts others (settled inner lasts range) x
+
+-- So do points of a box.
+abbrev pub SettledBoxesHold : Type 0
+SettledBoxesHold = (inner : ℕ) (own : SourceBox) (values others : List ℕ) → Below values own.lasts → AgreeFrom inner values others
+    → (x y : ℕ) → LiesIn values own x y → LiesIn others (settled_box inner own) x y
+
+-- ---- what updates read of their own Func
+
+-- Whatever values the loops of its consumer have, what an update of a Func that is computed reads of its own Func, the point that its left side
+-- names among it, lies in the Func's box in each dimension that isn't in place.
+abbrev pub ProducedOwnReadsLie : Type 0
+ProducedOwnReadsLie = (pipeline : Pipeline) (schedule : Schedule) (boxes : Boxes) → IsWellFormed pipeline → inferred pipeline schedule ≡ Ok boxes
+    → (reader : ℕ) (func : Func) (sought : Standing) → slice_get pipeline.funcs reader ≡ Some func
+    → slice_get schedule.standings reader ≡ Some sought → sought.is_reached ≡ true → IsComputed reader sought.place
+    → (consumer : Option ConsumerLoop) → consumer_in schedule boxes.funcs sought.place ≡ consumer
+    → (values : List ℕ) → Below (values_for consumer values) (lasts_of consumer)
+    → (at : ℕ) (update : Update) → slice_get func.updates at ≡ Some update
+    → (reads : Reads) → AnswerWords pipeline.inputs reads
+    → (x y : ℕ) → x < 2 ^ 32 → y < 2 ^ 32 → IsNear x → IsNear y → (number : ℕ) → number < points update
+    → AllByRecursion
+    (λ point. same_source point.source (sources.Func reader) ≡ true
+    → IsPartlyBoxed (values_for consumer values) (slice_get boxes.funcs reader) (not (is_first_in_place update)) (not (is_second_in_place update)) point.x point.y)
+    (update_points pipeline schedule reads reader update number x y)
+
+-- The point has the arguments that stand in place for its coordinates.
+pub record IsInPlace (update : Update) (x y : ℕ) (point : Point) : Type 0 where
+  pub first : is_first_in_place update ≡ true → point.x ≡ x
+  pub second : is_second_in_place update ≡ true → point.y ≡ y
+
+-- In each dimension in place an update reads its own Func at the argument itself, and its left side names the argument itself.
+abbrev pub OwnReadsStay : Type 0
+OwnReadsStay = (pipeline : Pipeline) (schedule : Schedule) → IsWellFormed pipeline
+    → (reader : ℕ) (func : Func) → slice_get pipeline.funcs reader ≡ Some func → (at : ℕ) (update : Update) → slice_get func.updates at ≡ Some update
+    → (reads : Reads) (number x y : ℕ)
+    → AllByRecursion (λ point. same_source point.source (sources.Func reader) ≡ true → IsInPlace update x y point)
+    (update_points pipeline schedule reads reader update number x y)
+
+-- So all that an update reads of its own Func lies in the Func's box, and the point that its left side names, where the arguments in place do.
+abbrev pub OwnPointsLie : Type 0
+OwnPointsLie = (pipeline : Pipeline) (schedule : Schedule) (boxes : Boxes) → IsWellFormed pipeline → inferred pipeline schedule ≡ Ok boxes
+    → (reader : ℕ) (func : Func) (sought : Standing) → slice_get pipeline.funcs reader ≡ Some func
+    → slice_get schedule.standings reader ≡ Some sought → sought.is_reached ≡ true → IsComputed reader sought.place
+    → (consumer : Option ConsumerLoop) → consumer_in schedule boxes.funcs sought.place ≡ consumer
+    → (values : List ℕ) → Below (values_for consumer values) (lasts_of consumer)
+    → (own : SourceBox) → slice_get boxes.funcs reader ≡ Some (Some own)
+    → (at : ℕ) (update : Update) → slice_get func.updates at ≡ Some update
+    → (reads : Reads) → AnswerWords pipeline.inputs reads
+    → (x y : ℕ) → x < 2 ^ 32 → y < 2 ^ 32 → IsNear x → IsNear y → (number : ℕ) → number < points update
+    → LiesPartly (values_for consumer values) own (is_first_in_place update) (is_second_in_place update) x y
+    → AreBoxed (values_for consumer values) (sources.Func reader) (Some (Some own)) (update_points pipeline schedule reads reader update number x y)
+
+-- ---- boxes, and what stages visit of them
+
+-- The box of a Func that is computed has two ends in each dimension, stays within -2^24 to 2^24, and is over the loops of the Func's consumer.
+pub record IsProduced (consumer : Option ConsumerLoop) (own : SourceBox) : Type 0 where
+  pub box : IsBox own
+  pub lasts : own.lasts ≡ lasts_of consumer
+
+abbrev pub BoxesAreProduced : Type 0
+BoxesAreProduced = (pipeline : Pipeline) (schedule : Schedule) (boxes : Boxes) → inferred pipeline schedule ≡ Ok boxes
+    → (place : ℕ) (sought : Standing) → slice_get schedule.standings place ≡ Some sought → sought.is_reached ≡ true → IsComputed place sought.place
+    → (own : SourceBox) → slice_get boxes.funcs place ≡ Some (Some own) → IsProduced (consumer_in schedule boxes.funcs sought.place) own
+
+-- A point of a box is near.
+abbrev pub PointsAreNear : Type 0
+PointsAreNear = (own : SourceBox) → IsBox own → (values : List ℕ) → Below values own.lasts → (x y : ℕ) → LiesIn values own x y → IsNear x × IsNear y
+
+-- While loops have these values, the word is this far from the least number of a range.
+pub record IsFrom (values : List ℕ) (range : Range) (far x : ℕ) : Type 0 where
+  pub word : x < 2 ^ 32
+  pub is : spot x + less_sum range.base values ≡ range.low + more_sum range.base values + far
+
+-- In whatever iteration, what a stage of a Func visits of the Func's box, from the box's corner on, lies in the box.
+abbrev pub VisitsLie : Type 0
+VisitsLie = (func : Func) (update : Option Update) (own : SourceBox) → IsBox own → (values : List ℕ) → Below values own.lasts
+    → (extents : Extents) → extents.first_argument ≡ extent own.x → extents.second_argument ≡ extent own.y
+    → (visit : Visit) → IsVisitOf func update extents visit
+    → (x y : ℕ) → IsFrom values own.x visit.x x → IsFrom values own.y visit.y y → LiesIn values own x y
+
+-- ---- arguments, wherever loops take them
+
+-- The loop and those outside of it are each in one of their turns.
+abbrev pub AreTurnsFrom : FuncPlan → SourceBox → LoopId → Values → Type 0
+AreTurnsFrom plan own id turns = AreTurns (counts (extents_of own) plan.pure.splits) (drop (inner_count id plan.pure.loops) plan.pure.loops) turns
+
+-- the values that bases take in these turns
+abbrev pub values_in : FuncPlan → LoopId → Values → List ℕ
+values_in plan id turns = turns_from (inner_count id plan.pure.loops) turns plan.pure.loops
+
+-- The loops inside take the consumer's arguments to this point.
+pub record IsReachedIn (func : Func) (plan : FuncPlan) (own : SourceBox) (id : LoopId) (turns : Values) (x y : ℕ) : Type 0 where
+  pub turns_are : AreTurnsFrom plan own id turns
+  pub whole : Values
+  pub visited : Contains (wholes (extents_of own) plan.pure.splits (take (inner_count id plan.pure.loops) plan.pure.loops) turns) whole
+  pub taken : IsTakenTo func own whole x y
+
+-- While loops of a consumer are in these turns, the point may be the arguments of a Func with this place: of the consumer itself, where the loops
+-- inside take them to it; of a Func that is computed at a loop of the consumer, where it lies in that one's box.
+abbrev pub MayBeArguments : Func → FuncPlan → SourceBox → LoopId → Values → Place → SourceBox → ℕ → ℕ → Type 0
+MayBeArguments func plan consuming id turns places.Root own x y = IsReachedIn func plan consuming id turns x y
+MayBeArguments func plan consuming id turns (places.At at) own x y = AreTurnsFrom plan consuming at.inside turns × LiesIn (values_in plan at.inside turns) own x y
+MayBeArguments func plan consuming id turns places.Inlined own x y = ⊥
+MayBeArguments func plan consuming id turns places.Nowhere own x y = ⊥
+
+-- The values are those of loops, and the point lies in the view.
+pub record IsSeenIn (values : List ℕ) (consumer : Option ConsumerLoop) (view : SourceBox) (x y : ℕ) : Type 0 where
+  pub produced : Below values (lasts_of consumer)
+  pub below : Below values view.lasts
+  pub lies : LiesIn values view x y
+
+-- Wherever loops take the arguments of a Func that makes its reads within the loop at which another one is computed, they lie in the view of
+-- them with which that other one is asked, while the loops of the consumer from that one outward have the same turns.
+abbrev pub ArgumentsLieInViews : Type 0
+ArgumentsLieInViews = (pipeline : Pipeline) (schedule : Schedule) (boxes : Boxes) → IsAccepted pipeline schedule → inferred pipeline schedule ≡ Ok boxes
+    → (place : ℕ) (sought : Standing) (at : LoopPlace) → slice_get schedule.standings place ≡ Some sought → sought.is_reached ≡ true → sought.place ≡ places.At at
+    → (func : Func) (plan : FuncPlan) (consuming : SourceBox)
+    → slice_get pipeline.funcs at.func ≡ Some func → slice_get schedule.funcs at.func ≡ Some plan → slice_get boxes.funcs at.func ≡ Some (Some consuming)
+    → (reader : ℕ) (its : Standing) (own : SourceBox) → slice_get schedule.standings reader ≡ Some its → its.is_reached ≡ true → slice_get boxes.funcs reader ≡ Some (Some own)
+    → StandsWithin pipeline schedule.funcs schedule.standings at reader
+    → (turns : Values) (x y : ℕ) → MayBeArguments func plan consuming at.inside turns its.place own x y
+    → IsSeenIn (values_in plan at.inside turns) (consumer_in schedule boxes.funcs sought.place)
+    (view_of (slice_get schedule.funcs reader) (slice_get schedule.standings reader) own (consumer_in schedule boxes.funcs sought.place)) x y
+
+-- So all that its pure definition reads there of that other one lies in the box of that one.
+abbrev pub PureReadsInLoopsLie : Type 0
+PureReadsInLoopsLie = (pipeline : Pipeline) (schedule : Schedule) (boxes : Boxes) → IsWellFormed pipeline → IsAccepted pipeline schedule → inferred pipeline schedule ≡ Ok boxes
+    → (place : ℕ) (sought : Standing) (at : LoopPlace) → slice_get schedule.standings place ≡ Some sought → sought.is_reached ≡ true → sought.place ≡ places.At at
+    → (func : Func) (plan : FuncPlan) (consuming : SourceBox)
+    → slice_get pipeline.funcs at.func ≡ Some func → slice_get schedule.funcs at.func ≡ Some plan → slice_get boxes.funcs at.func ≡ Some (Some consuming)
+    → (reader : ℕ) (reading : Func) (its : Standing) (own : SourceBox) → place < reader
+    → slice_get pipeline.funcs reader ≡ Some reading → slice_get schedule.standings reader ≡ Some its → its.is_reached ≡ true → slice_get boxes.funcs reader ≡ Some (Some own)
+    → (reads : Reads) → AnswerWords pipeline.inputs reads
+    → (turns : Values) (x y : ℕ) → MayBeArguments func plan consuming at.inside turns its.place own x y
+    → AreBoxed (values_in plan at.inside turns) (sources.Func place) (slice_get boxes.funcs place) (pure_points pipeline schedule reads reader reading x y)
+
+-- And all that its updates read of it.
+abbrev pub UpdateReadsInLoopsLie : Type 0
+UpdateReadsInLoopsLie = (pipeline : Pipeline) (schedule : Schedule) (boxes : Boxes) → IsWellFormed pipeline → IsAccepted pipeline schedule → inferred pipeline schedule ≡ Ok boxes
+    → (place : ℕ) (sought : Standing) (at : LoopPlace) → slice_get schedule.standings place ≡ Some sought → sought.is_reached ≡ true → sought.place ≡ places.At at
+    → (func : Func) (plan : FuncPlan) (consuming : SourceBox)
+    → slice_get pipeline.funcs at.func ≡ Some func → slice_get schedule.funcs at.func ≡ Some plan → slice_get boxes.funcs at.func ≡ Some (Some consuming)
+    → (reader : ℕ) (reading : Func) (its : Standing) (own : SourceBox) → place < reader
+    → slice_get pipeline.funcs reader ≡ Some reading → slice_get schedule.standings reader ≡ Some its → its.is_reached ≡ true → slice_get boxes.funcs reader ≡ Some (Some own)
+    → (number_at : ℕ) (update : Update) → slice_get reading.updates number_at ≡ Some update
+    → (reads : Reads) → AnswerWords pipeline.inputs reads
+    → (turns : Values) (x y : ℕ) → MayBeArguments func plan consuming at.inside turns its.place own x y → IsNear x → IsNear y
+    → (number : ℕ) → number < points update
+    → AreBoxed (values_in plan at.inside turns) (sources.Func place) (slice_get boxes.funcs place) (update_points pipeline schedule reads reader update number x y)

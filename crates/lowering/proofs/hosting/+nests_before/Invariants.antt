@@ -1,5 +1,0 @@
-use Rattle.std.proofs.Common.{◌-◌, length}
-use Rattle.lowering.proofs.hosting.+nests_before.Given as goal
-
-abbrev pub decreases-nests_before : goal.decreases-nests_before
-decreases-nests_before l = length l.plan.now.schedule.now.standings - l.from
