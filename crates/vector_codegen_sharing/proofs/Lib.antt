@@ -24,4 +24,6 @@ pub mod Undisturbed
 pub mod Bridges
 pub mod Measure
 pub mod Fair
+pub mod Lonely
+pub mod Refuted
 pub mod Stuck

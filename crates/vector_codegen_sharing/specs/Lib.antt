@@ -8,3 +8,4 @@ pub mod Fairness
 pub mod Stuck
 pub mod Example
 pub mod Bridges
+pub mod Refutations

@@ -10,13 +10,19 @@
 //! - [`laws`]: no hart traps, no race, one result, the end stays within reach and comes on every fair list, waiting at
 //!   gates alone, every assignment of tasks to harts, each turn by its phase's rule.
 //! - [`example`]: a program of two phases that meets every premise, and one that waits at a gate for ever.
+//! - [`refutations`]: programs that break the promises: a race, an end that isn't within reach, a hart that waits
+//!   elsewhere, a task that can't be given to another hart.
 #![tactic(auto)]
 
 pub mod example;
 pub mod laws;
+pub mod refutations;
 
 pub use crate::example::{example_machine, example_words, two_phases, waits_for_ever};
 pub use crate::laws::{
     alone_stops, can_finish, done_among_others, every_assignment, fair_ends, gate_once,
     never_races, never_traps, one_result, paths_do_jobs, rules_kept, what_is_done_stays,
+};
+pub use crate::refutations::{
+    hasty_harts_race, jumps_never_end, locked_harts_stay, others_do_nothing,
 };

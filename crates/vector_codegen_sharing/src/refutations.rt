@@ -1,0 +1,24 @@
+//! Programs that break what is promised of compiled images (`specs/Refutations.antt`).
+
+ghost use Rattle.vector_codegen_sharing.specs.Refutations.{HastyHartsRace, JumpsNeverEnd};
+ghost use Rattle.vector_codegen_sharing.specs.Refutations.{LockedHartsStay, OthersDoNothing};
+
+/// A gate that compares with one hart less than there are lets harts race.
+pub fn hasty_harts_race()
+    ensures { HastyHartsRace }
+{}
+
+/// At a lock in the last gate word a hart alone neither finishes nor waits at a gate between two phases.
+pub fn locked_harts_stay()
+    ensures { LockedHartsStay }
+{}
+
+/// A jump to itself has no end within reach.
+pub fn jumps_never_end()
+    ensures { JumpsNeverEnd }
+{}
+
+/// Where all harts but the first finish at once, no list of turns has a task done by another.
+pub fn others_do_nothing()
+    ensures { OthersDoNothing }
+{}
