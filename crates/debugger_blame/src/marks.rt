@@ -1,22 +1,21 @@
 //! One pass over a log that marks words which stand in a row, each with the last turn that wrote it.
 
 ghost use Rattle.std.specs.Prelude.{◌≡◌, ◌+◌, ◌*◌, ◌<◌, ◌≤◌, ◌%◌, ◌^◌, ◌++◌, ◌∷◌, [], ℕ, List, length, map};
-ghost use Rattle.std.specs.Prelude.{option_and_then, replicate, Some, None, IfOk, IfSome};
-ghost use Rattle.hart_core.specs.Scalar.{illegal_fault};
+ghost use Rattle.std.specs.Prelude.{option_and_then, replicate, Some, None, IfOk};
 ghost use Rattle.hart_core.specs.VectorRows.{accesses_at, size_of};
 ghost use Rattle.memory.specs.Access.{access_at, places_of, touched};
 ghost use Rattle.memory.specs.Access.{fetched, most_words};
 ghost use Rattle.multi_hart.specs.Run.{KeepsShape, State, hart_at, run, turn};
 ghost use Rattle.vector_codegen_sharing.specs.Turns.{is_word_in, written_next};
 ghost use Rattle.debugger_blame.specs.Marks.{AreMarks};
-ghost use Rattle.debugger_stores.specs.Stored.{places_in, places_stored, store_in};
+ghost use Rattle.debugger_stores.specs.Stored.{places_in, store_in};
 ghost use Rattle.debugger_blame.specs.inner.Marked.{Marked, is_byte_of_word};
 ghost use Rattle.debugger_blame.specs.inner.Quiet.{AreCounts};
 
 use crate::passes::Stretch;
 use crate::quiets::{quiet_at, quiets_of};
-use debugger_stores::{Stored, numbers_stored, store_at, stores_of, width_of};
-use hart_core::{Hart, Status};
+use debugger_stores::{Stored, number_stored, numbers_stored, store_at, stores_of};
+use hart_core::Status;
 use multi_hart::Machine;
 use rv_insn::{ElementWidth, Insn, Outcome};
 use std::alloc::{AllocError, Global};
@@ -234,33 +233,6 @@ fn mark_elements(
         return;
     };
     mark_stored(marks, first, &stored, mark);
-}
-
-/// A number that is stored.
-#[derive(Clone, Copy, Debug)]
-struct StoredNumber {
-    address: u32,
-    width: ElementWidth,
-}
-
-/// What an instruction stores that stores one number alone, where it is legal in the hart's state and makes no other
-/// trap.
-#[inline(always)]
-fn number_stored(hart: &Hart, insn: &Insn) -> Option<StoredNumber>
-    ensures { IfSome result (λ number. illegal_fault insn.now hart.now ≡ None
-        → touched (accesses_at number.width (number.address ∷ [])) ≡ places_stored insn.now hart.now) }
-{
-    match insn {
-        Insn::Store { op, rs1, imm, .. } => Some(StoredNumber {
-            address: hart.address(*rs1, *imm),
-            width: width_of(*op),
-        }),
-        Insn::AmoaddW { rs1, .. } => Some(StoredNumber {
-            address: hart.register(*rs1),
-            width: ElementWidth::Bits32,
-        }),
-        _ => None,
-    }
 }
 
 /// What a turn of a hart marks words with.

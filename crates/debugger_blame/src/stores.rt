@@ -9,7 +9,7 @@ ghost use Rattle.multi_hart.specs.Run.{is_in};
 ghost use Rattle.vector_codegen_sharing.specs.Turns.{is_word_in};
 ghost use Rattle.debugger_stores.specs.Stored.{places_in, places_stored};
 
-use debugger_stores::{Stored, numbers_stored, width_of};
+use debugger_stores::{Stored, number_stored, numbers_stored};
 use hart_core::Hart;
 use rv_insn::{ElementWidth, Insn};
 
@@ -17,14 +17,9 @@ use rv_insn::{ElementWidth, Insn};
 pub(crate) fn stores_to(hart: &Hart, insn: &Insn, word: u32) -> bool
     ensures { illegal_fault insn.now hart.now ≡ None → result ≡ is_word_in word (places_stored insn.now hart.now) }
 {
-    match insn {
-        Insn::Store { op, rs1, imm, .. } => {
-            touches_any(&[hart.address(*rs1, *imm)], width_of(*op), word)
-        }
-        Insn::AmoaddW { rs1, .. } => {
-            touches_any(&[hart.register(*rs1)], ElementWidth::Bits32, word)
-        }
-        _ => touches(&numbers_stored(hart, insn), word),
+    match number_stored(hart, insn) {
+        Some(number) => touches_any(&[number.address], number.width, word),
+        None => touches(&numbers_stored(hart, insn), word),
     }
 }
 

@@ -22,6 +22,10 @@ places_in Nothing = []
 places_in (Number address width) = touched (accesses_at width (address ∷ []))
 places_in (Elements addresses width) = touched (accesses_at width addresses)
 
+abbrev pub is_vector : Insn → Bool
+is_vector (i.Vector insn) = true
+is_vector insn = false
+
 -- ---- instructions that store
 
 abbrev pub is_store : Insn → Bool

@@ -1,13 +1,14 @@
 //! What instructions store: numbers of one width, by their addresses.
 
-ghost use Rattle.std.specs.Prelude.{◌≡◌, None};
+ghost use Rattle.std.specs.Prelude.{◌≡◌, ◌∷◌, [], IfSome, None, false};
+ghost use Rattle.memory.specs.Access.{touched};
 ghost use Rattle.vector_unit.specs.Accesses.{addresses_by, spacing_of};
 ghost use Rattle.vector_unit.specs.Vector.{has_vill};
 ghost use Rattle.hart_core.specs.Scalar.{store_size};
 ghost use Rattle.hart_core.specs.HartState.{register, vectors_of};
 ghost use Rattle.hart_core.specs.Scalar.{illegal_fault};
 ghost use Rattle.hart_core.specs.VectorRows.{accesses_at, size_of};
-ghost use Rattle.debugger_stores.specs.Stored.{is_store, places_in, places_stored, store_in};
+ghost use Rattle.debugger_stores.specs.Stored.{is_store, is_vector, places_in, places_stored, store_in};
 ghost use Rattle.rv_insn.specs.declared.instructions.Insn.TheVariants as insns;
 
 use hart_core::Hart;
@@ -51,25 +52,44 @@ fn is_store(insn: &Insn) -> bool
     }
 }
 
+/// A number that an instruction stores.
+#[derive(Clone, Copy, Debug)]
+pub struct StoredNumber {
+    pub address: u32,
+    pub width: ElementWidth,
+}
+
+/// What an instruction stores that stores one number alone, where it is legal in the hart's state and makes no other
+/// trap.
+#[inline(always)]
+pub fn number_stored(hart: &Hart, insn: &Insn) -> Option<StoredNumber>
+    ensures one { IfSome result (λ number. illegal_fault insn.now hart.now ≡ None
+        → touched (accesses_at number.width (number.address ∷ [])) ≡ places_stored insn.now hart.now) }
+    ensures none { result ≡ None → is_vector insn.now ≡ false → places_stored insn.now hart.now ≡ [] }
+{
+    match insn {
+        Insn::Store { op, rs1, imm, .. } => Some(StoredNumber {
+            address: hart.address(*rs1, *imm),
+            width: width_of(*op),
+        }),
+        Insn::AmoaddW { rs1, .. } => Some(StoredNumber {
+            address: hart.register(*rs1),
+            width: ElementWidth::Bits32,
+        }),
+        _ => None,
+    }
+}
+
 /// What an instruction that is legal in the hart's state stores, where it makes no other trap.
 pub fn numbers_stored(hart: &Hart, insn: &Insn) -> Stored
     ensures { illegal_fault insn.now hart.now ≡ None → places_in result ≡ places_stored insn.now hart.now }
 {
     match insn {
-        Insn::Store { op, rs1, imm, .. } => {
-            Stored::Number {
-                address: hart.address(*rs1, *imm),
-                width: width_of(*op),
-            }
-        }
-        Insn::AmoaddW { rs1, .. } => {
-            Stored::Number {
-                address: hart.register(*rs1),
-                width: ElementWidth::Bits32,
-            }
-        }
         Insn::Vector(vector) => stored_elements(hart, vector),
-        _ => Stored::Nothing,
+        _ => match number_stored(hart, insn) {
+            Some(StoredNumber { address, width }) => Stored::Number { address, width },
+            None => Stored::Nothing,
+        },
     }
 }
 
@@ -98,7 +118,7 @@ fn stored_elements(hart: &Hart, insn: &VectorInsn) -> Stored
 }
 
 /// How wide a store's number is.
-pub fn width_of(op: StoreOp) -> ElementWidth
+fn width_of(op: StoreOp) -> ElementWidth
     ensures { size_of result ≡ store_size op }
 {
     match op {
