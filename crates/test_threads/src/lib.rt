@@ -2,7 +2,7 @@
 //!
 //! - [`boards`]: numbers and a stop on a board.
 //! - [`counters`]: a program of two harts that is driven, stopped, held, and run on from a log; what gates are asked.
-//! - [`strips`]: a compiled blur, of whose harts one is abandoned.
+//! - [`strips`]: a compiled blur, of whose harts one is abandoned, and in two phases that all of them end.
 #![tactic(auto)]
 
 #[cfg(test)]

@@ -1,4 +1,4 @@
-//! A compiled blur in strips, of whose three harts one is abandoned in the middle of a strip.
+//! A compiled blur on three harts: in strips, where one is abandoned in the middle of a strip, and in two phases.
 
 ghost use Rattle.std.specs.Prelude.{◌≡◌, [], All};
 ghost use Rattle.board.specs.Tokens.{name_of};
@@ -38,6 +38,14 @@ by parallel yo
 bx compute_at by yo
 bx split x xo xi 4 guard
 bx vectorize xi
+";
+
+/// Two phases: tasks of ten rows of the first blur, and then of eight of the second one.
+const PHASES: &str = "bx compute_root
+bx split y yo yi 10 guard
+bx parallel yo
+by split y yo yi 8 guard
+by parallel yo
 ";
 
 /// How many turns hart 1 makes before it is abandoned. A strip takes it thousands.
@@ -105,10 +113,10 @@ fn blurred(x: u32) -> u32 {
     }
 }
 
-/// The image of the blur in strips. What was compiled is let go by a call, since a drop of it is long to check.
-fn strips(alloc: Global) -> Result<Image, Fail> {
+/// The image of the blur. What was compiled is let go by a call, since a drop of it is long to check.
+fn blur(alloc: Global, schedule: &str) -> Result<Image, Fail> {
     let inputs = Vec::from_array(alloc, [columns(alloc)?])?;
-    match compile(ALGORITHM, SCHEDULE, alloc) {
+    match compile(ALGORITHM, schedule, alloc) {
         Ok(compiled) => {
             let made = compiled.image(alloc, &inputs);
             drop(compiled);
@@ -127,6 +135,13 @@ fn check_seats<O: Origin, F: Ledgers, R: Abort>(rt: &R, seats: &[Seat<O, F>]) {
         } else {
             assert_eq!(rt; seat.ended(), Some(Ended::Halted));
         }
+    }
+}
+
+/// No hart is running behind its last turn.
+fn check_halted<O: Origin, F: Ledgers, R: Abort>(rt: &R, seats: &[Seat<O, F>]) {
+    for seat in seats {
+        assert_eq!(rt; seat.ended(), Some(Ended::Halted));
     }
 }
 
@@ -179,7 +194,7 @@ fn drive_first<O: Origin + Send + Sync, F: Ledgers + Send + Sync, R: Threads + W
     check_seats(rt, seats);
 }
 
-/// Drives all seats to their end.
+/// Drives all seats to their end, and each of them says that its hart isn't running.
 fn drive_on<O: Origin + Send + Sync, F: Ledgers + Send + Sync, R: Threads + Wait + Abort + Sync>(
     rt: &R,
     shared: &Shared<O, F>,
@@ -189,6 +204,7 @@ fn drive_on<O: Origin + Send + Sync, F: Ledgers + Send + Sync, R: Threads + Wait
     ensures { All (IsSeatOf (name_of shared.now.board)) seats.new.items }
 {
     assert!(rt; drive(rt, shared, seats.as_mut_slice(), LIMIT, &AlwaysOpen).is_ok());
+    check_halted(rt, seats);
 }
 
 /// Closes a machine, and looks at what it came to: with its picture, where that is wanted.
@@ -234,16 +250,41 @@ fn drive_strips<
     Ok(())
 }
 
+/// Drives three harts through all phases.
+fn drive_phases<
+    O: Origin + Send + Sync,
+    F: Ledgers + Send + Sync,
+    R: Threads + Wait + Abort + AllocGlobal + Sync,
+>(rt: &R, image: Image, blanks: Blanks) -> Result<(), Fail>
+    requires image { image ≡ O.image }
+    requires harts { O.harts ≡ 3 }
+    requires resumed { O.resumed ≡ [] }
+    requires blanks { AreNamed F.numbers F.tallies blanks }
+{
+    let output = output_of(&image)?;
+    let (shared, mut seats) = Shared::<O, F>::new(rt.alloc(), image, 3, blanks)?;
+    drive_on(rt, &shared, &mut seats);
+    check_closed(rt, shared, seats, output, true);
+    Ok(())
+}
+
 /// The strip that an abandoned hart drew is nobody else's: there is no picture.
 #[test]
 fn an_abandoned_strip_is_missed(rt: HostRuntime) -> Result<(), Fail> {
-    let image = strips(rt.alloc())?;
+    let image = blur(rt.alloc(), SCHEDULE)?;
     drive_strips::<Brand, Brand, HostRuntime>(&rt, image, Blanks::new(), false)
 }
 
 /// Where it is driven on, the picture is that of the algorithm.
 #[test]
 fn an_abandoned_strip_is_taken_up(rt: HostRuntime) -> Result<(), Fail> {
-    let image = strips(rt.alloc())?;
+    let image = blur(rt.alloc(), SCHEDULE)?;
     drive_strips::<Brand, Brand, HostRuntime>(&rt, image, Blanks::new(), true)
+}
+
+/// Harts that wait for one another between two phases all come to their ends.
+#[test]
+fn two_phases_end(rt: HostRuntime) -> Result<(), Fail> {
+    let image = blur(rt.alloc(), PHASES)?;
+    drive_phases::<Brand, Brand, HostRuntime>(&rt, image, Blanks::new())
 }
