@@ -40,6 +40,8 @@ class Row:
     def __init__(self, name, words, files, wanted="", lines=b""):
         self.name, self.words, self.wanted, self.lines = f"{words[0]}: {name}", words, wanted, lines
         self.files = {name: held.encode() if isinstance(held, str) else held for name, held in files.items()}
+        # Of a test the program that has it, in the place of `hrv`.
+        self.program = None
 
     @staticmethod
     def end(printed):
@@ -276,6 +278,13 @@ def thread_rows(stored):
     old = log(2, (0, 1), (1, 1), (0, 1))
     yield Row("from three turns", ["run", "image", "log", "--from", "old", "--turns", LIMIT],
         {"image": COUNTER, "old": old})
+
+
+def test_rows(tests):
+    """The test of the calls that take no memory: where an allocation is refused, it ends as values are made."""
+    row = Row("calls that take no memory", ["shared_machines::no_memory_is_taken"], {})
+    row.program = tests
+    return [row]
 
 
 def all_rows(program, folder):
