@@ -60,6 +60,28 @@ BLUR_SCHEDULE = "b split x xo xi 4 guard\nb parallel xo\n"
 BLUR_COMPILED = ["data 72", "0000000000000000" + "00000000" "03000000" "06000000" "09000000" "0c000000" "0f000000", "1200000015",
                  "output 0x00200028 8 1 32"] + BLUR_OUTPUT.split("\n")[:-1]
 
+# Words of a question, and what is answered about the turns.
+QUESTIONS = [("0\n0\n", "turn 5 hart 0 pc 0x00010008 amoadd.w x7,x6,(x5)\nbefore 1\nafter 2\n"), ("", "picture 1 1\n0\n"),
+             ("--turns\n", "picture 1 1\n5\n")]
+
+BLUR_MAP = """control 0 ticket 0x00200000 gate 0x00200004
+input in words corner 0 0 extents 8 1 address 0x00200008 row 32 pixel 4
+func b root corner 0 0 extents 8 1 address 0x00200028 row 32 pixel 4
+phase 0 stage b tasks 2 code 0x00010000 0x********
+"""
+
+EXPLAINED = """refused load 2
+  IMAGE, or OLD of `renew`, is no image
+  cause: fewer than 4 bytes
+  cure: the file was cut: store it again
+  cause: fewer than 32 bytes, of `HRV2` fewer than 36
+  cure: the file was cut
+  cause: fewer bytes than the header says
+  cure: the file was cut
+"""
+
+VERSION = "hrv 1.0\nlogic dac8208d650f15bf\n"
+
 TALK = [("next", "at 1\n"), ("next", "at 2\n"),
         ("status", "at 2 of 8\nhart 0 running pc 0x00010004\nhart 1 running pc 0x00010004\n"), ("back", "at 1\n")]
 
@@ -69,14 +91,14 @@ def digits(data):
 
 
 def is_plain(text):
-    return text.endswith("\n") and all(line and not line.startswith(("-- ", "== ")) for line in text[:-1].split("\n"))
+    return not text or text.endswith("\n") and all(line and not line.startswith(("-- ", "== ")) for line in text[:-1].split("\n"))
 
 
 def part(name, content):
     """A part with a text or with bytes. Images and logs are digits without a word of it."""
     if isinstance(content, str):
         assert is_plain(content)
-        return name, content[:-1].split("\n")
+        return name, content.splitlines()
     return (name if name in ("image", "log") else f"{name} in hexadecimal"), digits(content)
 
 
@@ -98,9 +120,18 @@ class Command:
         parts = [part(*it) for it in self.files] + [("devices", settings)]
         file.case(self.kind, f"{self.kind}: {name}", parts, answer)
 
+    def devices(self):
+        """The files that are read, and no words of a command line."""
+        return [name for name, _ in self.files if name != "words"]
+
     def whole(self, file):
-        settings = [f"{name} 7" for name in dict(self.files)] + ["page 9"]
-        self.case(file, "a few bytes at a time", settings, written(self.output))
+        for name, read, taken in ("a few bytes at a time", 7, 9), ("one byte at a time", 1, 1):
+            settings = [f"{device} {read}" for device in self.devices()] + [f"page {taken}"]
+            self.case(file, name, settings, self.shown(self.output))
+
+    def shown(self, output):
+        """What the page of a case holds."""
+        return written(output)
 
     def failing_reads(self, file, name):
         """Each read of a file that is read whole before anything is written."""
@@ -111,15 +142,37 @@ class Command:
         """Each write, and behind the last one that the page can't be made whole."""
         count = -(-len(self.output) // step)
         for calls in range(count + 1):
-            answer = written(self.output[:calls * step]) + ["refused file page"]
+            answer = self.shown(self.output[:calls * step]) + ["refused file page"]
             name = f"write {calls} fails" if calls < count else "all is written and isn't made whole"
             self.case(file, name, [f"page {step} {calls}"], answer)
 
     def failing(self, file):
         self.whole(file)
-        for name in dict(self.files):
+        for name in self.devices():
             self.failing_reads(file, name)
         self.failing_writes(file, 9)
+
+
+class Mapping(Command):
+    """A map, of which cases don't show where code lies."""
+
+    def shown(self, output):
+        return [line.split(" code ")[0] + "\\" * (" code " in line and line.endswith("\\")) for line in written(output)]
+
+
+class Asking(Command):
+    """A question about a log, by the words behind the files."""
+
+    def case(self, file, name, settings, answer):
+        words = " ".join(dict(self.files)["words"].split())
+        super().case(file, f"{words}: {name}" if words else name, settings, answer)
+
+
+class Version(Command):
+    """Nothing is asked to be explained."""
+
+    def case(self, file, name, settings, answer):
+        super().case(file, f"the version: {name}", settings, answer)
 
 
 def stored(file, _):
@@ -173,12 +226,31 @@ def drawings(file, _):
         Command("draw", files, None).case(file, f"refused {number}", ["algorithm 7", "picture 7"], [f"refused {why}"])
 
 
+def questions(file, _):
+    for words, answer in QUESTIONS:
+        Asking("blame", [("image", COUNTER), ("log", TURNS), ("words", words)], answer).failing(file)
+
+
+def explanations(file, _):
+    Command("explain", [("words", "load\n2\n")], EXPLAINED).failing(file)
+    Version("explain", [], VERSION).failing(file)
+
+
+def maps(file, _):
+    Mapping("map", [("algorithm", BLUR), ("schedule", BLUR_SCHEDULE)], BLUR_MAP).failing(file)
+    faulty = Command("map", [("algorithm", "x\n"), ("schedule", "x\n")], None)
+    faulty.case(file, "nothing is judged where a file can't be read", ["schedule 7 0", "page 8 0"], ["refused file schedule"])
+    faulty.case(file, "nothing is written where a text is refused", ["page 8 0"], ["refused parse 1 line 1"])
+
+
 def compilations(file, _):
     files = [("algorithm", BLUR), ("schedule", BLUR_SCHEDULE), ("picture", BLUR_INPUT)]
     compilation = Command("compile", files, None)
     compilation.case(file, "a few bytes at a time", ["algorithm 7", "schedule 7", "picture 7", "page 9"], BLUR_COMPILED)
+    compilation.case(file, "one byte at a time", ["algorithm 1", "schedule 1", "picture 1", "page 1"], BLUR_COMPILED)
     for name, _ in files:
         compilation.failing_reads(file, name)
+    Command("cut", files, None).case(file, "each write fails in turn", [], ["each failing write leaves what was written"])
     # Of the header the letters and the entry are the same for all programs.
     for calls in range(2):
         start = bytes.fromhex("4852563200000100")[:8 * calls]
@@ -194,9 +266,11 @@ def runs(file, _):
     log, text = digits(RUN_LOG), written(RUN_DUMP)
     begun = Command("run", [("image", COUNTER), ("turns", turns)], RUN_DUMP)
     begun.case(file, "a few bytes at a time", ["image 7", "new 9", "page 9"], log + text)
+    begun.case(file, "one byte at a time", ["image 1", "new 1", "page 1"], log + text)
     begun.failing_reads(file, "image")
     resumed = Command("resume", [("image", COUNTER), ("log", NO_TURN), ("turns", turns)], RUN_DUMP)
     resumed.case(file, "a few bytes at a time", ["image 7", "log 7", "new 9", "page 9"], log + text)
+    resumed.case(file, "one byte at a time", ["image 1", "log 1", "new 1", "page 1"], log + text)
     resumed.failing_reads(file, "image")
     resumed.failing_reads(file, "log")
     for command in begun, resumed:

@@ -10,7 +10,7 @@ use crate::invocations::words_of;
 use hrv_command_line::{Invocation, command};
 use hrv_engines::{
     Fault, Question, asm_bytes, blame_bytes, debug_bytes, dis_addresses_bytes, dis_bytes,
-    explain_bytes, picture_bytes, renew_bytes, replay_bytes,
+    explain_bytes, picture_bytes, renew_bytes, replay_bytes, version_bytes,
 };
 use std::alloc::{AllocError, Global};
 use std::thread::Threads;
@@ -53,17 +53,24 @@ pub fn push_addresses(alloc: Global, parts: &[Part], out: &mut String) -> Result
     push_answer(answered, &page, out)
 }
 
-/// What a refusal means.
+/// What a refusal means. Where none is asked about, the version.
 pub fn push_explained(alloc: Global, parts: &[Part], out: &mut String) -> Result<(), Failure> {
     let (parts, devices) = devices_of(parts);
     let [words] = parts else {
-        return Err(Failure::Malformed("not one part"));
+        return push_version(alloc, &devices, out);
     };
     let mut words = words.named("words")?.lines();
     let family = words.next().unwrap_or("");
     let code = words.next().unwrap_or("");
     let mut page = devices.page(alloc)?;
     let answered = explain_bytes(alloc, family, code, &mut page);
+    push_answer(answered, &page, out)
+}
+
+/// The version, and the logic.
+fn push_version(alloc: Global, devices: &Devices, out: &mut String) -> Result<(), Failure> {
+    let mut page = devices.page(alloc)?;
+    let answered = version_bytes(alloc, &mut page);
     push_answer(answered, &page, out)
 }
 

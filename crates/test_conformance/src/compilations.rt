@@ -1,8 +1,10 @@
 //! Compiled images: what the rules say of their bytes, and the pictures that they leave.
 
+ghost use Rattle.std.specs.Prelude.{◌≡◌};
+
 use crate::algorithms::push_bytes;
-use crate::commands::{pictures_of, push_answer, push_digits, push_stored, texts_of};
-use crate::devices::devices_of;
+use crate::commands::{pictures_of, push_digits, push_stored, texts_of};
+use crate::devices::{devices_of, failing_page};
 use crate::failures::Failure;
 use disassembler::write_lines;
 use hrv_engines::{Fault, compile_bytes, map_bytes, replay_bytes};
@@ -13,6 +15,20 @@ use test_devices::{Page, empty_page, tape_of};
 
 /// What compiling the texts of a case stores, and how it ended.
 pub fn compiled(alloc: Global, parts: &[Part]) -> Result<(Page, Result<(), Fault>), Failure> {
+    let (_, devices) = devices_of(parts);
+    let mut page = devices.page(alloc)?;
+    let answered = compile_onto(alloc, parts, &mut page)?;
+    Ok((page, answered))
+}
+
+/// Compiles the texts of a case onto a page, and says how it ended.
+fn compile_onto(
+    alloc: Global,
+    parts: &[Part],
+    page: &mut Page,
+) -> Result<Result<(), Fault>, Failure>
+    requires { page.old.failures ≡ 0 }
+{
     let (parts, devices) = devices_of(parts);
     let [algorithm, schedule, inputs @ ..] = parts else {
         return Err(Failure::Malformed("not two parts"));
@@ -21,15 +37,48 @@ pub fn compiled(alloc: Global, parts: &[Part]) -> Result<(Page, Result<(), Fault
     let schedule = schedule.bytes(alloc, "schedule")?;
     let texts = texts_of(alloc, inputs)?;
     let mut pictures = pictures_of(alloc, &devices, &texts)?;
-    let mut page = devices.page(alloc)?;
     let answered = compile_bytes(
         alloc,
         &mut devices.tape("algorithm", &algorithm)?,
         &mut devices.tape("schedule", &schedule)?,
         pictures.as_mut_slice(),
-        &mut page,
+        page,
     );
-    Ok((page, answered))
+    Ok(answered)
+}
+
+/// How many bytes a page takes in one write, where each write of an image fails in turn.
+const STEP: usize = 16;
+
+/// Whether each write of an image that fails leaves what was written before it, and so a page that isn't made whole.
+pub fn push_cuts(alloc: Global, parts: &[Part], out: &mut String) -> Result<(), Failure> {
+    let (whole, answered) = compiled(alloc, parts)?;
+    answered?;
+    let mut calls = 0_u32;
+    for _ in whole.bytes.chunks(STEP) {
+        push_wrong_cut(alloc, parts, &whole.bytes, calls, out)?;
+        calls = calls.saturating_add(1);
+    }
+    push_wrong_cut(alloc, parts, &whole.bytes, calls, out)?;
+    Ok(out.push_str("each failing write leaves what was written\n")?)
+}
+
+/// A line where a page whose write behind so many fails isn't left with what these wrote.
+fn push_wrong_cut(
+    alloc: Global,
+    parts: &[Part],
+    whole: &[u8],
+    calls: u32,
+    out: &mut String,
+) -> Result<(), Failure> {
+    let mut page = failing_page(alloc, STEP, calls);
+    let answered = compile_onto(alloc, parts, &mut page)?;
+    let (written, _) = whole.split_at(STEP.wrapping_mul(calls as usize).min(whole.len()));
+    let is_refused = matches!(answered, Err(Fault::File(_)));
+    if !is_refused || page.bytes.as_slice() != written {
+        writeln!(out, "write {calls} is another")?;
+    }
+    Ok(())
 }
 
 /// An image that is stored without its words, and the picture that one hart leaves; or the bytes up to a refusal.
@@ -73,7 +122,7 @@ pub fn push_accesses(alloc: Global, parts: &[Part], out: &mut String) -> Result<
     push_lanes(alloc, &page.bytes, out)
 }
 
-/// The map of an algorithm under a schedule, but for where code lies.
+/// The map of an algorithm under a schedule, but for where code lies, or what was written of it before a refusal.
 pub fn push_map(alloc: Global, parts: &[Part], out: &mut String) -> Result<(), Failure> {
     let (parts, devices) = devices_of(parts);
     let [algorithm, schedule] = parts else {
@@ -88,18 +137,22 @@ pub fn push_map(alloc: Global, parts: &[Part], out: &mut String) -> Result<(), F
         &mut devices.tape("schedule", &schedule)?,
         &mut page,
     );
-    if answered.is_err() {
-        return push_answer(answered, &page, out);
-    }
     let Ok(map) = str::from_utf8(&page.bytes) else {
         return Err(Failure::Malformed("the map is no text"));
     };
-    for line in map.lines() {
+    let (lines, rest) = match map.rsplit_once('\n') {
+        Some((lines, rest)) => (lines, rest),
+        None => ("", map),
+    };
+    for line in lines.lines() {
         if !line.starts_with("code ") {
             writeln!(out, "{}", without_code(line))?;
         }
     }
-    Ok(())
+    if !rest.is_empty() {
+        writeln!(out, "{}\\", without_code(rest))?;
+    }
+    Ok(answered?)
 }
 
 /// A line up to where it says code lies.

@@ -84,6 +84,16 @@ impl Devices<'_> {
     }
 }
 
+/// A page that takes so many bytes a write, whose write behind so many fails.
+pub fn failing_page(alloc: Global, step: usize, calls: u32) -> Page
+    ensures { result.failures ≡ 0 }
+{
+    let mut page = empty_page(alloc);
+    page.step = step;
+    page.writes_left = Some(calls);
+    page
+}
+
 /// The setting that numbers stand for.
 fn setting_of(numbers: &str) -> Result<Setting, Failure> {
     let (step, calls) = match numbers.split_once(' ') {

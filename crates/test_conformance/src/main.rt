@@ -18,7 +18,7 @@
 //! | `asm` | `source` | the image's bytes, in hexadecimal |
 //! | `dis` | `image` | the listing |
 //! | `addresses` | `image` | the listing with addresses |
-//! | `explain` | `words`: a family, and below it a code where there is one | what the refusal means |
+//! | `explain` | `words`: a family, below it a code if there is one; or no part | what it means, or the version |
 //! | `renew` | `image` | the renewed image's bytes, in hexadecimal |
 //! | `replay` | `image`, `log`: lines in hexadecimal | the dump |
 //! | `debug` | `image`, `log`: lines in hexadecimal; `lines` | the talk |
@@ -26,6 +26,7 @@
 //! | `run` | `image`; `turns`: how many a hart makes at most | the log of one hart, in hexadecimal, and the dump |
 //! | `resume` | `image`, `log`; `turns` | the same, from where a log of one hart ends |
 //! | `compile` | `algorithm`, `schedule`, any number of `picture` | the image but for its words, one hart's picture |
+//! | `cut` | as `compile` | whether each write that fails leaves what was written before it |
 //! | `map` | `algorithm`, `schedule` | the map, but for where code lies |
 //! | `accesses` | as `compile` | how many vector loads and stores are listed, and one hart's lanes at its end |
 //! | `threads` | `image`, `harts`, `turns` | of a run by threads the lines of the harts and of the picture |
@@ -71,7 +72,7 @@ use crate::commands::{
     push_addresses, push_blame, push_drawing, push_explained, push_image, push_lines, push_renewal,
     push_replay, push_talk,
 };
-use crate::compilations::{push_accesses, push_compilation, push_map};
+use crate::compilations::{push_accesses, push_compilation, push_cuts, push_map};
 use crate::failures::Failure;
 use crate::invocations::push_invocation;
 use crate::runs::{push_resumption, push_run};
@@ -162,6 +163,7 @@ fn push_answer(
         "run" => push_run(rt, alloc, parts, out),
         "resume" => push_resumption(rt, alloc, parts, out),
         "compile" => push_compilation(alloc, parts, out),
+        "cut" => push_cuts(alloc, parts, out),
         "map" => push_map(alloc, parts, out),
         "accesses" => push_accesses(alloc, parts, out),
         "threads" => push_threads(rt, alloc, parts, out),
