@@ -1,5 +1,7 @@
 //! Algorithms and pictures that are longer than any that is read.
 
+ghost use Rattle.std.specs.Prelude.{◌≡◌, ◌<◌, ◌^◌};
+
 use crate::{Tape, empty_page, line_of, tape_of};
 use hrv_engines::devices::{CHUNK, MOST_ALGORITHM_BYTES, MOST_PICTURE_BYTES};
 use hrv_engines::{map_bytes, picture_bytes};
@@ -12,6 +14,7 @@ const REST: usize = 1_000_000;
 /// How many bytes are read of a longer text.
 fn read_of(most: usize) -> usize
     requires { most < 100_000_000 }
+    ensures { result < 2 ^ 32 }
 {
     ((most + 3) / CHUNK + 1) * CHUNK
 }
