@@ -43,12 +43,9 @@ use Rattle.task_code_scalar.proofs.Placing.{store-does}
 use Rattle.task_code_scalar.proofs.Copying.{laid-does}
 use Rattle.task_code_scalar.proofs.Looping.{each-turn, loop-does}
 use Rattle.task_code_scalar.proofs.Binding.{bind-does}
-use Rattle.task_code_vector.specs.Rounds.{rounds_code, rounds_turns, rounds_fit}
-use Rattle.task_code_vector.proofs.Looping.{loop-does as rounds-done}
 use Rattle.task_code_vector.proofs.CollectedLooping.{loop-does as collected-done}
 use Rattle.task_code_lanes.specs.declared.groups.Group.{Group}
-use Rattle.task_code.specs.inner.Code.{code_taken, turns_taken, group_taken, group_collected, code_otherwise, turns_otherwise}
-use Rattle.task_code.proofs.Taking.{IsTaken, is-taken}
+use Rattle.task_code.specs.inner.Code.{group_collected, code_chosen, turns_chosen}
 use Rattle.task_code.proofs.Unrolled.{in_turn, turns_in_turn, code-store, code-sequence, code-for, code-bind, fits-store, fits-sequence, fits-for, fits-bind, turns-store, turns-sequence, turns-for, turns-bind}
 use Rattle.task_code.proofs.Collecting.{is-collected, none-left, loop-fits}
 
@@ -172,30 +169,21 @@ module _ (own : Setting) (good : IsSetting own) where
       went-hits own (λ func x y h. sym (hit-for own.points own.inputs func x y counter count kind body values funcs) ∙ h)
       (went-is own refl (sym (run_for own.points own.inputs counter count kind body values funcs)) a)
 
-  -- its rounds at once
-  rounds-at-once : (counter : Counter) (count : ℕ) (body : Stmt) (scope : List Counter) (values : Values) (f : ℕ → ℕ) (memory : List ℕ) (funcs : Planes) → HoldsFuncs own memory funcs → Knows own.world own.harts scope values f
-      → (group : Group) (kind : LoopKind) → kind ≡ kinds.Vectorized → rounds_fit group own.places scope counter count body ≡ true → SoundIn own (s.For counter count kind body) values → AtOnceIn own (s.For counter count kind body) values
-      → RunsIn own (s.For counter count kind body) values
-      → Does own (rounds_code group own.places scope counter count body) (rounds_turns group own.places scope counter body values) f memory (length scope) (after (s.For counter count kind body) values funcs) (hits (s.For counter count kind body) values funcs)
-  rounds-at-once counter count body scope values f memory funcs holds knows group kinds.Serial e fit sound once sure = absurd (cc e)
-  rounds-at-once counter count body scope values f memory funcs holds knows group kinds.Unrolled e fit sound once sure = absurd (cc e)
-  rounds-at-once counter count body scope values f memory funcs holds knows group kinds.Vectorized e fit sound once sure = rounds-done own good group counter count body scope values fit sound sure f memory funcs (once funcs holds.are_words) holds knows
-
-  -- they collect their pixels, or are done in turn
-  abbrev Otherwise : Counter → ℕ → LoopKind → Stmt → List Counter → Values → (ℕ → ℕ) → List ℕ → Planes → Option Group → Type 0
-  Otherwise counter count kind body scope values f memory funcs group =
-      Does own (code_otherwise own.places scope counter count body (in_turn own.places scope counter count kind body) group)
-      (turns_otherwise own.places scope counter count body values (turns_in_turn own.places scope counter count kind body values) group) f memory (length scope)
+  -- it collects its pixels, or its iterations are done in turn
+  abbrev Chosen : Counter → ℕ → LoopKind → Stmt → List Counter → Values → (ℕ → ℕ) → List ℕ → Planes → Option Group → Type 0
+  Chosen counter count kind body scope values f memory funcs group =
+      Does own (code_chosen own.places scope counter count body (in_turn own.places scope counter count kind body) group)
+      (turns_chosen own.places scope counter count body values (turns_in_turn own.places scope counter count kind body values) group) f memory (length scope)
       (after (s.For counter count kind body) values funcs) (hits (s.For counter count kind body) values funcs)
 
   -- Where the rounds of a vectorized loop may be done at once, they are one store, and as many as a group has lanes: it is never done in turn.
-  at-others : (counter : Counter) (count : ℕ) (kind : LoopKind) (body : Stmt) → Follows body → (scope : List Counter) (values : Values) → fits own.places (s.For counter count kind body) scope ≡ true
+  by-choice : (counter : Counter) (count : ℕ) (kind : LoopKind) (body : Stmt) → Follows body → (scope : List Counter) (values : Values) → fits own.places (s.For counter count kind body) scope ≡ true
       → SoundIn own (s.For counter count kind body) values → AtOnceIn own (s.For counter count kind body) values → RunsIn own (s.For counter count kind body) values
       → (f : ℕ → ℕ) (memory : List ℕ) (funcs : Planes) → HoldsFuncs own memory funcs → Knows own.world own.harts scope values f
-      → Otherwise counter count kind body scope values f memory funcs (group_collected count kind body)
-  at-others counter count kinds.Serial body inner scope values is sound once sure f memory funcs holds knows = in-turn counter count kinds.Serial body inner scope values is sound once sure refl f memory funcs holds knows
-  at-others counter count kinds.Unrolled body inner scope values is sound once sure f memory funcs holds knows = in-turn counter count kinds.Unrolled body inner scope values is sound once sure refl f memory funcs holds knows
-  at-others counter count kinds.Vectorized body inner scope values is sound once sure f memory funcs holds knows = by-group (group_collected count kinds.Vectorized body) refl
+      → Chosen counter count kind body scope values f memory funcs (group_collected count kind body)
+  by-choice counter count kinds.Serial body inner scope values is sound once sure f memory funcs holds knows = in-turn counter count kinds.Serial body inner scope values is sound once sure refl f memory funcs holds knows
+  by-choice counter count kinds.Unrolled body inner scope values is sound once sure f memory funcs holds knows = in-turn counter count kinds.Unrolled body inner scope values is sound once sure refl f memory funcs holds knows
+  by-choice counter count kinds.Vectorized body inner scope values is sound once sure f memory funcs holds knows = by-group (group_collected count kinds.Vectorized body) refl
     where
       r : Rounds
       r = rounds (reads_of own.inputs funcs) body
@@ -208,28 +196,16 @@ module _ (own : Setting) (good : IsSetting own) where
           let b = and_parts (is_round_count count) (r.is_one_store && (are_apart r at count && all_step_up r at count)) a.0 in
           (b.0, (and_parts r.is_one_store (are_apart r at count && all_step_up r at count) b.1).0)
 
-      by-group : (group : Option Group) → group_collected count kinds.Vectorized body ≡ group → Otherwise counter count kinds.Vectorized body scope values f memory funcs group
+      by-group : (group : Option Group) → group_collected count kinds.Vectorized body ≡ group → Chosen counter count kinds.Vectorized body scope values f memory funcs group
       by-group None e = absurd (none-left (reads_of own.inputs funcs) count body parts.0 parts.1 e)
       by-group (Some group) e =
           let k = is-collected count kinds.Vectorized body group e in
           collected-done own good group counter count body scope values (loop-fits group own.places scope counter count kinds.Vectorized body k.one k.count_is is) sound sure f memory funcs (once funcs holds.are_words) holds knows
 
-  -- at once, or otherwise
   at-for : (counter : Counter) (count : ℕ) (kind : LoopKind) (body : Stmt) → Follows body → Follows (s.For counter count kind body)
   at-for counter count kind body inner scope values is sound once sure f memory funcs holds knows =
       recoded (sym (code-for own.places counter count kind body scope))
-      (went-is own (sym (turns-for own.places counter count kind body scope values)) refl
-      (by-group (group_taken own.places scope counter count kind body (in_turn own.places scope counter count kind body)) (is-taken own.places scope counter count body kind (in_turn own.places scope counter count kind body))
-      (λ group k. rounds-at-once counter count body scope values f memory funcs holds knows group kind k.kind_is k.fits sound once sure) (at-others counter count kind body inner scope values is sound once sure f memory funcs holds knows)))
-    where
-      by-group : (taken : Option Group) → ((group : Group) → taken ≡ Some group → IsTaken own.places scope counter count body kind group)
-          → ((group : Group) → IsTaken own.places scope counter count body kind group
-          → Does own (rounds_code group own.places scope counter count body) (rounds_turns group own.places scope counter body values) f memory (length scope) (after (s.For counter count kind body) values funcs) (hits (s.For counter count kind body) values funcs))
-          → Otherwise counter count kind body scope values f memory funcs (group_collected count kind body)
-          → Does own (code_taken own.places scope counter count kind body (in_turn own.places scope counter count kind body) taken)
-          (turns_taken own.places scope counter count kind body values (turns_in_turn own.places scope counter count kind body values) taken) f memory (length scope) (after (s.For counter count kind body) values funcs) (hits (s.For counter count kind body) values funcs)
-      by-group None facts at_once others = others
-      by-group (Some group) facts at_once others = at_once group (facts group refl)
+      (went-is own (sym (turns-for own.places counter count kind body scope values)) refl (by-choice counter count kind body inner scope values is sound once sure f memory funcs holds knows))
 
   at-bind : (counter : Counter) (whole : Whole) (extent : ℕ) (body : Stmt) → Follows body → Follows (s.Bind counter whole extent body)
   at-bind counter whole extent body inner scope values is sound once sure f memory funcs holds knows = by-test (nat_lt (whole_value whole values) extent) refl

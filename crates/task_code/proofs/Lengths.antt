@@ -34,9 +34,9 @@ use Rattle.task_code_scalar.specs.Code.{Made, Deep, pair, divided, triple, besid
 use Rattle.task_code_statements.specs.Tasks.{restored}
 use Rattle.task_code.specs.Tasks.{task_size}
 use Rattle.task_code.specs.inner.Code.{stmt_code, task_code, task_scope}
-use Rattle.task_code.specs.inner.Code.{code_taken, group_of_loop, group_taken}
+use Rattle.task_code.specs.inner.Choosing.{chosen}
 use Rattle.task_code.proofs.StmtRefusing.{turns-length}
-use Rattle.task_code.proofs.Taking.{all-short}
+use Rattle.task_code.proofs.Choosing.{others-short}
 use Rattle.task_code.proofs.Unrolled.{in_turn, code-store, code-sequence, code-for, code-bind}
 
 -- ---- parts of code
@@ -298,13 +298,13 @@ module _ (places : Places) where
       all-room : {n : ℕ} → n ≤ whole_size body + 38 → n ≤ whole_size body + 7 + 31
       all-room l = omega (arith, l)
 
-      by-kind : (kind : LoopKind) → length (code_taken places scope counter count kind body (in_turn places scope counter count kind body) (group_taken places scope counter count kind body (in_turn places scope counter count kind body)))
+      by-kind : (kind : LoopKind) → length (chosen places scope counter count kind body (in_turn places scope counter count kind body))
           ≤ loop_room (is_laid_out kind) count (whole_size body)
       by-kind kinds.Serial = let l = turns-few kinds.Serial in omega (arith, l)
       by-kind kinds.Unrolled = let l = turns-few kinds.Unrolled in omega (arith, l)
       by-kind kinds.Vectorized =
           let plain = in_turn places scope counter count kinds.Vectorized body in
-          all-room (all-short places scope counter count body kinds.Vectorized plain (group_of_loop places scope counter count kinds.Vectorized body) (plain-room (turns-few kinds.Vectorized)) (inner (counter ∷ scope)))
+          all-room (others-short places scope counter count body kinds.Vectorized plain (plain-room (turns-few kinds.Vectorized)) (inner (counter ∷ scope)))
 
   at-bind : (counter : Counter) (whole : Whole) (extent : ℕ) (body : Stmt) → IsShort body → IsShort (s.Bind counter whole extent body)
   at-bind counter whole extent body inner scope =

@@ -1,3 +1,4 @@
+pub mod Choosing
 pub mod Collecting
 pub mod Counting
 pub mod ExampleTask
@@ -8,5 +9,4 @@ pub mod Lengths
 pub mod Nests
 pub mod Promising
 pub mod StmtRefusing
-pub mod Taking
 pub mod Unrolled

@@ -22,7 +22,7 @@ use Rattle.task_code.specs.inner.Emitting.{EmitsStmt, EmitsCode}
 use Rattle.task_code_scalar.specs.Words.{Emits}
 use Rattle.task_code_scalar.proofs.WordTests.{word-test}
 use Rattle.task_code_scalar.proofs.Spelling.{emits_then, emits-is}
-use Rattle.task_code.specs.inner.Code.{code_taken, group_taken}
+use Rattle.task_code.specs.inner.Choosing.{chosen}
 use Rattle.task_code.proofs.Unrolled.{in_turn, code-store, code-sequence, code-for, code-bind, fits-store, fits-sequence, fits-for, fits-bind}
 
 seat-test : (n : ℕ) → n < 14 → nat_lt n 14 ≡ true
@@ -55,7 +55,7 @@ inner-emitted places start made slice view items wanted x body es em ev ew ex a 
     (subst (λ z. EmitsStmt [] z places x view) (sym em)
     (subst (λ z. EmitsStmt z made places x view) es a)))
 
--- the words of a loop's rounds in turn
+-- the words of a loop's iterations in turn
 pub turns-made : (places : Places) (scope : List Counter) (counter : Counter) (count r : ℕ) (kind : LoopKind) (laid : Bool) (body : Stmt) (inner start turns slice : List ℕ) → laid ≡ is_laid_out kind → r ≡ seat (length scope)
     → EmitsStmt [] inner places body (counter ∷ scope) → ((insns : List Insn) → Emits [] inner insns → Emits start turns (turns_code laid r count insns)) → start ≡ [] → slice ≡ turns
     → Emits [] slice (in_turn places scope counter count kind body)
@@ -69,12 +69,12 @@ turns-made places scope counter count r kind laid body inner start turns slice e
 pub for-emitted : (places : Places) (scope : List Counter) (own body x : Stmt) (counter : Counter) (count r : ℕ) (kind : LoopKind) (laid : Bool) (inner start turns slice c0 c1 : List ℕ)
     → own ≡ s.For counter count kind body → x ≡ body → laid ≡ is_laid_out kind → r ≡ seat (length scope) → length scope < 14 → EmitsStmt [] inner places body (counter ∷ scope)
     → ((insns : List Insn) → Emits [] inner insns → Emits start turns (turns_code laid r count insns)) × (count < 2 ^ 32) → start ≡ [] → slice ≡ turns
-    → ((plain : List Insn) → Emits [] slice plain → Emits c0 c1 (code_taken places scope counter count kind x plain (group_taken places scope counter count kind x plain))) → EmitsStmt c0 c1 places own scope
-for-emitted places scope own body x counter count r kind laid inner start turns slice c0 c1 e ex el er few part loop e0 es taken =
+    → ((plain : List Insn) → Emits [] slice plain → Emits c0 c1 (chosen places scope counter count kind x plain)) → EmitsStmt c0 c1 places own scope
+for-emitted places scope own body x counter count r kind laid inner start turns slice c0 c1 e ex el er few part loop e0 es emitted =
     let plain = in_turn places scope counter count kind body in
-    let all = taken plain (turns-made places scope counter count r kind laid body inner start turns slice el er part loop.0 e0 es) in
+    let all = emitted plain (turns-made places scope counter count r kind laid body inner start turns slice el er part loop.0 e0 es) in
     subst (λ z. EmitsStmt c0 c1 places z scope) (sym e) (record {
-      emits = emits-is (subst (λ y. Emits c0 c1 (code_taken places scope counter count kind y plain (group_taken places scope counter count kind y plain))) ex all) (sym (code-for places counter count kind body scope));
+      emits = emits-is (subst (λ y. Emits c0 c1 (chosen places scope counter count kind y plain)) ex all) (sym (code-for places counter count kind body scope));
       has_room = fits-for places counter count kind body scope
           ∙ and_from (has_seat scope) _ (seat-test (length scope) few) (and_from (is_word count) (fits places body (counter ∷ scope)) (word-test count loop.1) part.has_room);
     })

@@ -30,10 +30,9 @@ use Rattle.task_code.specs.inner.Emitting.{EmitsStmt}
 use Rattle.task_code_scalar.proofs.Refusing.{passed}
 use Rattle.task_code_scalar.proofs.Spelling.{emits-length}
 use Rattle.task_code_vector.proofs.CollectedEmission.{bind-length, less-room}
-use Rattle.task_code.specs.inner.Code.{group_of_loop}
-use Rattle.task_code.specs.inner.Taking.{IsTakenFault}
+use Rattle.task_code.specs.inner.Choosing.{IsChosenFault}
 use Rattle.task_code.proofs.Nests.{turns-made}
-use Rattle.task_code.proofs.Taking.{long-stays, others-long}
+use Rattle.task_code.proofs.Choosing.{others-long}
 use Rattle.task_code.proofs.Unrolled.{in_turn, code-sequence, code-for, code-bind}
 
 -- ---- lengths
@@ -140,8 +139,7 @@ module _ (places : Places) where
       let plain = in_turn places scope counter count kind body in
       let n = turns-length (is_laid_out kind) (seat (length scope)) count (stmt_code places body (counter ∷ scope)) in
       let l : 2 ^ 18 ≤ length plain = omega (arith, n, long) in
-      let e = code-for places counter count kind body scope ∙ long-stays places scope counter count body kind plain (group_of_loop places scope counter count kind body) l in
-      subst IsLong (sym e) (others-long places scope counter count body kind plain l (λ is. n ∙ ap (λ (k : LoopKind). loop_size (is_laid_out k) count (length (stmt_code places body (counter ∷ scope)))) is))
+      subst IsLong (sym (code-for places counter count kind body scope)) (others-long places scope counter count body kind plain l (λ is. n ∙ ap (λ (k : LoopKind). loop_size (is_laid_out k) count (length (stmt_code places body (counter ∷ scope)))) is))
 
   for-is : (counter : Counter) (count : ℕ) (kind : LoopKind) (body : Stmt) (scope : List Counter) → IsPart body (counter ∷ scope) (s.For counter count kind body) scope
   for-is counter count kind body scope = record {
@@ -164,11 +162,11 @@ module _ (places : Places) where
   pub for-passed : {T : Type 0} (result : Result T CodeFault) (fault : CodeFault) (own body x : Stmt) (counter : Counter) (count r : ℕ) (kind : LoopKind) (laid : Bool) (scope : List Counter) (inner start turns slice : List ℕ)
       → IsErrAnd result (λ error. error ≡ fault) → own ≡ s.For counter count kind body → x ≡ body → laid ≡ is_laid_out kind → r ≡ seat (length scope) → EmitsStmt [] inner places body (counter ∷ scope)
       → ((insns : List Insn) → Emits [] inner insns → Emits start turns (turns_code laid r count insns)) → start ≡ [] → slice ≡ turns
-      → IsTakenFault places scope counter count kind x slice fault → IfErr result (IsStmtFault places own scope)
+      → IsChosenFault places scope counter count kind x slice fault → IfErr result (IsStmtFault places own scope)
   for-passed result fault own body x counter count r kind laid scope inner start turns slice from e ex el er part loop e0 es is =
       let plain = in_turn places scope counter count kind body in
       let made = turns-made places scope counter count r kind laid body inner start turns slice el er part loop e0 es in
-      let own-fault = subst (λ y. IsTakenFault places scope counter count kind y slice fault) ex is in
+      let own-fault = subst (λ y. IsChosenFault places scope counter count kind y slice fault) ex is in
       subst (λ y. IfErr result (IsStmtFault places y scope)) (sym e)
       (passed result fault from (λ long. subst IsLong (sym (code-for places counter count kind body scope)) (long plain made))
       (λ none fits. let k = (for-is counter count kind body scope).room fits in let seats = k.1.1 in none (k.0, (k.1.0, omega (arith, seats)))) own-fault)

@@ -16,7 +16,7 @@ use Rattle.loop_ir.specs.Running.{whole_value}
 use Rattle.loop_ir.specs.Sizes.{is_laid_out}
 use Rattle.task_code_scalar.specs.declared.places.Places.{Places}
 use Rattle.task_code_scalar.specs.Code.{seat, store_code, turns_code, whole_code, bind_code}
-use Rattle.task_code.specs.inner.Code.{Coded, coded, coded_at, stmt_code, stmt_turns, code_taken, turns_taken, turns_of, group_taken}
+use Rattle.task_code.specs.inner.Code.{Coded, coded, coded_at, stmt_code, stmt_turns, code_chosen, turns_chosen, turns_of, group_collected}
 use Rattle.task_code_scalar.specs.Fitting.{is_word, has_seat, fits_store, fits_whole}
 use Rattle.task_code.specs.inner.Fitting.{fits_at, fits}
 
@@ -62,7 +62,7 @@ module _ (places : Places) where
 
   -- ---- code
 
-  -- the rounds of a loop in turn
+  -- the iterations of a loop in turn
   abbrev pub in_turn : List Counter → Counter → ℕ → LoopKind → Stmt → List Insn
   in_turn scope counter count kind body = turns_code (is_laid_out kind) (seat (length scope)) count (stmt_code places body (counter ∷ scope))
 
@@ -73,10 +73,10 @@ module _ (places : Places) where
   code-sequence first second scope = ap (λ (c : Coded). c.code scope) (coded-sequence first second)
 
   pub code-for : (counter : Counter) (count : ℕ) (kind : LoopKind) (body : Stmt) (scope : List Counter) → stmt_code places (s.For counter count kind body) scope
-      ≡ code_taken places scope counter count kind body (in_turn scope counter count kind body) (group_taken places scope counter count kind body (in_turn scope counter count kind body))
+      ≡ code_chosen places scope counter count body (in_turn scope counter count kind body) (group_collected count kind body)
   code-for counter count kind body scope =
       let plain = in_turn scope counter count kind body in
-      ap (λ (c : Coded). c.code scope) (coded-for counter count kind body) ∙ ap (λ b. code_taken places scope counter count kind b plain (group_taken places scope counter count kind b plain)) (own-is body)
+      ap (λ (c : Coded). c.code scope) (coded-for counter count kind body) ∙ ap (λ b. code_chosen places scope counter count b plain (group_collected count kind b)) (own-is body)
 
   pub code-bind : (counter : Counter) (whole : Whole) (extent : ℕ) (body : Stmt) (scope : List Counter)
       → stmt_code places (s.Bind counter whole extent body) scope ≡ bind_code scope whole extent (seat (length scope)) (stmt_code places body (counter ∷ scope))
@@ -119,11 +119,11 @@ module _ (places : Places) where
   turns_in_turn scope counter count kind body values = turns_of (is_laid_out kind) count (λ turn. stmt_turns places body (counter ∷ scope) (with counter turn values))
 
   pub turns-for : (counter : Counter) (count : ℕ) (kind : LoopKind) (body : Stmt) (scope : List Counter) (values : Values) → stmt_turns places (s.For counter count kind body) scope values
-      ≡ turns_taken places scope counter count kind body values (turns_in_turn scope counter count kind body values) (group_taken places scope counter count kind body (in_turn scope counter count kind body))
+      ≡ turns_chosen places scope counter count body values (turns_in_turn scope counter count kind body values) (group_collected count kind body)
   turns-for counter count kind body scope values =
       let plain = in_turn scope counter count kind body in
       let n = turns_in_turn scope counter count kind body values in
-      ap (λ (c : Coded). c.turns scope values) (coded-for counter count kind body) ∙ ap (λ b. turns_taken places scope counter count kind b values n (group_taken places scope counter count kind b plain)) (own-is body)
+      ap (λ (c : Coded). c.turns scope values) (coded-for counter count kind body) ∙ ap (λ b. turns_chosen places scope counter count b values n (group_collected count kind b)) (own-is body)
 
   pub turns-bind : (counter : Counter) (whole : Whole) (extent : ℕ) (body : Stmt) (scope : List Counter) (values : Values)
       → stmt_turns places (s.Bind counter whole extent body) scope values

@@ -1,6 +1,6 @@
+pub mod Choosing
 pub mod Code
 pub mod Doing
 pub mod Emitting
 pub mod Faults
 pub mod Fitting
-pub mod Taking

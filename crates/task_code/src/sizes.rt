@@ -130,13 +130,6 @@ fn whole_size(stmt: &Stmt) -> u32
     }
 }
 
-/// Of a loop around a statement whose rounds are made at once.
-pub(crate) fn at_once_size(body: &Stmt) -> u32
-    ensures { result ≡ min (spec.whole_size body.now + 38) (2 ^ 18) }
-{
-    plus(whole_size(body), 38)
-}
-
 /// Of one task of a phase, or 2^18 where it is more.
 pub(crate) fn task_size(phase: &Phase) -> u32
     ensures { result ≡ min (task_size phase.now) (2 ^ 18) }

@@ -1,6 +1,6 @@
 //! The code of statements and of a task.
 
-ghost use Rattle.std.specs.Prelude.{◌≡◌, ◌+◌, ◌^◌, ◌<◌, ◌&&◌, [], ◌∷◌, nat_le, nat_lt, OnErr, OnOk, IfErr, IfOk, true};
+ghost use Rattle.std.specs.Prelude.{◌≡◌, ◌+◌, ◌^◌, ◌<◌, [], ◌∷◌, OnErr, OnOk, IfErr, IfOk, true};
 ghost use Rattle.task_code_scalar.specs.Code.{store_code};
 ghost use Rattle.task_code.specs.inner.Code as spec;
 ghost use Rattle.task_code_scalar.specs.Faults.{FitsStore, IsFault};
@@ -8,11 +8,11 @@ ghost use Rattle.task_code.specs.Faults.{IsTaskFault};
 ghost use Rattle.task_code.specs.inner.Emitting.{EmitsCode, EmitsStmt, EmitsTaskIf};
 ghost use Rattle.task_code.specs.inner.Faults.{IsCodeFault, IsStmtFault};
 ghost use Rattle.task_code_scalar.specs.Fitting.{fits_store};
-ghost use Rattle.task_code.specs.inner.Taking.{EmitsAtOnce, EmitsOtherwise, EmitsTaken, IsOtherwiseFault, IsTakenFault};
+ghost use Rattle.task_code.specs.inner.Choosing.{EmitsChosen, IsChosenFault};
 ghost use Rattle.task_code.specs.Tasks.{EmitsTask};
 ghost use Rattle.task_code_scalar.specs.Words.{Emits};
 
-use crate::sizes::{at_once_size, is_laid_out, task_size};
+use crate::sizes::{is_laid_out, task_size};
 use crate::turns::{add_turns, turns_of};
 use halide_pipeline::Source;
 use loop_ir::expressions::Counter;
@@ -32,7 +32,6 @@ use task_code_statements::stages::{
 use task_code_statements::tasks;
 use task_code_statements::tasks::emit_restored;
 use task_code_vector::collecting::{emit_collected, is_one_store};
-use task_code_vector::rounds::emit_rounds;
 use task_code_vector::vector_loops::VectorLoop;
 
 /// A loop taken apart: its variable, how often it runs, of which kind it is, and what it does each time.
@@ -64,48 +63,7 @@ fn emit_store(
     Ok(())
 }
 
-/// Appends the code of a loop whose rounds are done at once, where they can be; it says whether it did.
-fn emit_at_once(
-    alloc: Global,
-    code: &mut Vec<u32>,
-    places: &Places,
-    scope: &[Counter],
-    own: &Loop<'_>,
-) -> Result<bool, AllocError>
-    ensures { IfOk result (λ found. EmitsAtOnce code.old.items code.new.items places.now scope.now own.now.counter
-        own.now.count own.now.body.now found
-        (spec.group_of_loop places.now scope.now own.now.counter own.now.count own.now.kind own.now.body.now)) }
-{
-    match own.kind {
-        LoopKind::Serial => Ok(false),
-        LoopKind::Unrolled => Ok(false),
-        LoopKind::Vectorized => match Group::of_rounds(own.count) {
-            None => Ok(false),
-            Some(group) => {
-                let rounds = VectorLoop {
-                    counter: own.counter,
-                    count: own.count,
-                    body: own.body,
-                };
-                match emit_rounds(alloc, code, group, places, scope, &rounds) {
-                    Ok(()) => Ok(true),
-                    Err(CodeFault::OutOfMemory(error)) => Err(error),
-                    Err(CodeFault::TooLong) => Ok(false),
-                    Err(CodeFault::TooDeep) => Ok(false),
-                }
-            }
-        },
-    }
-}
-
-/// Whether code of so many words, of at most so many, is taken in place of that of the rounds in turn.
-fn is_taken(found: bool, at_once: usize, in_turn: usize, most: u32) -> bool
-    ensures { result ≡ (found && (nat_lt in_turn (2 ^ 18) && nat_le at_once most)) }
-{
-    found && in_turn < 1 << 18 && at_once <= most as usize
-}
-
-/// The groups in which a loop's rounds collect their pixels where they aren't done at once, if there are any.
+/// The groups in which a loop collects its pixels, if it does.
 fn group_collected(count: u32, kind: LoopKind, body: &Stmt) -> Option<Group>
     ensures { result ≡ spec.group_collected count kind body.now }
 {
@@ -122,9 +80,9 @@ fn group_collected(count: u32, kind: LoopKind, body: &Stmt) -> Option<Group>
     }
 }
 
-/// Appends the code of a loop whose rounds aren't done at once: they collect their pixels where they can, else they are
-/// done in turn, whose words these are.
-fn emit_otherwise(
+/// Appends the code of a loop: it collects its pixels where it can, else its iterations are done in turn, whose words
+/// these are.
+fn emit_chosen(
     alloc: Global,
     code: &mut Vec<u32>,
     places: &Places,
@@ -132,49 +90,22 @@ fn emit_otherwise(
     own: &Loop<'_>,
     in_turn: &[u32],
 ) -> Result<(), CodeFault>
-    ensures ok { OnOk result (EmitsOtherwise code.old.items code.new.items places.now scope.now own.now.counter
+    ensures ok { OnOk result (EmitsChosen code.old.items code.new.items places.now scope.now own.now.counter
         own.now.count own.now.kind own.now.body.now in_turn.now) }
-    ensures err { IfErr result (IsOtherwiseFault places.now scope.now own.now.counter own.now.count own.now.kind
+    ensures err { IfErr result (IsChosenFault places.now scope.now own.now.counter own.now.count own.now.kind
         own.now.body.now in_turn.now) }
 {
     match group_collected(own.count, own.kind, own.body) {
         None => append(code, in_turn)?,
         Some(group) => {
-            let rounds = VectorLoop {
+            let collecting = VectorLoop {
                 counter: own.counter,
                 count: own.count,
                 body: own.body,
             };
-            emit_collected(alloc, code, group, places, scope, &rounds)?
+            emit_collected(alloc, code, group, places, scope, &collecting)?
         }
     }
-    Ok(())
-}
-
-/// Appends the code of a loop: its rounds at once where that takes no more words than the loop may ask for, else as
-/// [`emit_otherwise`] does.
-fn emit_taken(
-    alloc: Global,
-    code: &mut Vec<u32>,
-    places: &Places,
-    scope: &[Counter],
-    own: &Loop<'_>,
-    in_turn: &[u32],
-) -> Result<(), CodeFault>
-    ensures ok { OnOk result (EmitsTaken code.old.items code.new.items places.now scope.now own.now.counter
-        own.now.count
-        own.now.kind own.now.body.now in_turn.now) }
-    ensures err { IfErr result (IsTakenFault places.now scope.now own.now.counter own.now.count own.now.kind
-        own.now.body.now in_turn.now) }
-{
-    let mut at_once = Vec::new(alloc);
-    let found = emit_at_once(alloc, &mut at_once, places, scope, own)?;
-    let most = at_once_size(own.body);
-    if is_taken(found, at_once.len(), in_turn.len(), most) {
-        append(code, at_once.as_slice())?;
-        return Ok(());
-    }
-    emit_otherwise(alloc, code, places, scope, own, in_turn)?;
     Ok(())
 }
 
@@ -217,7 +148,7 @@ fn emit_stmt(
                 kind: *kind,
                 body: body.get(),
             };
-            emit_taken(alloc, code, places, scope, &own, in_turn.as_slice())?;
+            emit_chosen(alloc, code, places, scope, &own, in_turn.as_slice())?;
             let turns = turns_of(is_laid, *count, inner.words.len());
             add_turns(stages, inner.stages.list.as_slice(), turns, code.len())?;
             Ok(())

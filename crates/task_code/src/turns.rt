@@ -31,8 +31,8 @@ pub(crate) fn turns_of(is_laid: bool, count: u32, body: usize) -> Turns {
     }
 }
 
-/// Adds the stages of a body for each of its copies, the last of which stands in front of the end. Iterations that are
-/// done at once have no stages inside, so that the code is that in turn wherever there are some.
+/// Adds the stages of a body for each of its copies, the last of which stands in front of the end. A loop that collects
+/// its pixels has no stages inside, so that the code is that in turn wherever there are some.
 pub(crate) fn add_turns(
     stages: &mut Stages,
     inside: &[CodeStage],

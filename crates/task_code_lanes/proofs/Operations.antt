@@ -1,30 +1,23 @@
 -- Operations on lanes.
 use Rattle.std.proofs.Common.{◌≡◌, ℕ, ◌^◌, ◌<◌, List, [], ◌∷◌, length, Bool, true, false, ap, ◌∙◌, refl, arith}
-use Rattle.std.specs.Prelude.{◌==◌, if◌then◌else◌, not, pos}
+use Rattle.std.specs.Prelude.{◌==◌, if◌then◌else◌, pos}
 use Rattle.rv_insn.specs.declared.instructions.Insn.TheVariants.{Vector}
 use Rattle.rv_insn.specs.declared.vector_instructions.VectorInsn.TheVariants as v
 use Rattle.rv_insn.specs.declared.vector_operations.ArithmeticVvOp.{ArithmeticVvOp}
-use Rattle.rv_insn.specs.declared.vector_operations.ArithmeticVvOp.TheVariants as vvs
 use Rattle.rv_insn.specs.declared.vector_operations.CompareVvOp.{CompareVvOp}
-use Rattle.rv_insn.specs.declared.vector_operations.CompareVvOp.TheVariants as compares
-use Rattle.rv_insn.specs.declared.vector_operations.CompareViOp.TheVariants as compare_vis
 use Rattle.rv_insn.specs.declared.vector_operations.MultiplyOp.TheVariants as multiplies
 use Rattle.hart_core.specs.Scalar.{one_if}
 use Rattle.lanes.specs.Words as lanes
 use Rattle.vector_unit.specs.Operations.{arithmetic_vv, compare_vv}
-use Rattle.halide_pipeline.specs.declared.expressions.Operation.{Operation}
-use Rattle.halide_pipeline.specs.declared.expressions.Operation.TheVariants as op
-use Rattle.halide_pipeline.specs.Words as word
 use Rattle.multi_hart_logic.specs.Alone.{World}
 use Rattle.multi_hart_logic.specs.Paths.{lane, bit, IsGroup}
 use Rattle.multi_hart_logic.proofs.VectorRows as rows
 use Rattle.multi_hart_logic.proofs.MaskRows as masks
-use Rattle.task_code_scalar.proofs.Numbers.{less-is}
 use Rattle.task_code_lanes.specs.declared.groups.Group.{Group}
 use Rattle.task_code_lanes.specs.Groups.{registers, slot}
-use Rattle.task_code_lanes.specs.Lanes.{flagged, compared, lanes_operation, lanes_selection}
+use Rattle.task_code_lanes.specs.Lanes.{flagged, compared}
 use Rattle.task_code_lanes.proofs.Slots.{SlotLies}
-use Rattle.task_code_lanes.proofs.Rows.{Writes, Lanes, Leaves, writes, writes-lanes, few-rounds, last, slot-first, same-values}
+use Rattle.task_code_lanes.proofs.Rows.{Writes, Lanes, Leaves, writes, writes-lanes, few-rounds, last, slot-first}
 
 -- a mask bit stands where a lane of a register behind v31 would
 pub bit-is : (i : ℕ) → bit i ≡ lane 32 i
@@ -33,13 +26,6 @@ bit-is i = omega arith
 flag-is : (t : Bool) → (if one_if t == 0 then 0 else 1) ≡ one_if t
 flag-is true = refl
 flag-is false = refl
-
-chosen-is : (c x y : ℕ) → (if one_if (not (c == 0)) == 0 then y else x) ≡ (if c == 0 then y else x)
-chosen-is c x y = by-test (c == 0)
-  where
-    by-test : (t : Bool) → (if one_if (not t) == 0 then y else x) ≡ (if t then y else x)
-    by-test true = refl
-    by-test false = refl
 
 module _ (w : World) (m : List ℕ) (l : length m ≡ w.size) (group : Group) (n : ℕ) where
   abbrev g : ℕ
@@ -98,44 +84,3 @@ module _ (w : World) (m : List ℕ) (l : length m ≡ w.size) (group : Group) (n
         let high = lies.high in
         slot-first w m l group n k lies i1 (omega (arith, high))
         (flagged-leaves i1.after t (writes-lanes w m l group n i1 has) (λ i b. ap i1.after (bit-is i) ∙ i1.value i b ∙ ap one_if (same i b)))
-
-    module _ (s : ℕ) (is : IsGroup g s) (f : ℕ → ℕ) (x y : ℕ → ℕ) (has : Lanes w m l group n f) (hx : Hold f r x) (hy : Hold f s y) (lx : Small x) (ly : Small y) where
-      by-vv : (o : ArithmeticVvOp) (h : ℕ → ℕ) → ((i : ℕ) → i < n → arithmetic_vv o 32 (x i) (y i) ≡ h i) → Leaves w m l group n (Vector (v.ArithmeticVv o r r s true) ∷ []) f k h
-      by-vv o h same = same-values w m l group n k lies same (last w m l group n k lies (arithmetic-writes f has o r r s x y lies.is_group lies.is_group is hx hy))
-
-      pub operation-leaves : (o : Operation) → Leaves w m l group n (lanes_operation o r s) f k (λ i. word.applied o (x i) (y i))
-      unfolding word.add word.subtract word.multiply
-      operation-leaves op.Add = by-vv vvs.Vadd _ (λ i b. refl)
-      operation-leaves op.Subtract = by-vv vvs.Vsub _ (λ i b. refl)
-      operation-leaves op.Multiply = last w m l group n k lies (product-writes f has r r s x y lies.is_group lies.is_group is hx hy)
-      operation-leaves op.Minimum = by-vv vvs.Vmin _ (λ i b. ap (λ c. if c then y i else x i) (less-is (y i) (x i) (ly i b) (lx i b)))
-      operation-leaves op.Maximum = by-vv vvs.Vmax _ (λ i b. ap (λ c. if c then y i else x i) (less-is (x i) (y i) (lx i b) (ly i b)))
-      operation-leaves op.Less = compared-leaves compares.Vmslt f r s x y (λ i. word.less (x i) (y i)) has lies.is_group is hx hy (λ i b. less-is (x i) (y i) (lx i b) (ly i b))
-      operation-leaves op.LessOrEqual =
-          compared-leaves compares.Vmsle f r s x y (λ i. not (word.less (y i) (x i))) has lies.is_group is hx hy (λ i b. ap not (less-is (y i) (x i) (ly i b) (lx i b)))
-      operation-leaves op.Greater = compared-leaves compares.Vmslt f s r y x (λ i. word.less (y i) (x i)) has is lies.is_group hy hx (λ i b. less-is (y i) (x i) (ly i b) (lx i b))
-      operation-leaves op.GreaterOrEqual =
-          compared-leaves compares.Vmsle f s r y x (λ i. not (word.less (x i) (y i))) has is lies.is_group hy hx (λ i b. ap not (less-is (x i) (y i) (lx i b) (ly i b)))
-      operation-leaves op.Equal = compared-leaves compares.Vmseq f r s x y (λ i. x i == y i) has lies.is_group is hx hy (λ i b. refl)
-      operation-leaves op.NotEqual = compared-leaves compares.Vmsne f r s x y (λ i. not (x i == y i)) has lies.is_group is hx hy (λ i b. refl)
-
-    -- lanes are chosen
-    pub selection-leaves : (s t : ℕ) (f : ℕ → ℕ) (c x y : ℕ → ℕ) → IsGroup g s → IsGroup g t → Lanes w m l group n f → Hold f r c → Hold f s x → Hold f t y
-        → Leaves w m l group n (lanes_selection r s t) f k (λ i. if c i == 0 then y i else x i)
-    selection-leaves s t f c x y is it has hc hx hy =
-        let few = few-rounds w m l group n f has in
-        let high = lies.high in
-        let i1 : Writes w m l group n (Vector (v.CompareVi compare_vis.Vmsne 0 r (pos 0) true) ∷ []) f 32 (λ i. one_if (not (c i == 0))) = writes w m l group n (λ i. one_if (not (c i == 0))) (λ i. one_if (not (f (lane r i) == lanes.wrapped 32 (pos 0)))) has
-        (masks.compare-vi w f m l g has.configured compare_vis.Vmsne r (pos 0) lies.is_group) (λ i b. ap (λ z. one_if (not (z == 0))) (hc i b)) in
-        let has1 = writes-lanes w m l group n i1 has in
-        let f1 = i1.after in
-        let fs = is.fits in
-        let ft = it.fits in
-        let e0 : (i : ℕ) → i < n → f1 (bit i) ≡ one_if (not (c i == 0)) = λ i b. ap f1 (bit-is i) ∙ i1.value i b in
-        let es : Hold f1 s x = λ i b. i1.below (lane s i) (omega (arith, fs, few, b)) ∙ hx i b in
-        let et : Hold f1 t y = λ i b. i1.below (lane t i) (omega (arith, ft, few, b)) ∙ hy i b in
-        let i2 : Writes w m l group n (Vector (v.MergeVv r t s) ∷ []) f1 r (λ i. if c i == 0 then y i else x i) = writes w m l group n (λ i. if c i == 0 then y i else x i) (λ i. if f1 (bit i) == 0 then f1 (lane t i) else f1 (lane s i)) has1
-        (masks.merge-vv w f1 m l g has1.configured r t s lies.is_group it is)
-        (λ i b. ap (λ z. if z == 0 then f1 (lane t i) else f1 (lane s i)) (e0 i b) ∙ ap (λ z. if one_if (not (c i == 0)) == 0 then z else f1 (lane s i)) (et i b)
-        ∙ ap (λ z. if one_if (not (c i == 0)) == 0 then y i else z) (es i b) ∙ chosen-is (c i) (x i) (y i)) in
-        slot-first w m l group n k lies i1 (omega (arith, high)) (last w m l group n k lies i2)

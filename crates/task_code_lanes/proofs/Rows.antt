@@ -1,20 +1,18 @@
 -- Single instructions over lanes, and code that goes on behind them.
-use Rattle.std.proofs.Common.{◌≡◌, ℕ, ◌+◌, ◌*◌, ◌<◌, ◌≤◌, List, ◌++◌, length, ap, ◌∙◌, refl, sym, subst, arith, inl, inr}
-use Rattle.std.specs.Prelude.{◌^◌, ◌⊎◌, ◌≢◌}
+use Rattle.std.proofs.Common.{◌≡◌, ℕ, ◌+◌, ◌*◌, ◌<◌, ◌≤◌, List, ◌++◌, length, ap, ◌∙◌, refl, arith, inl, inr}
+use Rattle.std.specs.Prelude.{◌⊎◌}
 use Rattle.rv_insn.specs.declared.instructions.Insn.{Insn}
 use Rattle.multi_hart_logic.specs.Alone.{World}
 use Rattle.multi_hart_logic.specs.Paths.{Line, lane, bit, vl_number, vtype_number, write_lanes}
 use Rattle.multi_hart_logic.specs.FirstGroup.{held, write_group}
 use Rattle.multi_hart_logic.proofs.Paths.{line-then}
 use Rattle.multi_hart_logic.proofs.LaneRows.{lanes-new, lanes-below, lanes-above}
-use Rattle.multi_hart_logic.proofs.FirstGroup.{groups-hold, held-above, held-same, written-above}
-use Rattle.task_code_scalar.specs.Values.{Free, Leaves as LeavesOne}
-use Rattle.task_code_scalar.proofs.Values.{Sets}
+use Rattle.multi_hart_logic.proofs.FirstGroup.{held-above, held-same, written-above}
 use Rattle.vector_unit.specs.Vector.{is_supported, width_of, group_of, most_elements}
 use Rattle.task_code_lanes.specs.declared.groups.Group.{Group}
 use Rattle.task_code_lanes.specs.Groups.{registers, slot, spare}
 use Rattle.task_code_lanes.specs.Leaving.{HasLanes, IsKept, LeavesLanes}
-use Rattle.task_code_lanes.proofs.Slots.{SlotLies, spare-keeps, spare-next}
+use Rattle.task_code_lanes.proofs.Slots.{SlotLies, spare-next}
 
 module _ (w : World) (m : List ℕ) (l : length m ≡ w.size) (group : Group) (n : ℕ) where
   abbrev g : ℕ
@@ -88,40 +86,12 @@ module _ (w : World) (m : List ℕ) (l : length m ≡ w.size) (group : Group) (n
     abbrev pub Outside : ℕ → ℕ → Type 0
     Outside q d = (q < lane d 0) ⊎ (lane d n ≤ q)
 
-    -- what is kept with the slot's own lanes
-    kept-sorts : (q : ℕ) → IsKept group (k + 1) q → (q < 34) ⊎ ((lane (slot group 0) 0 ≤ q) × (q < lane (r + g) 0))
-    kept-sorts q (inl x) = inl (let b = x.0 in omega (arith, b))
-    kept-sorts q (inr (inl e)) = inl (omega (arith, e))
-    kept-sorts q (inr (inr x)) = inr (x.0, let b = x.1 in let e = lies.next in omega (arith, b, e))
-
     -- lanes of a group beside the slot's are set; the slot stays, and what is kept with it
     pub record Asides (is : List Insn) (f : ℕ → ℕ) (s : ℕ) (v : ℕ → ℕ) : Type 0 where
       pub after : ℕ → ℕ
       pub line : Line w is f m after m
       pub value : HoldAny after s v
       pub keeps : (q : ℕ) → IsKept group (k + 1) q → after q ≡ f q
-
-    aside-keeps : (f : ℕ → ℕ) (s : ℕ) (new : ℕ → ℕ) (q : ℕ) → Aside s → n ≤ 4 * g → IsKept group (k + 1) q → write_group f s n new q ≡ f q
-    aside-keeps f s new q (inl above) few kept =
-        let a = above.0 in
-        let low = lies.few in
-        written-above f s n new q (omega (arith, a, low))
-        ∙ lanes-below f s n new q (elim (kept-sorts q kept) [ inl b ↦ omega (arith, b) | inr b ↦ (let c = b.1 in omega (arith, a, c)) ])
-    aside-keeps f s new q (inr e) few kept =
-        ap (λ z. write_group f z n new q) e
-        ∙ spare-keeps group f n new q few (elim (kept-sorts q kept) [ inl b ↦ inl b | inr b ↦ inr (b.0, let c = b.1 in let h = lies.high in omega (arith, c, h)) ])
-
-    pub asides : {is : List Insn} {f : ℕ → ℕ} {s : ℕ} (v new : ℕ → ℕ) → Aside s → Lanes f → Line w is f m (write_group f s (f vl_number) new) m → ((i : ℕ) → i < n → new i ≡ v i) → ((i : ℕ) → i < n → v i < 2 ^ 32) → Asides is f s v
-    asides {is} {f} {s} v new aside has line same small =
-        let e = has.count in
-        let few = few-rounds f has in
-        let most = lies.most in
-        record {
-          after = write_group f s (f vl_number) new;
-          line = line;
-          value = λ i b. groups-hold f s (f vl_number) new i (omega (arith, e, few, most)) (omega (arith, e, b)) (subst (λ z. z < 2 ^ 32) (sym (same i b)) (small i b)) ∙ same i b;
-          keeps = λ q kept. ap (λ z. write_group f s z new q) e ∙ aside-keeps f s new q aside few kept;
-        }
 
     -- lanes of the slot are set, by a row that reads any group
     pub slot-writes : {is : List Insn} {f : ℕ → ℕ} (v new : ℕ → ℕ) → Lanes f → Line w is f m (write_group f r (f vl_number) new) m → ((i : ℕ) → i < n → new i ≡ v i) → Writes is f r v
@@ -151,32 +121,6 @@ module _ (w : World) (m : List ℕ) (l : length m ≡ w.size) (group : Group) (n
         (elim (aside-outside s i aside few b) [ inl x ↦ a.below (lane s i) x | inr x ↦ a.above (lane s i) x ])
         ∙ holds i b
 
-    pub aside-beside : {is : List Insn} {f : ℕ → ℕ} {c u : ℕ} {x : ℕ → ℕ} (s : ℕ) → (a : Sets w m l is f c u) → c < 32 → HoldAny f s x → HoldAny a.after s x
-    aside-beside {is} {f} {c} {u} {x} s a low holds i b =
-        held-same f a.after s i (λ j l' some. a.others (bit (32 * i + j)) (λ e. omega (arith, e, low))) (a.others (lane s i) (λ e. omega (arith, e, low))) ∙ holds i b
-
-    pub asides-lanes : {is : List Insn} {f : ℕ → ℕ} {s : ℕ} {v : ℕ → ℕ} → (a : Asides is f s v) → Lanes f → Lanes a.after
-    asides-lanes {is} {f} a has = lanes-kept f a.after (a.keeps vl_number (inr (inl (inl refl)))) (a.keeps vtype_number (inr (inl (inr refl)))) has
-
-    pub asides-slot : {is : List Insn} {f : ℕ → ℕ} {s : ℕ} {v x : ℕ → ℕ} → (a : Asides is f s v) → n ≤ 4 * g → ((i : ℕ) → i < n → f (lane r i) ≡ x i) → (i : ℕ) → i < n → a.after (lane r i) ≡ x i
-    asides-slot {is} {f} a few holds i b = a.keeps (lane r i) (inr (inr (let lo = lies.low in omega (arith, lo), let e = lies.next in omega (arith, e, b, few)))) ∙ holds i b
-
-    -- scratch registers, and those of the stack, are not among it
-    pub kept-scalar : (q c : ℕ) → (c ≡ 13) ⊎ ((c ≡ 14) ⊎ ((20 ≤ c) × (c < 32))) → IsKept group k q → q ≢ c
-    kept-scalar q c o (inl x) e = let a = x.0 in let b = x.1 in elim o [ inl y ↦ omega (arith, a, b, e, y) | inr (inl y) ↦ omega (arith, a, b, e, y) | inr (inr y) ↦ (let z = y.0 in omega (arith, a, b, e, z)) ]
-    kept-scalar q c o (inr (inl x)) e = elim o [ inl y ↦ omega (arith, x, e, y) | inr (inl y) ↦ omega (arith, x, e, y) | inr (inr y) ↦ (let z = y.1 in omega (arith, x, e, z)) ]
-    kept-scalar q c o (inr (inr x)) e = let a = x.0 in elim o [ inl y ↦ omega (arith, a, e, y) | inr (inl y) ↦ omega (arith, a, e, y) | inr (inr y) ↦ (let z = y.1 in omega (arith, a, e, z)) ]
-
-    pub kept-free : (q c : ℕ) → 20 ≤ c → IsKept group k q → Free c q
-    kept-free q c low (inl x) = (x.1, inr (inl (let a = x.0 in omega (arith, a, low))))
-    kept-free q c low (inr (inl x)) = (inr (omega (arith, x)), inr (inr (omega (arith, x))))
-    kept-free q c low (inr (inr x)) = (inr (let a = x.0 in omega (arith, a)), inr (inr (let a = x.0 in omega (arith, a))))
-
-    kept-next : (q : ℕ) → IsKept group k q → IsKept group (k + 1) q
-    kept-next q (inl x) = inl x
-    kept-next q (inr (inl x)) = inr (inl x)
-    kept-next q (inr (inr x)) = inr (inr (x.0, let b = x.1 in let e = lies.next in omega (arith, b, e)))
-
     -- ---- one after the other
 
     pub last : {is : List Insn} {f : ℕ → ℕ} {v : ℕ → ℕ} → Writes is f r v → Leaves is f k v
@@ -190,41 +134,5 @@ module _ (w : World) (m : List ℕ) (l : length m ≡ w.size) (group : Group) (n
       keeps = λ q kept. b.keeps q kept ∙ a.below q (kept-below d q above kept);
     }
 
-    pub aside-first : {is js : List Insn} {f : ℕ → ℕ} {s : ℕ} {u v : ℕ → ℕ} → (a : Asides is f s u) → Leaves js a.after k v → Leaves (is ++ js) f k v
-    aside-first {is} {js} {f} {s} {u} {v} a b = record {
-      after = b.after;
-      line = line-then w is js f a.after b.after m m m a.line b.line;
-      value = b.value;
-      keeps = λ q kept. b.keeps q kept ∙ a.keeps q (kept-next q kept);
-    }
-
-    pub scalar-first : {is js : List Insn} {f : ℕ → ℕ} {c u : ℕ} {v : ℕ → ℕ} → (a : Sets w m l is f c u) → (c ≡ 13) ⊎ ((c ≡ 14) ⊎ ((20 ≤ c) × (c < 32))) → Leaves js a.after k v → Leaves (is ++ js) f k v
-    scalar-first {is} {js} {f} {c} {u} {v} a o b = record {
-      after = b.after;
-      line = line-then w is js f a.after b.after m m m a.line b.line;
-      value = b.value;
-      keeps = λ q kept. b.keeps q kept ∙ a.others q (kept-scalar q c o kept);
-    }
-
-    pub value-first : {is js : List Insn} {f : ℕ → ℕ} {c u : ℕ} {v : ℕ → ℕ} → (a : LeavesOne w m is f c u) → 20 ≤ c → Leaves js a.after k v → Leaves (is ++ js) f k v
-    value-first {is} {js} {f} {c} {u} {v} a low b = record {
-      after = b.after;
-      line = line-then w is js f a.after b.after m m m a.line b.line;
-      value = b.value;
-      keeps = λ q kept. b.keeps q kept ∙ a.keeps q (kept-free q c low kept);
-    }
-
     pub same-values : {is : List Insn} {f : ℕ → ℕ} {u v : ℕ → ℕ} → ((i : ℕ) → i < n → u i ≡ v i) → Leaves is f k u → Leaves is f k v
     same-values e a = record { after = a.after; line = a.line; value = λ i b. a.value i b ∙ e i b; keeps = a.keeps }
-
-  -- the slot below one stays where that is made
-  pub slot-kept : (k : ℕ) → SlotLies group k → (i : ℕ) → i < n → n ≤ 4 * g → IsKept group (k + 1) (lane (slot group k) i)
-  slot-kept k lies i b few = inr (inr (let lo = lies.low in omega (arith, lo), let e = lies.next in omega (arith, e, b, few)))
-
-  pub slot-still : (k j : ℕ) → SlotLies group k → (i : ℕ) → i < n → n ≤ 4 * g → slot group k + g ≤ slot group j → IsKept group j (lane (slot group k) i)
-  slot-still k j lies i b few above = inr (inr (let lo = lies.low in omega (arith, lo), omega (arith, above, b, few)))
-
-  pub kept-more : (k j q : ℕ) → slot group k ≤ slot group j → IsKept group k q → IsKept group j q
-  kept-more k j q above (inl x) = inl x
-  kept-more k j q above (inr (inl x)) = inr (inl x)
-  kept-more k j q above (inr (inr x)) = inr (inr (x.0, let b = x.1 in omega (arith, b, above)))

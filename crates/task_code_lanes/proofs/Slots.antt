@@ -1,7 +1,6 @@
 -- Groups of vector registers: where they lie.
-use Rattle.std.proofs.Common.{◌≡◌, ℕ, ◌+◌, ◌*◌, ◌<◌, ◌≤◌, true, arith, inl, inr, refl}
-use Rattle.std.specs.Prelude.{◌⊎◌, nat_lt}
-use Rattle.std.proofs.lemmas.Bool.Decides.{nat_tests}
+use Rattle.std.proofs.Common.{◌≡◌, ℕ, ◌+◌, ◌*◌, ◌<◌, ◌≤◌, arith, inl, inr, refl}
+use Rattle.std.specs.Prelude.{◌⊎◌}
 use Rattle.multi_hart_logic.specs.Paths.{IsGroup, lane, bit}
 use Rattle.multi_hart_logic.specs.FirstGroup.{IsAnyGroup, write_group}
 use Rattle.multi_hart_logic.proofs.LaneRows.{lanes-below, lanes-above}
@@ -9,9 +8,6 @@ use Rattle.multi_hart_logic.proofs.FirstGroup.{first-lanes-stay}
 use Rattle.task_code_lanes.specs.declared.groups.Group.{Group}
 use Rattle.task_code_lanes.specs.declared.groups.Group.TheVariants as groups
 use Rattle.task_code_lanes.specs.Groups.{registers, slots, slot, spare}
-
-pub is-below : (n k : ℕ) → nat_lt n k ≡ true → n < k
-is-below n k t = grind (arith, nat_tests)
 
 -- where a slot lies that there is
 pub record SlotLies (group : Group) (k : ℕ) : Type 0 where
@@ -42,11 +38,6 @@ pub stack-low : (group : Group) → 2 ≤ slot group 0
 stack-low groups.One = omega arith
 stack-low groups.Two = omega arith
 stack-low groups.Four = omega arith
-
-pub some-slot : (group : Group) → 0 < slots group
-some-slot groups.One = omega arith
-some-slot groups.Two = omega arith
-some-slot groups.Four = omega arith
 
 pub any-group : (g v : ℕ) → 1 ≤ g → IsGroup g v → IsAnyGroup g v
 any-group g v some is = record { some = some; fits = is.fits; placed = is.placed }

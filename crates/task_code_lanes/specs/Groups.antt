@@ -35,10 +35,6 @@ spare groups.One = 1
 spare groups.Two = 2
 spare groups.Four = 0
 
--- the register in which bytes wait
-abbrev pub byte_spare : ℕ
-byte_spare = 1
-
 -- the first register of a group of the stack
 abbrev pub slot : Group → ℕ → ℕ
 slot groups.One k = k + 2

@@ -1,9 +1,3 @@
-pub mod DeepEmitting
-pub mod DeepLanes
-pub mod DeepLeaving
-pub mod Emitting
-pub mod Goings
 pub mod Groups
 pub mod Lanes
 pub mod Leaving
-pub mod Straying

@@ -140,23 +140,6 @@ pub fn signs(code: &mut Vec<u32>, d: u8, a: u8) -> Result<(), AllocError>
     Ok(())
 }
 
-/// Appends what copies the lanes of a group.
-pub fn copy(code: &mut Vec<u32>, d: u8, a: u8) -> Result<(), AllocError>
-    requires { (d < 32) × (a < 32) }
-    ensures { OnOk result (Emits code.old.items code.new.items (Vector (v.ArithmeticVi plus_number d a (pos 0) true)
-        ∷ [])) }
-{
-    let insn = VectorInsn::ArithmeticVi {
-        op: ArithmeticViOp::Vadd,
-        vd: vector(d),
-        vs2: vector(a),
-        imm: Imm5::new(0).unwrap(),
-        vm: true,
-    };
-    put_vector(code, insn)?;
-    Ok(())
-}
-
 /// Appends what makes eight times each lane of a group.
 pub fn times_eight(code: &mut Vec<u32>, d: u8, a: u8) -> Result<(), AllocError>
     requires { (d < 32) × (a < 32) }
@@ -184,22 +167,6 @@ pub fn clear_low_bits(code: &mut Vec<u32>, d: u8) -> Result<(), AllocError>
         vd: vector(d),
         vs2: vector(d),
         imm: Imm5::new(-4).unwrap(),
-        vm: true,
-    };
-    put_vector(code, insn)?;
-    Ok(())
-}
-
-/// Appends a shift of each lane to the left.
-pub fn shift_lanes(code: &mut Vec<u32>, d: u8, places: u8) -> Result<(), AllocError>
-    requires { (d < 32) × (places < 32) }
-    ensures { OnOk result (Emits code.old.items code.new.items (Vector (v.ShiftVi shift_left d d places true) ∷ [])) }
-{
-    let insn = VectorInsn::ShiftVi {
-        op: ShiftViOp::Vsll,
-        vd: vector(d),
-        vs2: vector(d),
-        amount: ShiftAmount::new(places).unwrap(),
         vm: true,
     };
     put_vector(code, insn)?;

@@ -57,7 +57,7 @@ use Rattle.task_code_lanes.proofs.Rows as rows
 use Rattle.task_code_lane_values.specs.declared.vectorized.Lanes.{Lanes}
 use Rattle.task_code_lane_values.specs.Leaving.{IsUnder, MakesLanes}
 use Rattle.task_code_vector.proofs.Effects.{HitBy, laid, laid-same, laid-cut}
-use Rattle.task_code_vector.proofs.RowCode.{few-lanes}
+use Rattle.task_code_vector.proofs.Configured.{few-lanes}
 use Rattle.task_code_vector.proofs.Runs.{same-runs, pixels-are-run, loop-runs}
 use Rattle.task_code_vector.proofs.Storing.{hits-at-once}
 use Rattle.task_code_runs.specs.AtOnce.{MayRun}

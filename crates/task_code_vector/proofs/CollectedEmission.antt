@@ -33,7 +33,7 @@ use Rattle.task_code_scalar.proofs.WordTests.{word-test}
 use Rattle.task_code_lanes.specs.declared.groups.Group.{Group}
 use Rattle.task_code_lanes.specs.Groups.{registers, slot, vtype_of}
 use Rattle.task_code_vector.specs.Collected.{Collected, collected, collecting, pixel_code, is_one_store, round_fits, one_round_code, collected_code}
-use Rattle.task_code_vector.specs.Faults.{FitsRound, EmitsRound, IsRoundFault, EmitsCollected, IsCollectedFault}
+use Rattle.task_code_vector.specs.Faults.{FitsRound, EmitsRound, IsRoundFault, EmitsCollected}
 use Rattle.task_code_vector.proofs.Unrolled.{one-store-sequence, one-store-for, one-store-bind, collected-store, collected-bind, round-fits-store, round-fits-bind}
 
 -- ---- tests
@@ -190,18 +190,8 @@ module _ (group : Group) (places : Places) (r : ℕ) where
 -- ---- the loop
 
 module _ (group : Group) (places : Places) (scope : List Counter) (counter : Counter) (count : ℕ) (body : Stmt) where
-  pub seatless : 14 ≤ length scope → FitsRound places body (length scope + 1) → ⊥
-  seatless many is = let seats = is.1.1 in omega (arith, many, seats)
-
   all-length : length (collected_code group places scope counter count body) ≡ length (one_round_code group places scope counter body) + 9
   all-length = loop-length group (seat (length scope)) count (one_round_code group places scope counter body)
-
-  pub round-passed : {T : Type 0} (result : Result T CodeFault) (fault : CodeFault) (r : ℕ) (view items : List Counter) → IsErrAnd result (λ error. error ≡ fault) → r ≡ seat (length scope)
-      → view ≡ items → items ≡ counter ∷ scope → IsRoundFault group places r body view fault → IfErr result (IsCollectedFault group places scope counter count body)
-  round-passed result fault r view items from er ev ei is =
-      let inside = subst (λ z. IsRoundFault group places (seat (length scope)) body z fault) (ev ∙ ei) (subst (λ q. IsRoundFault group places q body view fault) er is) in
-      let l = all-length in
-      passed result fault from (λ long. omega (arith, l, long)) (λ none fits. let seats = fits.1.1 in none (fits.0, (fits.1.0, omega (arith, seats)))) inside
 
   pub rounds-long : (r : ℕ) (inner : List ℕ) → r ≡ seat (length scope) → EmitsRound [] inner group places r body (counter ∷ scope) → 2 ^ 18 ≤ length inner + 7
       → IsLong (collected_code group places scope counter count body)

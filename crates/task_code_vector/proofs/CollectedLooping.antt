@@ -1,6 +1,6 @@
 -- The code of a loop whose rounds collect their pixels does the loop.
-use Rattle.std.proofs.Common.{◌≡◌, ℕ, zero, suc, ◌+◌, ◌-◌, ◌*◌, ◌%◌, ◌^◌, ◌<◌, ◌≤◌, List, [], ◌∷◌, ◌++◌, length, Bool, true, false, refl, ap, ◌∙◌, sym, subst, arith, inl, inr}
-use Rattle.std.specs.Prelude.{◌≢◌, ◌⊎◌, ◌==◌, ◌&&◌, if◌then◌else◌, nat_lt, min, Option, Some, None}
+use Rattle.std.proofs.Common.{◌≡◌, ℕ, zero, suc, ◌+◌, ◌-◌, ◌*◌, ◌^◌, ◌<◌, ◌≤◌, List, [], ◌∷◌, length, true, refl, ap, ◌∙◌, sym, subst, arith, inl, inr}
+use Rattle.std.specs.Prelude.{◌⊎◌, ◌==◌, ◌&&◌, if◌then◌else◌, nat_lt, min, Option, Some, None}
 use Rattle.std.proofs.lemmas.Bool.{and_parts, cases_lt}
 use Rattle.std.proofs.lemmas.Bool.Decides.{nat_tests}
 use Rattle.rv_insn.specs.declared.instructions.Insn.{Insn}
@@ -11,13 +11,13 @@ use Rattle.rv_insn.specs.declared.vector_operations.ElementWidth.TheVariants.{Bi
 use Rattle.memory.specs.Access.{Word, touched}
 use Rattle.lanes.specs.Words as lanes
 use Rattle.vector_unit.specs.Vector.{is_supported, width_of, group_of, most_elements}
-use Rattle.halide_pipeline.specs.Pixel.{Planes, Reads, reads_of}
+use Rattle.halide_pipeline.specs.Pixel.{Planes, reads_of}
 use Rattle.loop_ir.specs.declared.expressions.Counter.{Counter}
 use Rattle.loop_ir.specs.declared.statements.LoopKind.TheVariants.{Vectorized}
 use Rattle.loop_ir.specs.declared.statements.Stmt.{Stmt}
 use Rattle.loop_ir.specs.declared.statements.Stmt.TheVariants.{For}
 use Rattle.loop_ir.specs.AtOnce.{Effect, effect}
-use Rattle.loop_ir.specs.Counters.{same_counter, Values, with}
+use Rattle.loop_ir.specs.Counters.{Values, with}
 use Rattle.loop_ir.specs.Rounds.{Rounds, rounds, are_apart, all_step_up, is_round_count, may_be_at_once}
 use Rattle.loop_ir.specs.Running.{run, turns}
 use Rattle.loop_ir.specs.Soundness.{is_sound}
@@ -27,7 +27,7 @@ use Rattle.loop_ir.proofs.Sound.{sound_for}
 use Rattle.loop_ir.proofs.Trees.{run_for}
 use Rattle.multi_hart_logic.specs.Alone.{World, Keeps}
 use Rattle.multi_hart.specs.Run.{is_in}
-use Rattle.multi_hart_logic.specs.Paths.{Path, end, configure, lane, vl_number, vtype_number}
+use Rattle.multi_hart_logic.specs.Paths.{Path, end, configure, lane, vl_number}
 use Rattle.multi_hart_logic.specs.LaneMemory.{accesses_to, stored_lanes, AllWritable}
 use Rattle.multi_hart_logic.proofs.Configurations.{configure-at}
 use Rattle.multi_hart_logic.proofs.LaneStores.{stores, stores-write}
@@ -36,22 +36,20 @@ use Rattle.task_code_scalar.specs.Code.{seat, seat_in, loop_code}
 use Rattle.task_code_scalar.specs.Evaluation.{Knows}
 use Rattle.task_code_scalar.specs.Fitting.{has_seat, total}
 use Rattle.task_code_scalar.specs.Layout.{func_point, address_of, IsOf}
-use Rattle.task_code_scalar.specs.Doing.{Setting, IsSetting, SoundIn, RunsIn, IsAmong, AreRun, HoldsFuncs, Done, stored_points}
+use Rattle.task_code_scalar.specs.Doing.{Setting, IsSetting, SoundIn, RunsIn, IsAmong, AreRun, HoldsFuncs, stored_points}
 use Rattle.task_code_scalar.proofs.Going.{no_hits, SameLanes, Does, Marked, still, does-then, went-hits, went-is}
 use Rattle.task_code_scalar.proofs.Keeping.{Kept, kept-safe, at-counter, knows-still}
 use Rattle.task_code_scalar.proofs.Looping.{each-turn, loop-goes}
 use Rattle.task_code_scalar.proofs.Tracing.{hit-for}
 use Rattle.task_code_lanes.specs.declared.groups.Group.{Group}
-use Rattle.task_code_lanes.specs.declared.groups.Group.TheVariants as groups
 use Rattle.task_code_lanes.specs.Groups.{registers, slot, vtype_of}
 use Rattle.task_code_lanes.specs.Leaving.{HasLanes}
-use Rattle.task_code_lanes.proofs.Rows.{lanes-kept}
 use Rattle.task_code_vector.proofs.Effects.{HitBy, effect_hits, laid, laid-same, laid-cut}
 use Rattle.task_code_vector.proofs.FrameCode.{slot-at}
 use Rattle.task_code_vector.proofs.Moving.{same_counter-self}
-use Rattle.task_code_vector.proofs.RowCode.{supported, few-lanes, has-lanes, configured-others}
-use Rattle.task_code_vector.proofs.Rows.{lanes-same, may, low-spot, spot-is, all-writable, row-holds, row-touched}
-use Rattle.task_code_vector.proofs.Runs.{StoreRuns, loop-runs, same-runs}
+use Rattle.task_code_vector.proofs.Configured.{supported, few-lanes, has-lanes, configured-others}
+use Rattle.task_code_vector.proofs.Rows.{lanes-same, may, all-writable, row-holds, row-touched}
+use Rattle.task_code_vector.proofs.Runs.{StoreRuns, loop-runs}
 use Rattle.task_code_vector.proofs.Storing.{hits-at-once}
 use Rattle.task_code_vector.specs.Collected.{collected, one_round_code, collected_code, collected_turns, collected_fits, round_fits}
 use Rattle.task_code_vector.specs.CollectedDoing.{LoopsAreCollected}

@@ -1,11 +1,10 @@
 -- The code of one round collects its pixel, where guards let it pass.
-use Rattle.std.proofs.Common.{◌≡◌, ℕ, zero, suc, ◌+◌, ◌*◌, ◌%◌, ◌^◌, ◌<◌, ◌≤◌, List, [], ◌∷◌, ◌++◌, length, Bool, true, false, refl, ap, ◌∙◌, sym, subst, arith, inl, inr, cond, length-append}
+use Rattle.std.proofs.Common.{◌≡◌, ℕ, ◌+◌, ◌*◌, ◌%◌, ◌^◌, ◌<◌, ◌≤◌, List, ◌∷◌, ◌++◌, length, Bool, true, false, refl, ap, ◌∙◌, sym, subst, arith, inl, inr, cond}
 use Rattle.std.specs.Prelude.{◌≢◌, ◌&&◌, if◌then◌else◌, nat_lt, pos, Option, Some, None}
 use Rattle.std.specs.List.{list_all}
 use Rattle.std.proofs.lemmas.Bool.{and_parts, true≢false}
 use Rattle.std.proofs.lemmas.Bool.Decides.{nat_tests}
 use Rattle.std.proofs.lemmas.List.Folds.{list_all-append}
-use Rattle.rv_insn.specs.declared.instructions.Insn.{Insn}
 use Rattle.rv_insn.specs.declared.operations.AluImmOp.TheVariants as alu_imms
 use Rattle.halide_pipeline.specs.declared.expressions.Source.TheVariants as sources
 use Rattle.halide_pipeline.specs.Pixel.{Planes, Reads, reads_of}
@@ -34,7 +33,7 @@ use Rattle.task_code_scalar.specs.Fitting.{is_word, has_room, fits_store, has_se
 use Rattle.task_code_scalar.specs.Layout.{func_point, address_of}
 use Rattle.task_code_scalar.specs.Doing.{Setting, IsSetting, SoundIn, HoldsFuncs}
 use Rattle.task_code_scalar.proofs.Binding.{bind-goes}
-use Rattle.task_code_scalar.proofs.Going.{Hits, no_hits, hits_if, mark_if, SameLanes, Does, Marked, still, lines-then, went-hits, went-is}
+use Rattle.task_code_scalar.proofs.Going.{no_hits, hits_if, mark_if, SameLanes, Does, Marked, still, lines-then, went-hits, went-is}
 use Rattle.task_code_scalar.proofs.Keeping.{Kept, kept-safe, more-kept, knows-still}
 use Rattle.task_code_scalar.proofs.Placing.{evaluated, by-set}
 use Rattle.task_code_scalar.proofs.Reaching.{addressed-reaches}

@@ -1,5 +1,5 @@
 -- The code that puts a pixel and its address into the lanes with a round's number.
-use Rattle.std.proofs.Common.{◌≡◌, ℕ, suc, ◌+◌, ◌*◌, ◌%◌, ◌^◌, ◌<◌, ◌≤◌, List, [], ◌∷◌, ◌++◌, length, true, false, refl, ap, ◌∙◌, subst, arith}
+use Rattle.std.proofs.Common.{◌≡◌, ℕ, suc, ◌+◌, ◌*◌, ◌%◌, ◌^◌, ◌<◌, ◌≤◌, List, [], ◌∷◌, length, true, false, refl, ap, ◌∙◌, subst, arith}
 use Rattle.std.specs.Prelude.{◌≢◌, ◌==◌, if◌then◌else◌, min, pos}
 use Rattle.std.proofs.lemmas.Bool.Decides.{nat_tests}
 use Rattle.rv_insn.specs.declared.instructions.Insn.{Insn}
@@ -22,7 +22,7 @@ use Rattle.task_code_lanes.specs.Leaving.{HasLanes}
 use Rattle.task_code_lanes.proofs.Slots.{SlotLies}
 use Rattle.task_code_lanes.proofs.Rows.{Writes, writes, writes-lanes}
 use Rattle.task_code_vector.proofs.FrameCode.{slot-at}
-use Rattle.task_code_vector.proofs.RowCode.{supported, most, few-lanes, has-lanes, configured-others}
+use Rattle.task_code_vector.proofs.Configured.{supported, most, few-lanes, has-lanes, configured-others}
 use Rattle.task_code_vector.specs.Collected.{collecting}
 
 next-is : (i : ℕ) → i < 16 → (i + 1) % 2 ^ 32 ≡ suc i

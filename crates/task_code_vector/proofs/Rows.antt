@@ -1,11 +1,9 @@
 -- Pixels that one instruction stores.
-use Rattle.std.proofs.Common.{◌≡◌, ℕ, zero, suc, ◌+◌, ◌*◌, ◌%◌, ◌^◌, ◌<◌, ◌≤◌, List, [], ◌∷◌, ◌++◌, length, Bool, true, false, refl, ap, ◌∙◌, sym, subst, arith, inl, inr}
+use Rattle.std.proofs.Common.{◌≡◌, ℕ, zero, suc, ◌+◌, ◌^◌, ◌<◌, ◌≤◌, List, [], ◌∷◌, ◌++◌, length, Bool, true, false, refl, ap, ◌∙◌, sym, subst, arith, inl, inr}
 use Rattle.std.specs.Prelude.{◌==◌, if◌then◌else◌, map, Option, Some}
 use Rattle.std.proofs.lemmas.Bool.{cases_eq}
 use Rattle.memory.specs.Access.{byte_at, AreBytes, Word, access_at, touched}
 use Rattle.hart_core.specs.Scalar.{one_access}
-use Rattle.lanes.specs.Words as lanes
-use Rattle.halide_pipeline.specs.declared.expressions.Source.TheVariants as sources
 use Rattle.halide_pipeline.specs.Pixel.{Planes, reads_of}
 use Rattle.loop_ir.specs.AtOnce.{Effect}
 use Rattle.loop_ir.specs.Running.{turns}
@@ -13,8 +11,6 @@ use Rattle.multi_hart_logic.specs.Alone.{World}
 use Rattle.multi_hart.specs.Run.{is_in}
 use Rattle.multi_hart_logic.specs.Paths.{stored_at}
 use Rattle.multi_hart_logic.specs.LaneMemory.{firsts, accesses_to, AllWritable, stored_lanes}
-use Rattle.task_code_scalar.specs.declared.places.Place.{Place}
-use Rattle.task_code_scalar.specs.Code.{place_of, pixel_bytes}
 use Rattle.task_code_scalar.specs.Layout.{func_point, address_of, Holds, IsOf, IsElsewhere, MayStore}
 use Rattle.task_code_scalar.specs.Doing.{Setting, IsSetting, AreRun, HoldsFuncs}
 use Rattle.task_code_scalar.proofs.Storing.{stored-is, size-stays, bytes-stay, is-touched, words-put, stored-holds, others-stay}
@@ -53,19 +49,10 @@ lanes-same memory (suc n) a x y same =
 
 -- ---- addresses of a row
 
-row-goes : (c p x k : ℕ) → c + 4 * (p + x) < 2 ^ 32 → c + 4 * (p + (x + k)) < 2 ^ 32 → (c + 4 * (p + x) + k * 4) % 2 ^ 32 ≡ c + 4 * (p + (x + k))
-row-goes c p x k first last = omega (arith, first, last)
-
-no-turn : (c p x k : ℕ) → c + 4 * (p + x) < 2 ^ 32 → k < 16 → (x + k) % 2 ^ 32 ≡ x + k
-no-turn c p x k low few = omega (arith, low, few)
-
 module _ (own : Setting) (good : IsSetting own) (func n : ℕ) (few : n ≤ 16) (x y v : ℕ → ℕ)
     (can : (k : ℕ) → k < n → own.written func (x k) (y k) ≡ true) (small : (k : ℕ) → k < n → v k < 2 ^ 32) where
   abbrev w : World
   w = own.world
-
-  abbrev place : Place
-  place = place_of own.places (sources.Func func)
 
   abbrev pub spot : ℕ → ℕ
   spot k = address_of w own.places (func_point func (x k) (y k))
@@ -76,15 +63,6 @@ module _ (own : Setting) (good : IsSetting own) (func n : ℕ) (few : n ≤ 16) 
   pub may : (k : ℕ) → k < n → MayStore w own.places func (x k) (y k)
   may k b = good.laid.stores func (x k) (y k) (can k b)
 
-  words-at : (k : ℕ) → k < n → (i j : ℕ) → address_of w own.places (func_point func i j) ≡ place.start + place.distance * w.hart + 4 * (j * place.width + i)
-  words-at k b i j = ap (λ p. place.start + place.distance * w.hart + pixel_bytes p * (j * place.width + i)) (may k b).are_words
-
-  pub spot-is : (k : ℕ) → k < n → spot k ≡ place.start + place.distance * w.hart + 4 * (y k * place.width + x k)
-  spot-is k b = words-at k b (x k) (y k)
-
-  pub low-spot : (k : ℕ) → k < n → place.start + place.distance * w.hart + 4 * (y k * place.width + x k) < 2 ^ 32
-  low-spot k b = let low = (may k b).low in let e = spot-is k b in omega (arith, low, e)
-
   pub all-writable : (own.in_runs func ≡ true → AreRun own n func x y) → AllWritable w Word n spot
   all-writable are_run = record {
     aligned = λ k b. (may k b).may.aligned;
@@ -93,29 +71,6 @@ module _ (own : Setting) (good : IsSetting own) (func n : ℕ) (few : n ≤ 16) 
     may = λ k b. (may k b).may.may;
     keeps = good.at_once n func x y can are_run;
   }
-
-  -- ---- pixels one behind the other
-
-  module _ (along : (k : ℕ) → k < n → x k ≡ (x 0 + k) % 2 ^ 32) (steady : (k : ℕ) → k < n → y k ≡ y 0) where
-    column : (k : ℕ) → k < n → x k ≡ x 0 + k
-    column k b =
-        let low = (may 0 (omega (arith, b))).low in
-        let e = words-at k b (x 0) (y 0) in
-        along k b ∙ no-turn (place.start + place.distance * w.hart) (y 0 * place.width) (x 0) k (omega (arith, low, e)) (omega (arith, b, few))
-
-    from-first : (k : ℕ) → k < n → spot k ≡ address_of w own.places (func_point func (x 0 + k) (y 0))
-    from-first k b = ap (λ i. address_of w own.places (func_point func i (y k))) (column k b) ∙ ap (λ j. address_of w own.places (func_point func (x 0 + k) j)) (steady k b)
-
-    -- each address is so far from the first
-    pub row-address : (k : ℕ) → k < n → lanes.add 32 (spot 0) (k * 4) ≡ spot k
-    row-address k b =
-        let c = place.start + place.distance * w.hart in
-        let p = y 0 * place.width in
-        let e0 = words-at k b (x 0) (y 0) in
-        let ek : spot k ≡ c + 4 * (p + (x 0 + k)) = from-first k b ∙ words-at k b (x 0 + k) (y 0) in
-        let low0 = (may 0 (omega (arith, b))).low in
-        let lowk = (may k b).low in
-        ap (λ a. lanes.add 32 a (k * 4)) e0 ∙ row-goes c p (x 0) k (omega (arith, low0, e0)) (omega (arith, lowk, ek)) ∙ sym ek
 
   -- ---- what memory holds behind so many of them
 

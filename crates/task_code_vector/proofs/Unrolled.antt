@@ -42,14 +42,6 @@ module _ (group : Group) (places : Places) (r : ℕ) where
   unfolding collected
   collected-store store = ap of (sym (rolls-Store store)) ∙ fold-roll-Stmt Collected (collected_at group places r) (layer.Store store)
 
-  pub collected-sequence : (first second : Stmt) → collected group places r (s.Sequence first second) ≡ collected_at group places r (layer.Sequence (of first) (of second))
-  unfolding collected
-  collected-sequence first second = ap of (sym (rolls-Sequence first second)) ∙ fold-roll-Stmt Collected (collected_at group places r) (layer.Sequence first second)
-
-  pub collected-for : (counter : Counter) (count : ℕ) (kind : LoopKind) (body : Stmt) → collected group places r (s.For counter count kind body) ≡ collected_at group places r (layer.For counter count kind (of body))
-  unfolding collected
-  collected-for counter count kind body = ap of (sym (rolls-For counter count kind body)) ∙ fold-roll-Stmt Collected (collected_at group places r) (layer.For counter count kind body)
-
   pub collected-bind : (counter : Counter) (whole : Whole) (extent : ℕ) (body : Stmt) → collected group places r (s.Bind counter whole extent body) ≡ collected_at group places r (layer.Bind counter whole extent (of body))
   unfolding collected
   collected-bind counter whole extent body = ap of (sym (rolls-Bind counter whole extent body)) ∙ fold-roll-Stmt Collected (collected_at group places r) (layer.Bind counter whole extent body)

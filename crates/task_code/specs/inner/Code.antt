@@ -1,9 +1,9 @@
 -- The code of statements and of a task, as lists of instructions. This project's own.
 --
--- A vectorized loop's rounds are done at once where they can be, in no more words than the loop may ask for. Else they collect their pixels,
--- where they are one store each, and 4, 8 or 16; else they are done in turn, which is so of none whose rounds may be done at once
--- (`loop_ir/specs/Rounds.antt`). An unrolled loop is laid out: a copy of its body for each round, one behind the other. One of no rounds is counted.
-use Rattle.std.specs.Prelude.{ℕ, ◌+◌, ◌^◌, ◌&&◌, Bool, min, nat_le, nat_lt, if◌then◌else◌, List, [], ◌∷◌, ◌++◌, length, Option, Some, None}
+-- A vectorized loop collects its pixels, where its iterations are one store each, and 4, 8 or 16; else they are done in turn, which is so of none
+-- whose iterations may be done at once (`loop_ir/specs/Rounds.antt`). An unrolled loop is laid out: a copy of its body for each iteration, one behind
+-- the other. One of no iterations is counted.
+use Rattle.std.specs.Prelude.{ℕ, ◌+◌, Bool, nat_lt, if◌then◌else◌, List, [], ◌∷◌, ◌++◌, length, Option, Some, None}
 use Rattle.rv_insn.specs.declared.instructions.Insn.{Insn}
 use Rattle.loop_ir.specs.declared.expressions.Counter.{Counter}
 use Rattle.loop_ir.specs.declared.statements.LoopKind.{LoopKind}
@@ -15,68 +15,31 @@ use Rattle.loop_ir.specs.declared.statements.Stmt.TheOpen as parts
 use Rattle.loop_ir.specs.declared.statements.Stmt.TheVariants as stmts
 use Rattle.loop_ir.specs.Counters.{Values, with}
 use Rattle.loop_ir.specs.Running.{whole_value}
-use Rattle.loop_ir.specs.Sizes.{are_copies, is_laid_out, whole_size}
+use Rattle.loop_ir.specs.Sizes.{are_copies, is_laid_out}
 use Rattle.task_code_scalar.specs.declared.places.Places.{Places}
 use Rattle.task_code_scalar.specs.Code.{seat, store_code, turns_code, whole_code, bind_code}
 use Rattle.task_code_scalar.specs.Fitting.{total}
 use Rattle.task_code_lanes.specs.declared.groups.Group.{Group}
 use Rattle.task_code_lanes.specs.Groups.{group_of_rounds}
-use Rattle.task_code_vector.specs.Rounds.{rounds_code, rounds_turns, rounds_fit}
 use Rattle.task_code_vector.specs.Collected.{is_one_store, collected_code, collected_turns}
 use Rattle.task_code_statements.specs.Tasks.{restored}
 
--- ---- loops whose rounds are done at once
+-- ---- loops that collect their pixels
 
-abbrev pub fitting : Places → List Counter → Counter → ℕ → Stmt → Option Group → Option Group
-fitting places scope counter count body None = None
-fitting places scope counter count body (Some group) = if rounds_fit group places scope counter count body then Some group else None
-
--- the groups in which a loop's rounds can be done at once
-abbrev pub group_of_loop : Places → List Counter → Counter → ℕ → LoopKind → Stmt → Option Group
-group_of_loop places scope counter count kinds.Serial body = None
-group_of_loop places scope counter count kinds.Unrolled body = None
-group_of_loop places scope counter count kinds.Vectorized body = fitting places scope counter count body (group_of_rounds count)
-
--- Their code takes no more words than the loop may ask for, and that of the rounds in turn isn't longer than a jump reaches.
-abbrev pub is_short : Stmt → List Insn → List Insn → Bool
-is_short body in_turn at_once = nat_lt (length in_turn) (2 ^ 18) && nat_le (length at_once) (min (whole_size body + 38) (2 ^ 18))
-
-abbrev pub if_short : Places → List Counter → Counter → ℕ → Stmt → List Insn → Option Group → Option Group
-if_short places scope counter count body in_turn None = None
-if_short places scope counter count body in_turn (Some group) = if is_short body in_turn (rounds_code group places scope counter count body) then Some group else None
-
--- the groups in which they are done at once, beside the code of the rounds in turn
-abbrev pub group_taken : Places → List Counter → Counter → ℕ → LoopKind → Stmt → List Insn → Option Group
-group_taken places scope counter count kind body in_turn = if_short places scope counter count body in_turn (group_of_loop places scope counter count kind body)
-
--- ---- loops whose rounds collect their pixels
-
--- the groups in which they do, where they aren't done at once
+-- the groups in which they do
 abbrev pub group_collected : ℕ → LoopKind → Stmt → Option Group
 group_collected count kinds.Serial body = None
 group_collected count kinds.Unrolled body = None
 group_collected count kinds.Vectorized body = if is_one_store body then group_of_rounds count else None
 
--- their code, or that of the rounds in turn
-abbrev pub code_otherwise : Places → List Counter → Counter → ℕ → Stmt → List Insn → Option Group → List Insn
-code_otherwise places scope counter count body in_turn None = in_turn
-code_otherwise places scope counter count body in_turn (Some group) = collected_code group places scope counter count body
+-- their code, or that of the iterations in turn
+abbrev pub code_chosen : Places → List Counter → Counter → ℕ → Stmt → List Insn → Option Group → List Insn
+code_chosen places scope counter count body in_turn None = in_turn
+code_chosen places scope counter count body in_turn (Some group) = collected_code group places scope counter count body
 
-abbrev pub turns_otherwise : Places → List Counter → Counter → ℕ → Stmt → Values → ℕ → Option Group → ℕ
-turns_otherwise places scope counter count body values in_turn None = in_turn
-turns_otherwise places scope counter count body values in_turn (Some group) = collected_turns group places scope counter count body values
-
--- ---- any loop
-
--- the code of one whose rounds are done at once in these groups
-abbrev pub code_taken : Places → List Counter → Counter → ℕ → LoopKind → Stmt → List Insn → Option Group → List Insn
-code_taken places scope counter count kind body in_turn None = code_otherwise places scope counter count body in_turn (group_collected count kind body)
-code_taken places scope counter count kind body in_turn (Some group) = rounds_code group places scope counter count body
-
--- so many turns, beside those of the rounds in turn
-abbrev pub turns_taken : Places → List Counter → Counter → ℕ → LoopKind → Stmt → Values → ℕ → Option Group → ℕ
-turns_taken places scope counter count kind body values in_turn None = turns_otherwise places scope counter count body values in_turn (group_collected count kind body)
-turns_taken places scope counter count kind body values in_turn (Some group) = rounds_turns group places scope counter body values
+abbrev pub turns_chosen : Places → List Counter → Counter → ℕ → Stmt → Values → ℕ → Option Group → ℕ
+turns_chosen places scope counter count body values in_turn None = in_turn
+turns_chosen places scope counter count body values in_turn (Some group) = collected_turns group places scope counter count body values
 
 -- ---- statements
 
@@ -89,7 +52,7 @@ pub record Coded : Type 0 where
 abbrev pub turn_by_turn : List Counter → Counter → ℕ → LoopKind → Coded → List Insn
 turn_by_turn scope counter count kind body = turns_code (is_laid_out kind) (seat (length scope)) count (body.code (counter ∷ scope))
 
--- A test takes three turns where the body is made, and one more where it is passed by; a round, two behind its body, and one in a copy.
+-- A test takes three turns where the body is made, and one more where it is passed by; an iteration, two behind its body, and one in a copy.
 abbrev pub turns_of : Bool → ℕ → (ℕ → ℕ) → ℕ
 turns_of is_laid count body = if are_copies is_laid count then 1 + total count (λ turn. body turn + 1) else 1 + (total count (λ turn. 3 + (body turn + 2)) + 4)
 
@@ -109,8 +72,8 @@ coded_at places (parts.Sequence first second) = record {
 }
 coded_at places (parts.For counter count kind body) = record {
   own = stmts.For counter count kind body.own;
-  code = λ scope. code_taken places scope counter count kind body.own (turn_by_turn scope counter count kind body) (group_taken places scope counter count kind body.own (turn_by_turn scope counter count kind body));
-  turns = λ scope values. turns_taken places scope counter count kind body.own values (loop_turns scope counter count kind body values) (group_taken places scope counter count kind body.own (turn_by_turn scope counter count kind body));
+  code = λ scope. code_chosen places scope counter count body.own (turn_by_turn scope counter count kind body) (group_collected count kind body.own);
+  turns = λ scope values. turns_chosen places scope counter count body.own values (loop_turns scope counter count kind body values) (group_collected count kind body.own);
 }
 coded_at places (parts.Bind counter whole extent body) = record {
   own = stmts.Bind counter whole extent body.own;

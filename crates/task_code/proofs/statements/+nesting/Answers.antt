@@ -1,4 +1,4 @@
-use Rattle.std.proofs.Common.{[], ◌∷◌, refl}
+use Rattle.std.proofs.Common.{◌∷◌, refl, []}
 use Rattle.task_code.proofs.Nests.{store-emitted, sequence-emitted, inner-emitted, for-emitted, bind-emitted}
 use Rattle.task_code_scalar.proofs.Refusing.{passed}
 use Rattle.task_code.proofs.StmtRefusing.{part-passed, same-part, no-store, first-part, second-part, for-part, for-long, for-passed, for-seatless, bind-part, bind-long, bind-seatless}
@@ -20,7 +20,7 @@ emit_stmt-returns-in_ok-add_turns-in-For-clause-ok t c =
     (inner-emitted c.args.places.now [] c.in_ok-inner-in-For.inner.words.items c.as_slice.result.now (c.in-For.counter ∷ c.args.scope.now)
     (c.in-For.counter ∷ c.args.scope.now) (c.in-For.counter ∷ c.args.scope.now) c.get-in-For.result.now c.in-For.body
     refl c.as_slice.ensures.value refl refl c.get-in-For.ensures c.in_ok-inner-in-For.ensures.ok)
-    c.in_ok-emit_turns-in-For.ensures.ok c.new-in_turn.ensures.items c.as_slice-in-For.ensures.value c.in_ok-emit_taken-in-For.ensures.ok
+    c.in_ok-emit_turns-in-For.ensures.ok c.new-in_turn.ensures.items c.as_slice-in-For.ensures.value c.in_ok-emit_chosen-in-For.ensures.ok
 
 pub emit_stmt-returns-in_ok-add_last-in-Bind-clause-ok : goal.emit_stmt-returns-in_ok-add_last-in-Bind-clause-ok
 emit_stmt-returns-in_ok-add_last-in-Bind-clause-ok t c =
@@ -61,15 +61,15 @@ emit_stmt-returns-in_err-emit_turns-in-For-clause-err t c =
     refl c.as_slice.ensures.value refl refl c.get-in-For.ensures c.in_ok-inner-in-For.ensures.ok))
     (λ deep. absurd deep) c.in_err-emit_turns-in-For.ensures.err
 
-pub emit_stmt-returns-in_err-emit_taken-in-For-clause-err : goal.emit_stmt-returns-in_err-emit_taken-in-For-clause-err
-emit_stmt-returns-in_err-emit_taken-in-For-clause-err t c =
-    for-passed c.args.places.now c.from_residual-in_err-emit_taken-in-For.result c.in_err-emit_taken-in-For.field-0.0 c.args.stmt.now c.in-For.body c.get-in-For-2.result.now c.in-For.counter c.in-For.count c.in_ok-r-in-For.r c.in-For.kind
-    c.is_laid_out-is_laid.result c.args.scope.now c.as_slice.result.now c.new-in_turn.result.items c.emit_turns.new.code.items c.as_slice-in-For.result.now c.from_residual-in_err-emit_taken-in-For.ensures.1 c.in-For.is
+pub emit_stmt-returns-in_err-emit_chosen-in-For-clause-err : goal.emit_stmt-returns-in_err-emit_chosen-in-For-clause-err
+emit_stmt-returns-in_err-emit_chosen-in-For-clause-err t c =
+    for-passed c.args.places.now c.from_residual-in_err-emit_chosen-in-For.result c.in_err-emit_chosen-in-For.field-0.0 c.args.stmt.now c.in-For.body c.get-in-For-2.result.now c.in-For.counter c.in-For.count c.in_ok-r-in-For.r c.in-For.kind
+    c.is_laid_out-is_laid.result c.args.scope.now c.as_slice.result.now c.new-in_turn.result.items c.emit_turns.new.code.items c.as_slice-in-For.result.now c.from_residual-in_err-emit_chosen-in-For.ensures.1 c.in-For.is
     c.get-in-For-2.ensures c.is_laid_out-is_laid.ensures c.in_ok-r-in-For.ensures.ok.0
     (inner-emitted c.args.places.now [] c.in_ok-inner-in-For.inner.words.items c.as_slice.result.now (c.in-For.counter ∷ c.args.scope.now)
     (c.in-For.counter ∷ c.args.scope.now) (c.in-For.counter ∷ c.args.scope.now) c.get-in-For.result.now c.in-For.body
     refl c.as_slice.ensures.value refl refl c.get-in-For.ensures c.in_ok-inner-in-For.ensures.ok)
-    c.in_ok-emit_turns-in-For.ensures.ok.0 c.new-in_turn.ensures.items c.as_slice-in-For.ensures.value c.in_err-emit_taken-in-For.ensures.err
+    c.in_ok-emit_turns-in-For.ensures.ok.0 c.new-in_turn.ensures.items c.as_slice-in-For.ensures.value c.in_err-emit_chosen-in-For.ensures.err
 
 pub emit_stmt-returns-in_err-r-in-Bind-clause-err : goal.emit_stmt-returns-in_err-r-in-Bind-clause-err
 emit_stmt-returns-in_err-r-in-Bind-clause-err t c =

@@ -1,4 +1,4 @@
-use Rattle.std.proofs.Common.{[], ◌∷◌, ◌++◌, subst}
+use Rattle.std.proofs.Common.{◌∷◌, ◌++◌, subst, []}
 use Rattle.std.specs.Prelude.{pos}
 use Rattle.rv_insn.specs.declared.instructions.Insn.TheVariants.{Store as Save}
 use Rattle.rv_insn.specs.declared.operations.StoreOp.TheVariants.{Sw}

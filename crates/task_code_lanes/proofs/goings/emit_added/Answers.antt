@@ -1,5 +1,0 @@
-use Rattle.task_code_scalar.proofs.Spelling.{emits_then}
-use Rattle.task_code_lanes.proofs.goings.emit_added.Goals as goal
-
-pub returns : goal.returns
-returns c = emits_then c.in_ok-emit_multiplied.ensures c.in_ok-arithmetic.ensures

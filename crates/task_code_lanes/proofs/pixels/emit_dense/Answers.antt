@@ -1,5 +1,0 @@
-use Rattle.task_code_scalar.proofs.Spelling.{emits_then}
-use Rattle.task_code_lanes.proofs.pixels.emit_dense.Goals as goal
-
-pub returns : goal.returns
-returns c = emits_then c.in_ok-emit_addressed.ensures c.in_ok-emit_row_load.ensures
