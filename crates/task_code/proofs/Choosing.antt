@@ -11,8 +11,8 @@ use Rattle.task_code_scalar.specs.Faults.{IsLong}
 use Rattle.task_code_scalar.specs.Words.{Emits}
 use Rattle.task_code_scalar.proofs.Spelling.{emits-is, emits-apart}
 use Rattle.task_code_lanes.specs.declared.groups.Group.{Group}
-use Rattle.task_code_vector.specs.Collected.{collected_code}
-use Rattle.task_code_vector.specs.Faults.{EmitsCollected}
+use Rattle.task_code_collecting.specs.Collected.{collected_code}
+use Rattle.task_code_collecting.specs.Faults.{EmitsCollected}
 use Rattle.loop_ir.specs.Sizes.{whole_size}
 use Rattle.task_code.specs.inner.Code.{stmt_code, group_collected, code_chosen}
 use Rattle.task_code.specs.inner.Choosing.{EmitsChosen, chosen}

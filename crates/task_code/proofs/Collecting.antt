@@ -27,9 +27,9 @@ use Rattle.task_code_scalar.specs.Fitting.{is_word, has_seat, fits_whole}
 use Rattle.task_code_lanes.specs.declared.groups.Group.{Group}
 use Rattle.task_code_lanes.specs.declared.groups.Group.TheVariants as groups
 use Rattle.task_code_lanes.specs.Groups.{registers, group_of_rounds}
-use Rattle.task_code_vector.specs.Collected.{collected, collecting, is_one_store, round_fits, one_round_code, collected_code, collected_fits}
-use Rattle.task_code_vector.proofs.CollectedEmission.{code-store as round-store, code-bind as round-bind, loop-length, no-sequence, no-for}
-use Rattle.task_code_vector.proofs.Unrolled.{one-store-store, one-store-sequence, one-store-for, one-store-bind, round-fits-store, round-fits-bind}
+use Rattle.task_code_collecting.specs.Collected.{collected, collecting, is_one_store, round_fits, one_round_code, collected_code, collected_fits}
+use Rattle.task_code_collecting.proofs.CollectedEmission.{code-store as round-store, code-bind as round-bind, loop-length, no-sequence, no-for}
+use Rattle.task_code_collecting.proofs.Unrolled.{one-store-store, one-store-sequence, one-store-for, one-store-bind, round-fits-store, round-fits-bind}
 use Rattle.task_code.specs.inner.Code.{stmt_code, group_collected}
 use Rattle.task_code.specs.inner.Fitting.{fits}
 use Rattle.task_code.proofs.Unrolled.{code-store, code-bind, fits-store, fits-for, fits-bind}

@@ -43,7 +43,7 @@ use Rattle.task_code_scalar.proofs.Placing.{store-does}
 use Rattle.task_code_scalar.proofs.Copying.{laid-does}
 use Rattle.task_code_scalar.proofs.Looping.{each-turn, loop-does}
 use Rattle.task_code_scalar.proofs.Binding.{bind-does}
-use Rattle.task_code_vector.proofs.CollectedLooping.{loop-does as collected-done}
+use Rattle.task_code_collecting.proofs.CollectedLooping.{loop-does as collected-done}
 use Rattle.task_code_lanes.specs.declared.groups.Group.{Group}
 use Rattle.task_code.specs.inner.Code.{group_collected, code_chosen, turns_chosen}
 use Rattle.task_code.proofs.Unrolled.{in_turn, turns_in_turn, code-store, code-sequence, code-for, code-bind, fits-store, fits-sequence, fits-for, fits-bind, turns-store, turns-sequence, turns-for, turns-bind}

@@ -29,7 +29,7 @@ use Rattle.task_code.specs.inner.Faults.{IsStmtFault, IsCodeFault, FitsStmt}
 use Rattle.task_code.specs.inner.Emitting.{EmitsStmt}
 use Rattle.task_code_scalar.proofs.Refusing.{passed}
 use Rattle.task_code_scalar.proofs.Spelling.{emits-length}
-use Rattle.task_code_vector.proofs.CollectedEmission.{bind-length, less-room}
+use Rattle.task_code_collecting.proofs.CollectedEmission.{bind-length, less-room}
 use Rattle.task_code.specs.inner.Choosing.{IsChosenFault}
 use Rattle.task_code.proofs.Nests.{turns-made}
 use Rattle.task_code.proofs.Choosing.{others-long}

@@ -18,6 +18,8 @@ use halide_pipeline::Source;
 use loop_ir::expressions::Counter;
 use loop_ir::statements::{LoopKind, Phase, Stmt, Store};
 use std::alloc::{AllocError, Global};
+use task_code_collecting::collecting::{emit_collected, is_one_store};
+use task_code_collecting::vector_loops::VectorLoop;
 use task_code_lanes::groups::Group;
 use task_code_scalar::CodeFault;
 use task_code_scalar::expressions::place_of;
@@ -31,8 +33,6 @@ use task_code_statements::stages::{
 };
 use task_code_statements::tasks;
 use task_code_statements::tasks::emit_restored;
-use task_code_vector::collecting::{emit_collected, is_one_store};
-use task_code_vector::vector_loops::VectorLoop;
 
 /// A loop taken apart: its variable, how often it runs, of which kind it is, and what it does each time.
 #[derive(Clone, Copy)]

@@ -2,3 +2,8 @@ pub mod Operations
 pub mod ByteRows
 pub mod Rows
 pub mod Slots
+pub mod Configured
+pub mod Effects
+pub mod StoredRows
+pub mod Storing
+pub mod Runs

@@ -50,3 +50,12 @@ spare-keeps groups.Two f n new q few (inl a) = lanes-below f 2 n new q (omega (a
 spare-keeps groups.Two f n new q few (inr a) = let b = a.0 in lanes-above f 2 n new q (omega (arith, b, few))
 spare-keeps groups.Four f n new q few (inl a) = first-lanes-stay f n new q (omega (arith, few)) (inl (omega (arith, a))) (omega (arith, a))
 spare-keeps groups.Four f n new q few (inr a) = let b = a.0 in let c = a.1 in first-lanes-stay f n new q (omega (arith, few)) (inr (omega (arith, b, few), omega (arith, b))) (omega (arith, c))
+
+-- the first three slots
+three-slots : (group : Group) → 3 ≤ slots group
+three-slots groups.One = omega arith
+three-slots groups.Two = omega arith
+three-slots groups.Four = omega arith
+
+pub slot-at : (group : Group) (k : ℕ) → k ≤ 2 → SlotLies group k
+slot-at group k l = let t = three-slots group in slot-lies group k (omega (arith, l, t))

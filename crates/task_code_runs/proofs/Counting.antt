@@ -25,7 +25,7 @@ use Rattle.task_code_lanes.specs.declared.groups.Group.TheVariants as groups
 use Rattle.task_code_lanes.specs.Groups.{registers, slots, vtype_of, group_of_rounds}
 use Rattle.task_code_lanes.specs.Leaving.{HasLanes}
 use Rattle.task_code_lane_values.specs.declared.vectorized.Lanes.{Lanes}
-use Rattle.task_code_vector.proofs.Configured.{supported, most, has-lanes, configured-others}
+use Rattle.task_code_lanes.proofs.Configured.{supported, most, has-lanes, configured-others}
 use Rattle.task_code_runs.proofs.Pointing.{address-free}
 use Rattle.task_code_runs.specs.declared.left.Left.{Left}
 use Rattle.task_code_runs.specs.Runs.{all_lanes, least_left, left_by, left_lanes}

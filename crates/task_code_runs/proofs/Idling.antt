@@ -16,8 +16,8 @@ use Rattle.task_code_scalar.specs.Doing.{Setting, stored_points}
 use Rattle.task_code_scalar.specs.Layout.{AreWords}
 use Rattle.task_code_scalar.proofs.Tracing.{hit-for}
 use Rattle.task_code_lane_values.specs.declared.vectorized.Lanes.{Lanes}
-use Rattle.task_code_vector.proofs.Effects.{laid, laid-cut}
-use Rattle.task_code_vector.proofs.Storing.{hits-at-once}
+use Rattle.task_code_lanes.proofs.Effects.{laid, laid-cut}
+use Rattle.task_code_lanes.proofs.Storing.{hits-at-once}
 use Rattle.task_code_runs.specs.AtOnce.{MayRun}
 use Rattle.task_code_runs.specs.Runs.{all_lanes, run_of}
 

@@ -56,10 +56,10 @@ use Rattle.task_code_lanes.specs.Groups.{slot, slots}
 use Rattle.task_code_lanes.proofs.Rows as rows
 use Rattle.task_code_lane_values.specs.declared.vectorized.Lanes.{Lanes}
 use Rattle.task_code_lane_values.specs.Leaving.{IsUnder, MakesLanes}
-use Rattle.task_code_vector.proofs.Effects.{HitBy, laid, laid-same, laid-cut}
-use Rattle.task_code_vector.proofs.Configured.{few-lanes}
-use Rattle.task_code_vector.proofs.Runs.{same-runs, pixels-are-run, loop-runs}
-use Rattle.task_code_vector.proofs.Storing.{hits-at-once}
+use Rattle.task_code_lanes.proofs.Effects.{HitBy, laid, laid-same, laid-cut}
+use Rattle.task_code_lanes.proofs.Configured.{few-lanes}
+use Rattle.task_code_lanes.proofs.Runs.{same-runs, pixels-are-run, loop-runs}
+use Rattle.task_code_lanes.proofs.Storing.{hits-at-once}
 use Rattle.task_code_runs.specs.AtOnce.{MayRun}
 use Rattle.task_code_runs.specs.Runs.{all_lanes, run_of, StoresAs, EmitsRun}
 use Rattle.task_code_runs.specs.inner.Making.{Configures, MakesPointer, StoresLanes}

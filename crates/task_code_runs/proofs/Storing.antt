@@ -20,9 +20,9 @@ use Rattle.task_code_registers.proofs.Going.{Does}
 use Rattle.task_code_lanes.specs.declared.groups.Group.{Group}
 use Rattle.task_code_lanes.specs.Groups.{registers, slot}
 use Rattle.task_code_lanes.specs.Leaving.{HasLanes}
-use Rattle.task_code_vector.proofs.Effects.{HitBy, effect_hits, laid}
-use Rattle.task_code_vector.proofs.FrameCode.{slot-at}
-use Rattle.task_code_vector.proofs.Rows.{lanes-same, all-writable, row-holds, row-touched}
+use Rattle.task_code_lanes.proofs.Effects.{HitBy, effect_hits, laid}
+use Rattle.task_code_lanes.proofs.Slots.{slot-at}
+use Rattle.task_code_lanes.proofs.StoredRows.{lanes-same, all-writable, row-holds, row-touched}
 
 abbrev of_some : Effect → Option Effect → Effect
 of_some other None = other

@@ -19,7 +19,7 @@ use Rattle.multi_hart_logic.specs.LaneMemory.{firsts, accesses_to}
 use Rattle.task_code_scalar.specs.declared.places.Place.{Place}
 use Rattle.task_code_scalar.specs.Code.{place_of, pixel_bytes, address}
 use Rattle.task_code_scalar.specs.Doing.{AreRun}
-use Rattle.task_code_vector.proofs.Rows.{in-places}
+use Rattle.task_code_lanes.proofs.StoredRows.{in-places}
 use Rattle.vector_codegen_laws.specs.Points.{RootPoint, address_at}
 use Rattle.vector_codegen_laws.specs.RunBytes.{has_word, is_byte_of, is_run, rule_of, RulesSayRuns, IsNamed, RunsAreNamed}
 use Rattle.vector_codegen_laws.specs.Runs.{IsByteOf}

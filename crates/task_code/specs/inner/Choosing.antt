@@ -8,7 +8,7 @@ use Rattle.task_code_scalar.specs.declared.CodeFault.{CodeFault}
 use Rattle.task_code_scalar.specs.declared.places.Places.{Places}
 use Rattle.task_code_scalar.specs.Faults.{IsFault, IsLong}
 use Rattle.task_code_scalar.specs.Words.{Emits}
-use Rattle.task_code_vector.specs.Faults.{FitsRound}
+use Rattle.task_code_collecting.specs.Faults.{FitsRound}
 use Rattle.task_code.specs.inner.Code.{code_chosen, group_collected}
 
 -- the code of a loop, of whose iterations in turn this is the code

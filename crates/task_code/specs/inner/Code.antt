@@ -21,7 +21,7 @@ use Rattle.task_code_scalar.specs.Code.{seat, store_code, turns_code, whole_code
 use Rattle.task_code_scalar.specs.Fitting.{total}
 use Rattle.task_code_lanes.specs.declared.groups.Group.{Group}
 use Rattle.task_code_lanes.specs.Groups.{group_of_rounds}
-use Rattle.task_code_vector.specs.Collected.{is_one_store, collected_code, collected_turns}
+use Rattle.task_code_collecting.specs.Collected.{is_one_store, collected_code, collected_turns}
 use Rattle.task_code_statements.specs.Tasks.{restored}
 
 -- ---- loops that collect their pixels

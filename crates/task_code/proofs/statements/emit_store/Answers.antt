@@ -5,7 +5,7 @@ use Rattle.rv_insn.specs.declared.operations.StoreOp.TheVariants.{Sw}
 use Rattle.task_code_scalar.specs.Code.{addressed, value_code, move}
 use Rattle.task_code_scalar.specs.Words.{Emits}
 use Rattle.task_code_scalar.proofs.Spelling.{emits_then}
-use Rattle.task_code_vector.proofs.CollectedEmission.{store-fits}
+use Rattle.task_code_collecting.proofs.CollectedEmission.{store-fits}
 use Rattle.task_code.proofs.statements.emit_store.Goals as goal
 
 pub returns-clause-ok : goal.returns-clause-ok

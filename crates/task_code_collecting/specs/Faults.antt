@@ -9,7 +9,7 @@ use Rattle.task_code_scalar.specs.declared.places.Places.{Places}
 use Rattle.task_code_scalar.specs.Faults.{IsFault, IsLong, LieLow, HasRoom}
 use Rattle.task_code_scalar.specs.Words.{Emits}
 use Rattle.task_code_lanes.specs.declared.groups.Group.{Group}
-use Rattle.task_code_vector.specs.Collected.{collected, round_fits, collected_code, collected_fits}
+use Rattle.task_code_collecting.specs.Collected.{collected, round_fits, collected_code, collected_fits}
 
 -- of a round's statement among so many counters, of which 14 have registers
 abbrev pub FitsRound : Places → Stmt → ℕ → Type 0

@@ -1,7 +1,7 @@
 use Rattle.std.proofs.Common.{◌∷◌, refl}
 use Rattle.task_code_scalar.proofs.Refusing.{passed}
-use Rattle.task_code_vector.proofs.CollectedEmission.{inner-emitted, rounds-long, loop-emitted}
-use Rattle.task_code_vector.proofs.collecting.emit_collected.Goals as goal
+use Rattle.task_code_collecting.proofs.CollectedEmission.{inner-emitted, rounds-long, loop-emitted}
+use Rattle.task_code_collecting.proofs.collecting.emit_collected.Goals as goal
 
 pub returns-in_err-emit_turns-clause-err : goal.returns-in_err-emit_turns-clause-err
 returns-in_err-emit_turns-clause-err c =

@@ -32,9 +32,9 @@ use Rattle.task_code_scalar.proofs.Spelling.{emits_then, emits-is, emits-length}
 use Rattle.task_code_scalar.proofs.WordTests.{word-test}
 use Rattle.task_code_lanes.specs.declared.groups.Group.{Group}
 use Rattle.task_code_lanes.specs.Groups.{registers, slot, vtype_of}
-use Rattle.task_code_vector.specs.Collected.{Collected, collected, collecting, pixel_code, is_one_store, round_fits, one_round_code, collected_code}
-use Rattle.task_code_vector.specs.Faults.{FitsRound, EmitsRound, IsRoundFault, EmitsCollected}
-use Rattle.task_code_vector.proofs.Unrolled.{one-store-sequence, one-store-for, one-store-bind, collected-store, collected-bind, round-fits-store, round-fits-bind}
+use Rattle.task_code_collecting.specs.Collected.{Collected, collected, collecting, pixel_code, is_one_store, round_fits, one_round_code, collected_code}
+use Rattle.task_code_collecting.specs.Faults.{FitsRound, EmitsRound, IsRoundFault, EmitsCollected}
+use Rattle.task_code_collecting.proofs.Unrolled.{one-store-sequence, one-store-for, one-store-bind, collected-store, collected-bind, round-fits-store, round-fits-bind}
 
 -- ---- tests
 

@@ -1,8 +1,8 @@
 use Rattle.std.proofs.Common.{◌<◌, ◌∷◌, subst}
 use Rattle.loop_ir.specs.declared.statements.Stmt.{size-Stmt}
 use Rattle.task_code_scalar.proofs.Refusing.{passed}
-use Rattle.task_code_vector.proofs.CollectedEmission.{no-sequence, no-for, body-one, smaller, store-emitted, inner-emitted, bind-emitted, no-store, part-passed, bind-long, bind-seatless}
-use Rattle.task_code_vector.proofs.collecting.+emit_round.Goals as goal
+use Rattle.task_code_collecting.proofs.CollectedEmission.{no-sequence, no-for, body-one, smaller, store-emitted, inner-emitted, bind-emitted, no-store, part-passed, bind-long, bind-seatless}
+use Rattle.task_code_collecting.proofs.collecting.+emit_round.Goals as goal
 
 pub returns-in_err-emit_pixel-in-Store-clause-err : goal.returns-in_err-emit_pixel-in-Store-clause-err
 returns-in_err-emit_pixel-in-Store-clause-err t c =

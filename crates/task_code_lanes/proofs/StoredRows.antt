@@ -14,7 +14,7 @@ use Rattle.multi_hart_logic.specs.LaneMemory.{firsts, accesses_to, AllWritable, 
 use Rattle.task_code_scalar.specs.Layout.{func_point, address_of, Holds, IsOf, IsElsewhere, MayStore}
 use Rattle.task_code_scalar.specs.Doing.{Setting, IsSetting, AreRun, HoldsFuncs}
 use Rattle.task_code_scalar.proofs.Storing.{stored-is, size-stays, bytes-stay, is-touched, words-put, stored-holds, others-stay}
-use Rattle.task_code_vector.proofs.Effects.{laid}
+use Rattle.task_code_lanes.proofs.Effects.{laid}
 
 -- ---- places that are touched
 

@@ -11,7 +11,7 @@ use Rattle.loop_ir.specs.Running.{run}
 use Rattle.task_code_scalar.specs.Evaluation.{Knows}
 use Rattle.task_code_scalar.specs.Doing.{Setting, IsSetting, SoundIn, RunsIn, HoldsFuncs, Done, stored_points}
 use Rattle.task_code_lanes.specs.declared.groups.Group.{Group}
-use Rattle.task_code_vector.specs.Collected.{collected_code, collected_turns, collected_fits}
+use Rattle.task_code_collecting.specs.Collected.{collected_code, collected_turns, collected_fits}
 
 -- a vectorized loop that fits, whose rounds may be done at once where loads are answered by these buffers, and store in runs where the setting asks for
 -- that

@@ -5,8 +5,8 @@ ghost use Rattle.task_code_scalar.specs.Faults.{FitsStore, IsFault};
 ghost use Rattle.task_code_scalar.specs.Fitting.{fits_store};
 ghost use Rattle.task_code_scalar.specs.Words.{Emits};
 ghost use Rattle.task_code_lanes.specs.Groups.{registers};
-ghost use Rattle.task_code_vector.specs.Collected as spec;
-ghost use Rattle.task_code_vector.specs.Faults.{EmitsRound, EmitsCollected, IsRoundFault, IsCollectedFault};
+ghost use Rattle.task_code_collecting.specs.Collected as spec;
+ghost use Rattle.task_code_collecting.specs.Faults.{EmitsRound, EmitsCollected, IsRoundFault, IsCollectedFault};
 
 use crate::marks::{configure_none, mark_lane, put_marked};
 use crate::vector_loops::VectorLoop;

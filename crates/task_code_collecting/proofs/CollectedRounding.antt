@@ -40,9 +40,9 @@ use Rattle.task_code_scalar.proofs.Reaching.{addressed-reaches}
 use Rattle.task_code_scalar.proofs.Values.{imm-sets}
 use Rattle.task_code_lanes.specs.declared.groups.Group.{Group}
 use Rattle.task_code_lanes.specs.Groups.{registers}
-use Rattle.task_code_vector.specs.Collected.{Collected, collected, collecting, pixel_code, round_fits}
-use Rattle.task_code_vector.proofs.Marking.{Marks, marking}
-use Rattle.task_code_vector.proofs.Unrolled.{collected-store, collected-bind, round-fits-store, round-fits-sequence, round-fits-for, round-fits-bind}
+use Rattle.task_code_collecting.specs.Collected.{Collected, collected, collecting, pixel_code, round_fits}
+use Rattle.task_code_collecting.proofs.Marking.{Marks, marking}
+use Rattle.task_code_collecting.proofs.Unrolled.{collected-store, collected-bind, round-fits-store, round-fits-sequence, round-fits-for, round-fits-bind}
 
 below : (n k : ℕ) → nat_lt n k ≡ true → n < k
 below n k t = grind (arith, nat_tests)

@@ -29,7 +29,7 @@ use Rattle.loop_ir.proofs.Sound.{sound_store, sound_bind}
 use Rattle.task_code_scalar.specs.Doing.{Setting, IsAmong, AreRun, RunsIn}
 use Rattle.task_code_scalar.specs.Layout.{AreWords}
 use Rattle.task_code_scalar.proofs.Looping.{each-turn}
-use Rattle.task_code_vector.proofs.Effects.{HitBy}
+use Rattle.task_code_lanes.proofs.Effects.{HitBy}
 
 -- ---- tests
 

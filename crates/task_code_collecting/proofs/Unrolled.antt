@@ -12,7 +12,7 @@ use Rattle.loop_ir.specs.declared.statements.Stmt.TheVariants as s
 use Rattle.task_code_scalar.specs.declared.places.Places.{Places}
 use Rattle.task_code_scalar.specs.Fitting.{is_word, fits_store, has_seat, fits_whole}
 use Rattle.task_code_lanes.specs.declared.groups.Group.{Group}
-use Rattle.task_code_vector.specs.Collected.{Collected, collected, collected_at, is_one_store, one_store_at, round_fits, round_fits_at}
+use Rattle.task_code_collecting.specs.Collected.{Collected, collected, collected_at, is_one_store, one_store_at, round_fits, round_fits_at}
 
 -- ---- one store
 

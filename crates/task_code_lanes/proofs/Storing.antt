@@ -21,7 +21,7 @@ use Rattle.loop_ir.specs.Running.{whole_value}
 use Rattle.loop_ir.proofs.AtOnce.{effect_store, effect_bind, in_turn, same_round, fewer_apart}
 use Rattle.loop_ir.proofs.Rounds.{rounds_sequence, rounds_for, rounds_bind}
 use Rattle.task_code_scalar.proofs.Tracing.{hit, made, hit_before, hit-store, hit-bind, hit-first, hit-later}
-use Rattle.task_code_vector.proofs.Effects.{HitBy}
+use Rattle.task_code_lanes.proofs.Effects.{HitBy}
 
 same : (m n : ℕ) → (m == n) ≡ true → m ≡ n
 same m n u = grind (arith, nat_tests)

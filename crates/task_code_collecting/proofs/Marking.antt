@@ -21,9 +21,9 @@ use Rattle.task_code_lanes.specs.Groups.{registers, slot, vtype_of}
 use Rattle.task_code_lanes.specs.Leaving.{HasLanes}
 use Rattle.task_code_lanes.proofs.Slots.{SlotLies}
 use Rattle.task_code_lanes.proofs.Rows.{Writes, writes, writes-lanes}
-use Rattle.task_code_vector.proofs.FrameCode.{slot-at}
-use Rattle.task_code_vector.proofs.Configured.{supported, most, few-lanes, has-lanes, configured-others}
-use Rattle.task_code_vector.specs.Collected.{collecting}
+use Rattle.task_code_lanes.proofs.Slots.{slot-at}
+use Rattle.task_code_lanes.proofs.Configured.{supported, most, few-lanes, has-lanes, configured-others}
+use Rattle.task_code_collecting.specs.Collected.{collecting}
 
 next-is : (i : ℕ) → i < 16 → (i + 1) % 2 ^ 32 ≡ suc i
 next-is i l = omega (arith, l)

@@ -1,5 +1,5 @@
-use Rattle.task_code_vector.proofs.CollectedEmission.{collecting-emitted}
-use Rattle.task_code_vector.proofs.collecting.emit_collecting.Goals as goal
+use Rattle.task_code_collecting.proofs.CollectedEmission.{collecting-emitted}
+use Rattle.task_code_collecting.proofs.collecting.emit_collecting.Goals as goal
 
 pub returns : goal.returns
 returns c =

@@ -1,9 +1,3 @@
-pub mod Effects
-pub mod FrameCode
-pub mod Configured
-pub mod Runs
-pub mod Rows
-pub mod Storing
 pub mod Moving
 pub mod CollectedEmission
 pub mod CollectedLooping

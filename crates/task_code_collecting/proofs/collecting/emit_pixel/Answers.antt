@@ -2,8 +2,8 @@ use Rattle.std.proofs.Common.{◌++◌, subst}
 use Rattle.task_code_scalar.specs.Code.{addressed, value_code, move}
 use Rattle.task_code_scalar.specs.Words.{Emits}
 use Rattle.task_code_scalar.proofs.Spelling.{emits_then}
-use Rattle.task_code_vector.proofs.CollectedEmission.{store-fits}
-use Rattle.task_code_vector.proofs.collecting.emit_pixel.Goals as goal
+use Rattle.task_code_collecting.proofs.CollectedEmission.{store-fits}
+use Rattle.task_code_collecting.proofs.collecting.emit_pixel.Goals as goal
 
 pub returns-clause-ok : goal.returns-clause-ok
 returns-clause-ok c = (

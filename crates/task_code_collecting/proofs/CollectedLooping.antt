@@ -44,17 +44,17 @@ use Rattle.task_code_scalar.proofs.Tracing.{hit-for}
 use Rattle.task_code_lanes.specs.declared.groups.Group.{Group}
 use Rattle.task_code_lanes.specs.Groups.{registers, slot, vtype_of}
 use Rattle.task_code_lanes.specs.Leaving.{HasLanes}
-use Rattle.task_code_vector.proofs.Effects.{HitBy, effect_hits, laid, laid-same, laid-cut}
-use Rattle.task_code_vector.proofs.FrameCode.{slot-at}
-use Rattle.task_code_vector.proofs.Moving.{same_counter-self}
-use Rattle.task_code_vector.proofs.Configured.{supported, few-lanes, has-lanes, configured-others}
-use Rattle.task_code_vector.proofs.Rows.{lanes-same, may, all-writable, row-holds, row-touched}
-use Rattle.task_code_vector.proofs.Runs.{StoreRuns, loop-runs}
-use Rattle.task_code_vector.proofs.Storing.{hits-at-once}
-use Rattle.task_code_vector.specs.Collected.{collected, one_round_code, collected_code, collected_turns, collected_fits, round_fits}
-use Rattle.task_code_vector.specs.CollectedDoing.{LoopsAreCollected}
-use Rattle.task_code_vector.proofs.Passing.{Stored, OfFunc, of-func, all-before}
-use Rattle.task_code_vector.proofs.CollectedRounding.{spot_of, CollectsOne, Collects, follows}
+use Rattle.task_code_lanes.proofs.Effects.{HitBy, effect_hits, laid, laid-same, laid-cut}
+use Rattle.task_code_lanes.proofs.Slots.{slot-at}
+use Rattle.task_code_collecting.proofs.Moving.{same_counter-self}
+use Rattle.task_code_lanes.proofs.Configured.{supported, few-lanes, has-lanes, configured-others}
+use Rattle.task_code_lanes.proofs.StoredRows.{lanes-same, may, all-writable, row-holds, row-touched}
+use Rattle.task_code_lanes.proofs.Runs.{StoreRuns, loop-runs}
+use Rattle.task_code_lanes.proofs.Storing.{hits-at-once}
+use Rattle.task_code_collecting.specs.Collected.{collected, one_round_code, collected_code, collected_turns, collected_fits, round_fits}
+use Rattle.task_code_collecting.specs.CollectedDoing.{LoopsAreCollected}
+use Rattle.task_code_collecting.proofs.Passing.{Stored, OfFunc, of-func, all-before}
+use Rattle.task_code_collecting.proofs.CollectedRounding.{spot_of, CollectsOne, Collects, follows}
 
 below : (n k : ℕ) → nat_lt n k ≡ true → n < k
 below n k t = grind (arith, nat_tests)

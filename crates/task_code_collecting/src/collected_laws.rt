@@ -1,6 +1,6 @@
 //! Laws of code, each the contract of a function that does nothing.
 
-ghost use Rattle.task_code_vector.specs.CollectedDoing.{LoopsAreCollected};
+ghost use Rattle.task_code_collecting.specs.CollectedDoing.{LoopsAreCollected};
 
 /// The code of a vectorized loop whose rounds collect their pixels leaves what the loop leaves in turn, and writes each
 /// point at which it stores, where none loads a point at which an earlier one stores, and no value of a split loop
