@@ -48,13 +48,13 @@ abbrev pub corner_of : Option SourceBox → BoxCorner
 corner_of None = record { x = 0; y = 0 }
 corner_of (Some own) = record { x = word_at own.x.low; y = word_at own.y.low }
 
--- ---- in the data
+-- ---- where points lie in the data
 
--- a point of a box whose points lie row by row from an address on, 4 bytes each
+-- where a point of a box lies, counted from its corner: its points lie row by row from an address on, 4 bytes each
 abbrev pub point_in : ℕ → Option SourceBox → ℕ → ℕ → ℕ
 point_in start None x y = start
 point_in start (Some own) x y = start + 4 * (y * extent own.x + x)
 
--- the point of a Func that is computed at root, counted from the corner of its box: from where the layout has the Func
+-- and one of a Func computed at root, from where the layout has the Func
 abbrev pub point_address : Boxes → ℕ → ℕ → ℕ → ℕ
 point_address boxes func x y = point_in (slice_index boxes.layout.roots func) (box_in (slice_get boxes.funcs func)) x y

@@ -1,5 +1,5 @@
--- Why an algorithm under a schedule isn't compiled: the first fault that stands. The algorithm's text is judged first, then the schedule's,
--- how heavy the schedule is, the boxes, and how many registers expressions need.
+-- Why an algorithm under a schedule isn't compiled: the first fault that stands. Judged are, in this order, the algorithm's text, the
+-- schedule's, how heavy the schedule is, the boxes, and how many registers expressions need.
 -- This project's own.
 use Rattle.std.specs.Prelude.{◌≡◌, ◌⊎◌, ℕ, nat_lt, if◌then◌else◌, List, Option, Some, None, Result, Ok, Err}
 use Rattle.std.specs.declared.alloc.Global.{Global}
