@@ -86,6 +86,13 @@ fn name_of(names: &[Named], e: &Expr, nodes: usize) -> Option<Counter>
     }
 }
 
+/// The name that an expression has.
+pub fn name_for(names: &[Named], e: &Expr) -> Option<Counter>
+    ensures { IfSome result (λ counter. IsNameOf names.now e.now counter) }
+{
+    name_of(names, e, nodes_of(e))
+}
+
 #[cycle(naming)]
 fn part_by_names(alloc: Global, names: &[Named], e: &Expr) -> Result<Part, AllocError>
     ensures { IfOk result (λ part. IsNamedExpr names.now e.now part.made) }
