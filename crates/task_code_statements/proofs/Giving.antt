@@ -263,3 +263,11 @@ pub loop-alone : (places : Places) (scope : List Held) (is_so : Values → Type 
     → c1 ≡ c0 → EmitsLoop c1 c2 places scope is_so counter count body → EmitsLoop c0 c2 places scope is_so counter count body
 loop-alone places scope is_so counter count body c0 c1 c2 is loop kind plain =
     subst (λ c. EmitsStatement c c2 places scope is_so (s.For counter count kind body)) is (loop kind plain)
+
+-- a statement behind them
+pub statement-after : (places : Places) (scope view : List Held) (context : Context) (made : Naming) (statement : Stmt) (c0 c1 c2 : List ℕ)
+    → NamesHold c0 c1 places scope (Meets context) made.scope.items (Meets made.context) → view ≡ made.scope.items
+    → EmitsStatement c1 c2 places view (Meets made.context) statement → EmitsStatement c0 c2 places scope (Meets context) statement
+statement-after places scope view context made statement c0 c1 c2 n ev x =
+    statement-behind places scope made.scope.items (Meets context) (Meets made.context) c0 c1 c2 statement n
+    (subst (λ l. EmitsStatement c1 c2 places l (Meets made.context) statement) ev x)

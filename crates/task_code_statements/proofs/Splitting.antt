@@ -32,7 +32,7 @@ use Rattle.task_code_statements.specs.Contexts.{MeetsSum, Meets}
 use Rattle.task_code_statements.specs.Rewriting.{IsSameSum}
 use Rattle.task_code_statements.specs.declared.splits.Start.{Start}
 use Rattle.task_code_statements.specs.declared.splits.Start.TheVariants as starts
-use Rattle.task_code_statements.specs.Splits.{AddsInner, BeginsRun, IsProduct, IsSplitSum, product, start_value}
+use Rattle.task_code_statements.specs.Splits.{AddsInner, BeginsRun, HasLesser, IsProduct, IsSplitSum, product, start_value}
 use Rattle.task_code_statements.specs.Statements.{EmitsStatement}
 use Rattle.task_code_statements.proofs.Following.{did-is, may-split}
 use Rattle.task_code_runs.specs.Naming.{AreNamed, is_name}
@@ -94,6 +94,10 @@ module _ (context : Context) (whole : Whole) (last : ℕ) (made : Linear) (el : 
       (below 0 values (subst (λ b. AreBelow b values) (sym eb) meets.below)) in
       last-is values ∙ min-eq_left (omega (arith, less, most))
 
+  pub name-begins : (counter : Counter) → HasLesser context made last counter → BeginsRun context whole (starts.Name counter)
+  name-begins counter has values meets =
+      last-is values ∙ ap (λ n. min n last) (sym (is.value_is values meets.known)) ∙ sym (has values meets)
+
 pub any-begins : (context : Context) (whole : Whole) → BeginsRun context whole starts.Unknown
 any-begins context whole values meets = refl
 
@@ -123,6 +127,16 @@ unfolding linear_value word.add
 number-adds whole start number none one es e0 e1 other values =
     let g : (number + (values whole.inner * 1 + 0)) % 2 ^ 32 ≡ (number + values whole.inner) % 2 ^ 32 = omega arith in
     ap (λ l. linear_value values (record { number = number; terms = l })) (e1 ∙ ap (λ l. l ++ (record { counter = whole.inner; stride = 1 } ∷ [])) e0)
+    ∙ g ∙ sym (ap (λ k. word.add (start_value whole other k values) (values whole.inner)) es)
+
+pub name-adds : (whole : Whole) (start : Start) (name : Counter) (none one both : List Term) → start ≡ starts.Name name → none ≡ []
+    → one ≡ none ++ (record { counter = name; stride = 1 } ∷ []) → both ≡ one ++ (record { counter = whole.inner; stride = 1 } ∷ [])
+    → AddsInner whole start (record { number = 0; terms = both })
+unfolding linear_value word.add
+name-adds whole start name none one both es e0 e1 e2 other values =
+    let g : (0 + (values name * 1 + (values whole.inner * 1 + 0))) % 2 ^ 32 ≡ (values name + values whole.inner) % 2 ^ 32 = omega arith in
+    ap (λ l. linear_value values (record { number = 0; terms = l }))
+    (two-terms (record { counter = name; stride = 1 }) (record { counter = whole.inner; stride = 1 }) none one both e0 e1 e2)
     ∙ g ∙ sym (ap (λ k. word.add (start_value whole other k values) (values whole.inner)) es)
 
 pub split-is : (context : Context) (known : List Known) (whole : Whole) (start : Start) (found : Option Linear) (own made : Linear)

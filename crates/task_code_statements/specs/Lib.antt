@@ -1,6 +1,7 @@
 pub mod Contexts
 pub mod Lacking
 pub mod Laying
+pub mod Lessers
 pub mod Making
 pub mod Naming
 pub mod Plain

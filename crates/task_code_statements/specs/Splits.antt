@@ -1,11 +1,13 @@
 -- Values of split loops as sums. This project's own.
-use Rattle.std.specs.Prelude.{◌≡◌, ℕ}
+use Rattle.std.specs.Prelude.{◌≡◌, ℕ, min, Option, None, Some}
+use Rattle.halide_pipeline.specs.Pixel.{Reads}
 use Rattle.halide_pipeline.specs.Words as word
 use Rattle.loop_ir.specs.declared.expressions.Counter.{Counter}
+use Rattle.loop_ir.specs.declared.expressions.Expr.{Expr}
 use Rattle.loop_ir.specs.declared.expressions.Linear.{Linear}
 use Rattle.loop_ir.specs.declared.statements.Whole.{Whole}
 use Rattle.loop_ir.specs.Counters.{Values}
-use Rattle.loop_ir.specs.Expressions.{linear_value}
+use Rattle.loop_ir.specs.Expressions.{linear_value, value}
 use Rattle.loop_ir.specs.Running.{at_most, whole_value}
 use Rattle.task_code_loops.specs.Known.{AreKnown}
 use Rattle.task_code_runs.specs.Naming.{AreNamed}
@@ -36,10 +38,25 @@ product whole values = word.multiply (values whole.outer) whole.factor
 pub record IsProduct (context : Context) (whole : Whole) (sum : Linear) : Type 0 where
   pub value_is : (values : Values) → AreKnown context.known.items values → linear_value values sum ≡ product whole values
 
+-- a name has the value of the lesser of a sum and a number, as numbers without a sign, wherever the context holds
+abbrev pub HasLesser : Context → Linear → ℕ → Counter → Type 0
+HasLesser context sum number counter = (values : Values) → Meets context values → values counter ≡ min (linear_value values sum) number
+
+-- the lesser of a run's product and the last start, as numbers with a sign
+abbrev pub signed_start : Option ℕ → ℕ → ℕ
+signed_start None n = n
+signed_start (Some last) n = word.minimum n last
+
+-- an expression has this value
+pub record IsStart (context : Context) (whole : Whole) (e : Expr) : Type 0 where
+  pub value_is : (reads : Reads) (values : Values) → AreKnown context.known.items values
+      → value reads values e ≡ signed_start whole.last (product whole values)
+
 -- the value of a start, or another number where it isn't known
 abbrev pub start_value : Whole → ℕ → Start → Values → ℕ
 start_value whole other starts.Product values = product whole values
 start_value whole other (starts.Number number) values = number
+start_value whole other (starts.Name counter) values = values counter
 start_value whole other starts.Unknown values = other
 
 -- a run begins there, wherever the context holds; of an unknown start this says nothing

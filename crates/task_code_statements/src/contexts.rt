@@ -7,6 +7,7 @@ ghost use Rattle.task_code_statements.specs.Contexts.{IsEmpty, KeepsNames, Meets
 ghost use Rattle.task_code_statements.specs.Contexts.{StayNamed};
 
 use crate::lacking::lacks;
+use crate::lessers::count_below;
 use loop_ir::expressions::{Counter, Expr, Linear, Term, same_counter};
 use std::alloc::{AllocError, Global};
 use task_code_loops::bounds::Bound;
@@ -82,7 +83,7 @@ fn keep_others(
 }
 
 /// Whether a number is known below which the loop variable stays.
-fn is_bounded(bounds: &[Bound], counter: Counter) -> bool
+pub fn is_bounded(bounds: &[Bound], counter: Counter) -> bool
     ensures { result ≡ contexts.is_bounded bounds.now counter }
 {
     match bounds {
@@ -235,11 +236,7 @@ pub fn with_zero(alloc: Global, context: Context, counter: Counter) -> Result<Co
 }
 
 /// What is known where a name has the value of an expression, if the name is a new one.
-///
-/// # Errors
-///
-/// Memory ran out.
-pub fn with_name(
+fn with_name(
     alloc: Global,
     context: &Context,
     counter: Counter,
@@ -262,5 +259,34 @@ pub fn with_name(
         bounds,
         names,
         with_variables: context.with_variables,
+    }))
+}
+
+/// What is known where a name has the value of an expression, if the name is a new one, and below which number that
+/// stays, if that is known.
+///
+/// # Errors
+///
+/// Memory ran out.
+pub fn with_value(
+    alloc: Global,
+    context: &Context,
+    counter: Counter,
+    e: &Expr,
+) -> Result<Option<Context>, AllocError>
+    ensures { IfOk result (λ found. IfSome found (MeetsName context.now counter e.now)) }
+{
+    let Some(made) = with_name(alloc, context, counter, e)? else {
+        return Ok(None);
+    };
+    let Some(count) = count_below(alloc, context.bounds.as_slice(), e)? else {
+        return Ok(Some(made));
+    };
+    let bounds = with_bound(alloc, made.bounds.as_slice(), Bound { counter, count })?;
+    Ok(Some(Context {
+        known: made.known,
+        bounds,
+        names: made.names,
+        with_variables: made.with_variables,
     }))
 }

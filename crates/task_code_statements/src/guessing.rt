@@ -1,13 +1,14 @@
 //! What of a loop's body is worth a name: what stays the same in all iterations. A guess, of which nothing is promised.
 
-use crate::contexts::{Context, in_loop};
+use crate::contexts::{Context, in_loop, with_value};
+use crate::names::free_name;
 use crate::plain::name;
 use crate::rewriting::store_by_others;
-use crate::splits::{enter_split, is_cut, without_last};
+use crate::splits::{Entered, enter_split, is_cut, unnamed_start, without_last};
 use crate::statements::{is_laid_out, made_store};
 use crate::vectorizing::is_at_once;
 use loop_ir::expressions::{Counter, Expr, Term, same_counter};
-use loop_ir::statements::{LoopKind, Stmt, Store};
+use loop_ir::statements::{LoopKind, Stmt, Store, Whole};
 use sqlite_items::Boxed;
 use std::alloc::{AllocError, Global};
 use task_code_loops::bounds::Bound;
@@ -65,6 +66,32 @@ fn without_cut(body: &Stmt, own: Bound) -> Bound {
     }
 }
 
+/// Adds an expression to others.
+fn push_expr(named: &mut Vec<Expr>, e: Expr) -> Result<(), AllocError> {
+    named.push(e)?;
+    Ok(())
+}
+
+/// Where a split loop's variable stands at its value, with a name for where its run begins, where that needs one: it is
+/// added to what gets one.
+fn enter_named(
+    alloc: Global,
+    context: &Context,
+    counter: Counter,
+    whole: &Whole,
+    named: &mut Vec<Expr>,
+) -> Result<Entered, CodeFault> {
+    let Some(e) = unnamed_start(alloc, context, whole)? else {
+        return enter_split(alloc, context, counter, whole);
+    };
+    let own = free_name(context, Vec::new(alloc).as_slice());
+    let Some(inner) = with_value(alloc, context, own, &e)? else {
+        return Err(CodeFault::TooDeep);
+    };
+    push_expr(named, e)?;
+    enter_split(alloc, &inner, counter, whole)
+}
+
 #[cycle(readying)]
 fn ready_part(
     alloc: Global,
@@ -115,7 +142,7 @@ pub fn ready(
             ready_loop(alloc, context, own, *kind, made, named)
         }
         Stmt::Bind(counter, whole, extent, body) => {
-            let entered = enter_split(alloc, context, *counter, whole)?;
+            let entered = enter_named(alloc, context, *counter, whole, named)?;
             let made = ready_part(alloc, places, &entered.inner, with_cuts, body.get(), named)?;
             Ok(Stmt::Bind(*counter, *whole, *extent, made))
         }
@@ -376,4 +403,57 @@ pub fn staying_in(
     let made = ready_part(alloc, places, &inner, true, body, &mut named)?;
     let all = staying(alloc, context.bounds.as_slice(), made.get())?;
     Ok(all)
+}
+
+/// Adds where runs inside a statement begin that need a name, if these stay the same where these loops stand around it.
+fn add_starts(
+    alloc: Global,
+    bounds: &[Bound],
+    context: &Context,
+    statement: &Stmt,
+    found: &mut Vec<Expr>,
+) -> Result<(), CodeFault> {
+    match statement {
+        Stmt::Store(_) => Ok(()),
+        Stmt::Sequence(first, second) => {
+            add_starts(alloc, bounds, context, first.get(), found)?;
+            add_starts(alloc, bounds, context, second.get(), found)
+        }
+        Stmt::For(counter, count, _, body) => {
+            let own = Bound {
+                counter: *counter,
+                count: *count,
+            };
+            let own = without_cut(body.get(), own);
+            let inner = in_loop(alloc, context, own)?;
+            add_starts(alloc, bounds, &inner, body.get(), found)
+        }
+        Stmt::Bind(counter, whole, _, body) => {
+            let mut named = Vec::new(alloc);
+            let entered = enter_named(alloc, context, *counter, whole, &mut named)?;
+            for e in named.as_slice() {
+                if is_same_in_all(bounds, e) {
+                    add(alloc, found, e)?;
+                }
+            }
+            add_starts(alloc, bounds, &entered.inner, body.get(), found)
+        }
+    }
+}
+
+/// Where runs inside a loop begin that need a name, if these stay the same in all iterations.
+///
+/// # Errors
+///
+/// As of the code of the loop.
+pub fn starts_in(
+    alloc: Global,
+    context: &Context,
+    own: Bound,
+    body: &Stmt,
+) -> Result<Vec<Expr>, CodeFault> {
+    let mut found = Vec::new(alloc);
+    let inner = in_loop(alloc, context, own)?;
+    add_starts(alloc, context.bounds.as_slice(), &inner, body, &mut found)?;
+    Ok(found)
 }

@@ -1,13 +1,14 @@
 //! Names: registers that hold the values of expressions which stay the same while a loop runs.
 
-ghost use Rattle.std.specs.Prelude.{IfOk, IfSome};
+ghost use Rattle.std.specs.Prelude.{◌≡◌, IfOk, IfSome, true};
 ghost use Rattle.task_code_registers.specs.Scopes.{IsLeft};
+ghost use Rattle.task_code_runs.specs.Naming.{is_name};
 ghost use Rattle.task_code_statements.specs.Naming.{KeepsValue, NamesIf};
 
-use crate::contexts::{Context, with_name};
+use crate::contexts::{Context, is_bounded, with_value};
 use crate::plain::name;
 use crate::statements::mentions;
-use loop_ir::expressions::Expr;
+use loop_ir::expressions::{Counter, Expr};
 use std::alloc::Global;
 use task_code_loops::tests::variable;
 use task_code_names::copies::is_still;
@@ -15,12 +16,20 @@ use task_code_registers::numbers::emit_plus;
 use task_code_registers::scopes::{Held, free_register, with_held};
 use task_code_scalar::places::Places;
 use task_code_scalar::{CodeFault, append};
+use task_code_values::sites::Site;
 use task_code_values::stores::emit_value;
 
-/// How many names there are at most.
-const MOST_NAMES: usize = 4;
-/// How many registers names leave to loops and pointers.
-const LEFT: usize = 6;
+/// How many names are tried.
+const TRIED: usize = 64;
+
+/// How far names go.
+#[derive(Clone, Copy)]
+pub struct Limits {
+    /// How many there are at most.
+    pub names: usize,
+    /// How many registers they leave.
+    pub registers: usize,
+}
 
 /// What registers hold behind code that gives names their values, and what is known there.
 #[derive(Debug)]
@@ -61,37 +70,51 @@ fn kept_words(
     }
 }
 
+/// A name that no held form has, and of which nothing is known.
+pub fn free_name(context: &Context, scope: &[Held]) -> Counter
+    ensures { is_name result ≡ true }
+{
+    let first = context.names.len();
+    for number in first..first.saturating_add(TRIED) {
+        let own = name(number);
+        if !mentions(scope, own) && !is_bounded(context.bounds.as_slice(), own) {
+            return own;
+        }
+    }
+    name(first)
+}
+
 /// Appends code that gives a new name to an expression, if there is a register for it.
-fn emit_name(
+pub fn emit_name(
     alloc: Global,
     code: &mut Vec<u32>,
-    places: &Places,
-    scope: &[Held],
+    site: &Site<'_>,
     context: &Context,
     e: &Expr,
+    limits: Limits,
 ) -> Result<Option<Naming>, CodeFault>
-    ensures { IfOk result (NamesIf code.old.items code.new.items places.now scope.now context.now) }
+    ensures { IfOk result (NamesIf code.old.items code.new.items site.now.places.now site.now.scope.now context.now) }
 {
-    let counter = name(context.names.len());
-    if context.names.len() >= MOST_NAMES || !is_still(e) || mentions(scope, counter) {
+    let counter = free_name(context, site.scope);
+    if context.names.len() >= limits.names || !is_still(e) || mentions(site.scope, counter) {
         return Ok(None);
     }
-    let Some(context) = with_name(alloc, context, counter, e)? else {
+    let Some(context) = with_value(alloc, context, counter, e)? else {
         return Ok(None);
     };
-    let Some(register) = free_register(scope, LEFT) else {
+    let Some(register) = free_register(site.scope, limits.registers) else {
         return Ok(None);
     };
-    let Some(words) = kept_words(alloc, places, scope, e, register)? else {
+    let Some(words) = kept_words(alloc, site.places, site.scope, e, register)? else {
         return Ok(None);
     };
     append(code, words.as_slice())?;
     let form = variable(alloc, counter)?;
-    let scope = with_held(alloc, scope, register, &form)?;
+    let scope = with_held(alloc, site.scope, register, &form)?;
     Ok(Some(Naming { scope, context }))
 }
 
-/// Appends code that gives names to expressions, as far as there are registers.
+/// Appends code that gives names to expressions, as far as limits go.
 ///
 /// # Errors
 ///
@@ -99,23 +122,26 @@ fn emit_name(
 pub fn emit_names(
     alloc: Global,
     code: &mut Vec<u32>,
-    places: &Places,
-    scope: &[Held],
+    site: &Site<'_>,
     context: &Context,
     all: &[Expr],
+    limits: Limits,
 ) -> Result<Option<Naming>, CodeFault>
-    ensures { IfOk result (NamesIf code.old.items code.new.items places.now scope.now context.now) }
+    ensures { IfOk result (NamesIf code.old.items code.new.items site.now.places.now site.now.scope.now context.now) }
 {
     match all {
         [] => Ok(None),
-        [first, others @ ..] => match emit_name(alloc, code, places, scope, context, first)? {
+        [first, others @ ..] => match emit_name(alloc, code, site, context, first, limits)? {
             None => {
-                let found = emit_names(alloc, code, places, scope, context, others)?;
+                let found = emit_names(alloc, code, site, context, others, limits)?;
                 Ok(found)
             }
             Some(one) => {
-                let inner = one.scope.as_slice();
-                match emit_names(alloc, code, places, inner, &one.context, others)? {
+                let inner = Site {
+                    places: site.places,
+                    scope: one.scope.as_slice(),
+                };
+                match emit_names(alloc, code, &inner, &one.context, others, limits)? {
                     None => Ok(Some(one)),
                     Some(more) => Ok(Some(more)),
                 }

@@ -1,16 +1,19 @@
 //! Split loops: their values as sums.
 
 ghost use Rattle.std.specs.Prelude.{◌≡◌, ◌-◌, ◌<◌, ◌^◌, ◌≤◌, IfOk, IfSome, Some, min, true};
-ghost use Rattle.task_code_statements.specs.Splits.{AddsInner, BeginsRun, EntersSplit, IsProduct, IsSplitSum};
+ghost use Rattle.task_code_statements.specs.Splits.{AddsInner, BeginsRun, EntersSplit, HasLesser};
+ghost use Rattle.task_code_statements.specs.Splits.{IsProduct, IsSplitSum, IsStart};
 
 use crate::contexts::{Context, with_sum};
+use crate::lessers::{NEGATIVE, lesser_of};
 use crate::plain::is_name;
 use crate::rewriting::sum_by_others;
-use loop_ir::expressions::{Counter, Linear, Term, same_counter};
+use loop_ir::expressions::{Counter, Expr, Linear, Term, same_counter};
 use loop_ir::statements::{Stmt, Whole};
 use sqlite_items::Items;
 use std::alloc::{AllocError, Global};
 use task_code_loops::bounds::{Bound, is_below};
+use task_code_names::names::name_for;
 use task_code_registers::scopes::Form;
 use task_code_scalar::CodeFault;
 
@@ -21,7 +24,9 @@ pub(crate) enum Start {
     Product,
     /// At a number.
     Number(u32),
-    /// At the lesser of the product and the last start, which of them isn't known.
+    /// At the value of a name.
+    Name(Counter),
+    /// At the lesser of the product and the last start, which of them isn't known, and which has no name.
     Unknown,
 }
 
@@ -46,6 +51,27 @@ fn lesser(one: u32, other: u32) -> u32
     if one < other { one } else { other }
 }
 
+/// The name of the lesser of a product and the last start.
+fn name_of_lesser(
+    alloc: Global,
+    context: &Context,
+    product: Linear,
+    last: u32,
+) -> Result<Option<Counter>, AllocError>
+    ensures { IfOk result (λ found. IfSome found (HasLesser context.now product last)) }
+{
+    let form = Form {
+        sum: product,
+        per_hart: 0,
+    };
+    if last >= NEGATIVE || !is_below(&form, context.bounds.as_slice(), NEGATIVE) {
+        return Ok(None);
+    }
+    let e = lesser_of(alloc, form.sum, last)?;
+    let found = name_for(context.names.as_slice(), &e);
+    Ok(found)
+}
+
 /// Where a run of a split loop's inner loop begins, whose last run begins here at most.
 fn start_up_to(
     alloc: Global,
@@ -68,7 +94,10 @@ fn start_up_to(
     if last < u32::MAX && is_below(&form, context.bounds.as_slice(), last + 1) {
         return Ok(Start::Product);
     }
-    Ok(Start::Unknown)
+    match name_of_lesser(alloc, context, form.sum, last)? {
+        None => Ok(Start::Unknown),
+        Some(name) => Ok(Start::Name(name)),
+    }
 }
 
 /// Where a run of a split loop's inner loop begins.
@@ -106,7 +135,38 @@ fn sum_from(alloc: Global, whole: &Whole, start: Start) -> Result<Option<Linear>
             terms.push(inner)?;
             Ok(Some(Linear { number, terms }))
         }
+        Start::Name(counter) => {
+            terms.push(Term { counter, stride: 1 })?;
+            terms.push(inner)?;
+            Ok(Some(Linear { number: 0, terms }))
+        }
         Start::Unknown => Ok(None),
+    }
+}
+
+/// Where a run of a split loop's inner loop begins, where that needs a name and has none.
+///
+/// # Errors
+///
+/// Memory ran out.
+#[tactic(auto, using(crate::proofs::Starting::start_made))]
+pub(crate) fn unnamed_start(
+    alloc: Global,
+    context: &Context,
+    whole: &Whole,
+) -> Result<Option<Expr>, AllocError>
+    ensures { IfOk result (λ found. IfSome found (IsStart context.now whole.now)) }
+{
+    match start_of(alloc, context, whole)? {
+        Start::Unknown => match whole.last {
+            None => Ok(None),
+            Some(last) => {
+                let product = product_of(alloc, context, whole)?;
+                let e = lesser_of(alloc, product, last)?;
+                Ok(Some(e))
+            }
+        },
+        _ => Ok(None),
     }
 }
 

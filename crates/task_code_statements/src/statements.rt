@@ -9,17 +9,15 @@ ghost use Rattle.task_code_loops.specs.Beginning.{Begins};
 ghost use Rattle.task_code_loops.specs.Guarding.{GuardsWords};
 ghost use Rattle.task_code_statements.specs.Contexts.{Meets};
 ghost use Rattle.task_code_statements.specs.Making.{BeginsIterations, IsMadeStore};
-ghost use Rattle.task_code_statements.specs.Naming.{NamesIf};
 ghost use Rattle.task_code_statements.specs.Statements.{EmitsLoop, EmitsStatement};
 
 use crate::contexts::{Context, has_term, in_loop, with_sum};
-use crate::guessing::staying_in;
-use crate::names::{Naming, emit_names};
 use crate::plain::is_plain_store;
 use crate::rewriting::store_by_others;
 use crate::room::{depth, reserve, wanted_in};
 use crate::splits::{enter_split, is_cut, without_last};
 use crate::stages::{Code, add_first, add_last, add_second, no_words_beside};
+use crate::starts::{emit_before, emit_start};
 use crate::vectorizing::emit_vectorized;
 use loop_ir::expressions::{Counter, Expr, Linear};
 use loop_ir::statements::{LoopKind, Stmt, Store, Whole};
@@ -170,32 +168,6 @@ fn way_of(kind: LoopKind, count: u32) -> Way
 }
 
 // ---- statements
-
-/// Appends code that gives names to what stays the same in all iterations of a loop.
-fn emit_before(
-    alloc: Global,
-    code: &mut Vec<u32>,
-    site: &Site<'_>,
-    context: &Context,
-    own: Bound,
-    body: &Stmt,
-) -> Result<Option<Naming>, CodeFault>
-    ensures { IfOk result (NamesIf code.old.items code.new.items site.now.places.now site.now.scope.now context.now) }
-{
-    if context.with_variables {
-        return Ok(None);
-    }
-    let all = staying_in(alloc, site.places, context, own, body)?;
-    let found = emit_names(
-        alloc,
-        code,
-        site.places,
-        site.scope,
-        context,
-        all.as_slice(),
-    )?;
-    Ok(found)
-}
 
 /// Appends what stands in front of a loop: forms that its body wants in registers.
 fn begin_iterations(
@@ -376,9 +348,38 @@ fn emit_tested(
     Ok(())
 }
 
-/// Appends the body of a split loop, under a test on its value where it isn't known that it passes.
+/// Appends the body of a split loop, behind what gives a name to where its run begins, where that needs one.
 #[cycle(statements)]
 fn emit_split(
+    alloc: Global,
+    code: &mut Code,
+    site: &Site<'_>,
+    context: &Context,
+    split: Split,
+    body: &Stmt,
+) -> Result<(), CodeFault>
+    ensures { OnOk result (EmitsStatement code.old.words.items code.new.words.items site.now.places.now
+        site.now.scope.now (Meets context.now) (stmts.Bind split.counter split.whole split.extent body.now)) }
+{
+    match emit_start(alloc, &mut code.words, site, context, &split.whole)? {
+        None => {
+            emit_entered(alloc, code, site, context, split, body)?;
+            Ok(())
+        }
+        Some(before) => {
+            let inner = Site {
+                places: site.places,
+                scope: before.scope.as_slice(),
+            };
+            emit_entered(alloc, code, &inner, &before.context, split, body)?;
+            Ok(())
+        }
+    }
+}
+
+/// Appends the body of a split loop, under a test on its value where it isn't known that it passes.
+#[cycle(statements)]
+fn emit_entered(
     alloc: Global,
     code: &mut Code,
     site: &Site<'_>,

@@ -13,6 +13,7 @@ use crate::lacking::store_lacks;
 use crate::plain::is_plain_store;
 use crate::rewriting::store_by_others;
 use crate::splits::enter_split;
+use crate::starts::emit_starts;
 use crate::statements::mentions;
 use loop_ir::expressions::Counter;
 use loop_ir::statements::{LoopKind, Stmt, Store};
@@ -170,13 +171,8 @@ fn lanes_for(scope: &[Held], own: Bound) -> Result<Lanes, CodeFault>
     }
 }
 
-/// Appends a vectorized loop.
-///
-/// # Errors
-///
-/// Memory ran out, the body is no single store, the sum of a test may turn over, or groups and registers do not suffice
-/// for this way of making code.
-pub fn emit_vectorized(
+/// Appends a vectorized loop, where all runs inside are known to begin at a number, a product or a name.
+fn emit_at_once(
     alloc: Global,
     code: &mut Vec<u32>,
     site: &Site<'_>,
@@ -201,4 +197,38 @@ pub fn emit_vectorized(
         words.as_slice(),
     )?;
     Ok(())
+}
+
+/// Appends a vectorized loop.
+///
+/// # Errors
+///
+/// Memory ran out, the body is no single store, the sum of a test may turn over, or groups and registers do not suffice
+/// for this way of making code.
+pub fn emit_vectorized(
+    alloc: Global,
+    code: &mut Vec<u32>,
+    site: &Site<'_>,
+    context: &Context,
+    own: Bound,
+    body: &Stmt,
+) -> Result<(), CodeFault>
+    ensures { OnOk result (EmitsStatement code.old.items code.new.items site.now.places.now site.now.scope.now (Meets
+        context.now)
+        (stmts.For own.counter own.count vectorized body.now)) }
+{
+    match emit_starts(alloc, code, site, context, own, body)? {
+        None => {
+            emit_at_once(alloc, code, site, context, own, body)?;
+            Ok(())
+        }
+        Some(before) => {
+            let inner = Site {
+                places: site.places,
+                scope: before.scope.as_slice(),
+            };
+            emit_at_once(alloc, code, &inner, &before.context, own, body)?;
+            Ok(())
+        }
+    }
 }

@@ -1,4 +1,4 @@
-use Rattle.task_code_statements.proofs.Splitting.{number-adds, product-adds}
+use Rattle.task_code_statements.proofs.Splitting.{name-adds, number-adds, product-adds}
 use Rattle.task_code_statements.proofs.splits.sum_from.Goals as goal
 
 pub returns-in_ok-push-in-Product-2 : goal.returns-in_ok-push-in-Product-2
@@ -10,3 +10,8 @@ pub returns-in_ok-push-in-Number : goal.returns-in_ok-push-in-Number
 returns-in_ok-push-in-Number c =
     number-adds c.args.whole.now c.args.start c.in-Number.number c.new-terms.result c.push-in-Number.new.self c.in-Number.is c.new-terms.ensures
     c.in_ok-push-in-Number.ensures.ok
+
+pub returns-in_ok-push-in-Name-2 : goal.returns-in_ok-push-in-Name-2
+returns-in_ok-push-in-Name-2 c =
+    name-adds c.args.whole.now c.args.start c.in-Name.counter c.new-terms.result c.push-in-Name.new.self c.push-in-Name-2.new.self c.in-Name.is
+    c.new-terms.ensures c.in_ok-push-in-Name.ensures.ok c.in_ok-push-in-Name-2.ensures.ok

@@ -5,7 +5,7 @@ use Rattle.task_code_loops.specs.Guarding.{GuardsWords}
 use Rattle.task_code_statements.specs.Contexts.{Meets}
 use Rattle.task_code_statements.specs.Laying.{LaysOut}
 use Rattle.task_code_statements.specs.Statements.{EmitsStatement}
-use Rattle.task_code_statements.proofs.Giving.{loop-alone, loop-behind, none-given, some-given}
+use Rattle.task_code_statements.proofs.Giving.{loop-alone, loop-behind, none-given, some-given, statement-after}
 use Rattle.task_code_statements.proofs.Laying.{none-laid, one-laid, laid-emits, number-enters, parted-arm}
 use Rattle.task_code_statements.proofs.Nesting.{sequence-arm, none-emits, loop-arm, for-arm}
 use Rattle.task_code_statements.proofs.Splitting.{split-emits, guarded-emits, bind-arm}
@@ -105,8 +105,8 @@ emit_parted-returns t c =
     (sym c.mentions.ensures ∙ c.if-mentions.false) c.of_number-number.ensures.value c.in_ok-inner.ensures c.in_ok-emit_loop.ensures
     c.in_ok-emit_statement.ensures
 
-pub emit_split-returns-then-is_below : goal.emit_split-returns-then-is_below
-emit_split-returns-then-is_below t c =
+pub emit_entered-returns-then-is_below : goal.emit_entered-returns-then-is_below
+emit_entered-returns-then-is_below t c =
     let entered = c.in_ok-entered.entered in
     let enters = c.in_ok-entered.ensures in
     let bounds = c.args.context.now.bounds.items in
@@ -115,8 +115,8 @@ emit_split-returns-then-is_below t c =
     (subst (λ f. IsBelow bounds f c.args.split.extent) enters.form_is
     (subst (λ b. IsBelow b entered.form c.args.split.extent) c.as_slice.ensures.value (c.is_below.ensures c.if-is_below.true))) c.in_ok-emit_statement.ensures
 
-pub emit_split-returns : goal.emit_split-returns
-emit_split-returns t c =
+pub emit_entered-returns : goal.emit_entered-returns
+emit_entered-returns t c =
     let entered = c.in_ok-entered.entered in
     let enters = c.in_ok-entered.ensures in
     guarded-emits c.args.site.now.places.now c.args.site.now.scope.now c.args.context.now entered.inner c.args.split.counter c.args.split.whole
@@ -125,3 +125,17 @@ emit_split-returns t c =
     c.args.body.now) c.no_words_beside-made.ensures c.in_ok-emit_statement-2.ensures)
     (subst (λ f. GuardsWords c.args.code.now.words.items c.emit_tested.new.code.words.items c.args.site.now.scope.now f c.args.split.extent
     c.emit_statement-2.new.code.words.items) enters.form_is c.in_ok-emit_tested.ensures)
+
+pub emit_split-returns-in_ok-emit_entered-in-None : goal.emit_split-returns-in_ok-emit_entered-in-None
+emit_split-returns-in_ok-emit_entered-in-None t c =
+    subst (λ old. EmitsStatement old c.emit_entered.new.code.words.items c.args.site.now.places.now c.args.site.now.scope.now (Meets c.args.context.now)
+    (s.Bind c.args.split.counter c.args.split.whole c.args.split.extent c.args.body.now))
+    (none-given c.args.site.now.places.now c.args.site.now.scope.now c.args.context.now c.in_ok-emit_start.field-0 c.args.code.now.words.items
+    c.emit_start.new.code.items c.in-None.is c.in_ok-emit_start.ensures) c.in_ok-emit_entered-in-None.ensures
+
+pub emit_split-returns-in_ok-emit_entered-in-Some : goal.emit_split-returns-in_ok-emit_entered-in-Some
+emit_split-returns-in_ok-emit_entered-in-Some t c =
+    statement-after c.args.site.now.places.now c.args.site.now.scope.now c.as_slice.result.now c.args.context.now c.in-Some.before
+    (s.Bind c.args.split.counter c.args.split.whole c.args.split.extent c.args.body.now) c.args.code.now.words.items c.emit_start.new.code.items _
+    (some-given c.args.site.now.places.now c.args.site.now.scope.now c.args.context.now c.in-Some.before c.in_ok-emit_start.field-0 c.args.code.now.words.items
+    c.emit_start.new.code.items c.in-Some.is c.in_ok-emit_start.ensures) c.as_slice.ensures.value c.in_ok-emit_entered-in-Some.ensures

@@ -23,7 +23,10 @@ abbrev pub decreases-emit_laid_out : goal.decreases-emit_laid_out
 decreases-emit_laid_out l = suc (5 * goal.size-emit_laid_out l)
 
 abbrev pub decreases-emit_split : goal.decreases-emit_split
-decreases-emit_split l = suc (5 * goal.size-emit_split l)
+decreases-emit_split l = suc (suc (5 * goal.size-emit_split l))
+
+abbrev pub decreases-emit_entered : goal.decreases-emit_entered
+decreases-emit_entered l = suc (5 * goal.size-emit_entered l)
 
 abbrev pub invariant-emit_laid_out-loop-iteration : goal.invariant-emit_laid_out-loop-iteration
 invariant-emit_laid_out-loop-iteration l =
