@@ -163,7 +163,8 @@ module _ (pipeline : Pipeline) (schedule : Schedule) (flags : List Bool) where
 
   abbrev pub computed_box : ℕ → Func → List (Option SourceBox) → Option ConsumerLoop → Option SourceBox
   computed_box at func behind consumer =
-      spread_box consumer (read_from (at + 1) consumer (sources.Func at) behind (own_updates pipeline flags at consumer (wanted pipeline.output at consumer) func.updates))
+      spread_box consumer
+      (read_from (at + 1) consumer (sources.Func at) behind (own_updates pipeline flags at consumer (wanted pipeline.output at consumer) func.updates))
 
   -- A Func that is inlined or computed nowhere has no box.
   abbrev pub placed_box : ℕ → Func → List (Option SourceBox) → Place → Option SourceBox

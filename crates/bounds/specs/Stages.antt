@@ -49,6 +49,8 @@ abbrev pub names : Pipeline → Planes → ℕ → SourceBox → Update → Stag
 names pipeline inputs place own update stage number x y =
     list_any (is_point x y) (points_written (named_point (reads_of inputs (pixels pipeline.funcs inputs place)) (corner_of (Some own)) update) (update_extents own update) stage number)
 
+-- ---- which stages there are
+
 -- a stage of the Func at a place: 0 is its pure definition, and its updates follow
 pub record StagePlace : Type 0 where
   pub func : ℕ
@@ -78,6 +80,8 @@ module _ (pipeline : Pipeline) (schedule : Schedule) (boxes : Boxes) where
   abbrev pub stages : List StagePlace
   stages = stages_below (length pipeline.funcs)
 
+  -- ---- their iterations
+
   abbrev pub update_iterations : SourceBox → Option Update → Option Stage → ℕ
   update_iterations own None stage = 0
   update_iterations own (Some update) None = 0
@@ -94,6 +98,8 @@ module _ (pipeline : Pipeline) (schedule : Schedule) (boxes : Boxes) where
   -- how many a stage has
   abbrev pub iterations : StagePlace → ℕ
   iterations stage = iterations_in (slice_get pipeline.funcs stage.func) (slice_get schedule.funcs stage.func) (slice_get boxes.funcs stage.func) stage.number
+
+  -- ---- the points that they write
 
   abbrev pub update_writes : Planes → ℕ → SourceBox → Option Update → Option Stage → ℕ → ℕ → ℕ → Bool
   update_writes inputs place own None stage iteration x y = false

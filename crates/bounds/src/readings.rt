@@ -120,8 +120,8 @@ fn own_update(
 ) -> Result<Spread, AllocError>
     requires few { at < 2 ^ 63 }
     requires spread { IsSpread (lasts_of consumer.now) spread }
-    ensures value { IfOk result (λ s. s ≡ spec.own_update scheduled.now.pipeline.now scheduled.now.flags.now at consumer.now
-        spread update.now) }
+    ensures value { IfOk result (λ s. s ≡ spec.own_update scheduled.now.pipeline.now scheduled.now.flags.now at
+        consumer.now spread update.now) }
     ensures fits { IfOk result (λ s. IsSpread (lasts_of consumer.now) s) }
 {
     let view = unplaced();

@@ -63,7 +63,8 @@ fn lasts_in(sizes: &LoopSizes, loops: &[Loop]) -> Lasts
 pub fn sizes_of(alloc: Global, stage: &Stage, own: &SourceBox) -> Result<LoopSizes, AllocError>
     requires splits { AreSplits stage.now.splits }
     requires near { IsBox own.now }
-    ensures { IfOk result (λ sizes. sizes ≡ record { extents = spec_extents.extents_of own.now; splits = stage.now.splits }) }
+    ensures { IfOk result (λ sizes. sizes
+        ≡ record { extents = spec_extents.extents_of own.now; splits = stage.now.splits }) }
 {
     let sizes = LoopSizes::new(alloc, extents_of(own), stage.splits.as_slice())?;
     Ok(sizes)
@@ -199,7 +200,8 @@ fn consumer_view_in(
     requires few { length loops.now ≤ 5 }
     requires inside { inner ≤ length loops.now }
     requires near { IsBox own.now }
-    ensures value { result ≡ spec.consumer_view_in sizes.now.extents sizes.now.splits loops.now inner own.now consumer.now }
+    ensures value { result ≡ spec.consumer_view_in sizes.now.extents sizes.now.splits loops.now inner own.now
+        consumer.now }
     ensures x { IsFit result.lasts result.x }
     ensures y { IsFit result.lasts result.y }
 {

@@ -121,7 +121,8 @@ ProducedOwnReadsLie = (pipeline : Pipeline) (schedule : Schedule) (boxes : Boxes
     → (x y : ℕ) → x < 2 ^ 32 → y < 2 ^ 32 → IsNear x → IsNear y → (number : ℕ) → number < points update
     → AllByRecursion
     (λ point. same_source point.source (sources.Func reader) ≡ true
-    → IsPartlyBoxed (values_for consumer values) (slice_get boxes.funcs reader) (not (is_first_in_place update)) (not (is_second_in_place update)) point.x point.y)
+    → IsPartlyBoxed (values_for consumer values) (slice_get boxes.funcs reader) (not (is_first_in_place update)) (not (is_second_in_place update))
+    point.x point.y)
     (update_points pipeline schedule reads reader update number x y)
 
 -- The point has the arguments that stand in place for its coordinates.
@@ -200,7 +201,8 @@ pub record IsReachedIn (func : Func) (plan : FuncPlan) (own : SourceBox) (id : L
 -- inside take them to it; of a Func that is computed at a loop of the consumer, where it lies in that one's box.
 abbrev pub MayBeArguments : Func → FuncPlan → SourceBox → LoopId → Values → Place → SourceBox → ℕ → ℕ → Type 0
 MayBeArguments func plan consuming id turns places.Root own x y = IsReachedIn func plan consuming id turns x y
-MayBeArguments func plan consuming id turns (places.At at) own x y = AreTurnsFrom plan consuming at.inside turns × LiesIn (values_in plan at.inside turns) own x y
+MayBeArguments func plan consuming id turns (places.At at) own x y =
+    AreTurnsFrom plan consuming at.inside turns × LiesIn (values_in plan at.inside turns) own x y
 MayBeArguments func plan consuming id turns places.Inlined own x y = ⊥
 MayBeArguments func plan consuming id turns places.Nowhere own x y = ⊥
 

@@ -138,7 +138,8 @@ UpdateReadsOfFuncsLie = (pipeline : Pipeline) (schedule : Schedule) (boxes : Box
     → (consumer : Option ConsumerLoop) → consumer_in schedule boxes.funcs sought.place ≡ consumer
     → (view : SourceBox) → view_of (slice_get schedule.funcs reader) (slice_get schedule.standings reader) own consumer ≡ view
     → (reads : Reads) → AnswerWords pipeline.inputs reads
-    → (values : List ℕ) → Below values view.lasts → Below (values_for consumer values) (lasts_of consumer) → (x y : ℕ) → LiesIn values view x y → IsNear x → IsNear y
+    → (values : List ℕ) → Below values view.lasts → Below (values_for consumer values) (lasts_of consumer)
+    → (x y : ℕ) → LiesIn values view x y → IsNear x → IsNear y
     → (number : ℕ) → number < points update
     → AreBoxed (values_for consumer values) (sources.Func place) (slice_get boxes.funcs place) (update_points pipeline schedule reads reader update number x y)
 

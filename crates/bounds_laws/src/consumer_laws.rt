@@ -67,8 +67,8 @@ pub fn visits_lie()
 {}
 
 /// Wherever loops take the arguments of a Func that makes its reads within the loop at which another one is computed,
-/// they lie in the view of them with which that other one is asked, while the loops of the consumer from that one outward
-/// have the same turns.
+/// they lie in the view of them with which that other one is asked, while the loops of the consumer from that one
+/// outward have the same turns.
 pub fn arguments_lie_in_views()
     ensures { ArgumentsLieInViews }
 {}

@@ -29,4 +29,5 @@ is_computed_at at own = own.is_reached && is_at_loop at own.place
 -- their places, in order, of the Funcs from a place on
 abbrev pub produced_from : ℕ → ℕ → List Standing → List ℕ
 produced_from consumer at [] = []
-produced_from consumer at (first ∷ others) = if is_produced consumer first then at ∷ produced_from consumer (suc at) others else produced_from consumer (suc at) others
+produced_from consumer at (first ∷ others) =
+    if is_produced consumer first then at ∷ produced_from consumer (suc at) others else produced_from consumer (suc at) others

@@ -70,7 +70,8 @@ abbrev pub produced_share : List Bool → List Func → List FuncPlan → ℕ �
 produced_share flags funcs plans consumer None plan own = 0
 produced_share flags funcs plans consumer (Some func) None own = 0
 produced_share flags funcs plans consumer (Some func) (Some plan) None = 0
-produced_share flags funcs plans consumer (Some func) (Some plan) (Some own) = if is_produced consumer own then placed_share flags funcs plans func plan own else 0
+produced_share flags funcs plans consumer (Some func) (Some plan) (Some own) =
+    if is_produced consumer own then placed_share flags funcs plans func plan own else 0
 
 -- of all Funcs that are computed at loops of the consumer
 abbrev pub produced_shares : Pipeline → Schedule → ℕ → ℕ
