@@ -25,5 +25,6 @@ pub mod Bridges
 pub mod Measure
 pub mod Fair
 pub mod Lonely
+pub mod Greedy
 pub mod Refuted
 pub mod Stuck

@@ -1,6 +1,6 @@
 -- Small programs, each of which breaks a promise on compiled images: the first that no two harts race; the second that a hart alone finishes or
--- waits at a gate between two phases; the third that an end stays within reach; the last that every assignment of tasks to harts is reached. Some
--- break others too. Each runs on two harts. This project's own.
+-- waits at a gate between two phases; the third that an end stays within reach; the last two that every assignment of tasks to harts is reached.
+-- Some break others too. Each runs on two harts. This project's own.
 use Rattle.std.specs.Prelude.{◌≡◌, ◌⊎◌, ℕ, List, [], ◌∷◌, ◌++◌, replicate, slice_get, true, false, Some, None}
 use Rattle.hart_core.specs.declared.harts.Status.TheVariants.{Finished}
 use Rattle.hart_core.specs.HartState.{HartState}
@@ -92,3 +92,33 @@ abbrev pub OthersDoNothing : Type 0
 OthersDoNothing =
     ((turns : List ℕ) × (all_finished (run lonely turns) ≡ true) × (last_writer 0x00200008 None lonely turns ≡ Some 0))
     × ((turns : List ℕ) → last_writer 0x00200008 None lonely turns ≡ Some 1 → ⊥)
+
+-- ---- Who draws first does all tasks: each hart can do both, but no list of turns has one hart do the first task and the other the second.
+--
+--     0x00010000  lui x13, 0x200
+--     0x00010004  amoadd.w x12, x11, (x13)
+--     0x00010008  bne x12, x0, 12
+--     0x0001000C  sw x11, 8(x13)
+--     0x00010010  sw x11, 12(x13)
+--     0x00010014  ecall
+
+abbrev pub greedy_text : List ℕ
+greedy_text = 0x002006B7 ∷ 0x00B6A62F ∷ 0x00061663 ∷ 0x00B6A423 ∷ 0x00B6A623 ∷ 0x00000073 ∷ []
+
+-- the words of the phase, and the word that each of its two tasks leaves
+abbrev pub greedy : State
+greedy = opened 0x00010000 greedy_text (replicate 16 0) 2
+
+-- After some turns all have finished, and the hart did both tasks.
+abbrev pub DoesBoth : ℕ → Type 0
+DoesBoth hart =
+    (turns : List ℕ) × (all_finished (run greedy turns) ≡ true) × (last_writer 0x00200008 None greedy turns ≡ Some hart)
+    × (last_writer 0x0020000C None greedy turns ≡ Some hart)
+
+-- After no turns has the one hart done the first task, and the other the second.
+abbrev pub NeverApart : ℕ → ℕ → Type 0
+NeverApart one other =
+    (turns : List ℕ) → last_writer 0x00200008 None greedy turns ≡ Some one → last_writer 0x0020000C None greedy turns ≡ Some other → ⊥
+
+abbrev pub FirstDoesAll : Type 0
+FirstDoesAll = DoesBoth 0 × DoesBoth 1 × NeverApart 0 1 × NeverApart 1 0

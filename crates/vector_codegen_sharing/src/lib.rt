@@ -11,7 +11,7 @@
 //!   gates alone, every assignment of tasks to harts, each turn by its phase's rule.
 //! - [`example`]: a program of two phases that meets every premise, and one that waits at a gate for ever.
 //! - [`refutations`]: programs that break the promises: a race, an end that isn't within reach, a hart that waits
-//!   elsewhere, a task that can't be given to another hart.
+//!   elsewhere, a task that can't be given to another hart, two tasks that can't be given to two.
 #![tactic(auto)]
 
 pub mod example;
@@ -24,5 +24,5 @@ pub use crate::laws::{
     never_races, never_traps, one_result, paths_do_jobs, rules_kept, what_is_done_stays,
 };
 pub use crate::refutations::{
-    hasty_harts_race, jumps_never_end, locked_harts_stay, others_do_nothing,
+    first_does_all, hasty_harts_race, jumps_never_end, locked_harts_stay, others_do_nothing,
 };
