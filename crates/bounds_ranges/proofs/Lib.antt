@@ -5,4 +5,3 @@ pub mod Products
 pub mod Operations
 pub mod PixelWords
 pub mod Walking
-pub mod Rows

@@ -4,5 +4,4 @@ pub mod Keeping
 pub mod OnTheWay
 pub mod Passes
 pub mod Places
-pub mod Refusing
 pub mod Stopping

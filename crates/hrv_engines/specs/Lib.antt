@@ -9,7 +9,6 @@ pub mod Dis
 pub mod Drawing
 pub mod Dump
 pub mod Engine
-pub mod Faults
 pub mod Map
 pub mod Refusals
 pub mod Renew

@@ -1,5 +1,3 @@
-pub mod Alone
-pub mod BytesPut
 pub mod Framing
 pub mod Resting
 pub mod Stepping

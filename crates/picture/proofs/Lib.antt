@@ -14,7 +14,6 @@ pub mod Outputs
 pub mod PixelRows
 pub mod ReadBack
 pub mod Rows
-pub mod Shared
 pub mod SideBySide
 pub mod SpelledBack
 pub mod Tables
