@@ -169,7 +169,8 @@ module _ (pipeline : Pipeline) (schedule : Schedule) (flags : List Bool) where
   -- A Func that is inlined or computed nowhere has no box.
   abbrev pub placed_box : ℕ → Func → List (Option SourceBox) → Place → Option SourceBox
   placed_box at func behind places.Root = computed_box at func behind None
-  placed_box at func behind (places.At place) = computed_box at func behind (consumer_of place (slice_get schedule.funcs place.func) (box_at place.func (at + 1) behind))
+  placed_box at func behind (places.At place) = computed_box at func behind (consumer_of place (slice_get schedule.funcs place.func) (box_at place.func (at
+      + 1) behind))
   placed_box at func behind places.Inlined = None
   placed_box at func behind places.Nowhere = None
 

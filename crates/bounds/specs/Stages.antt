@@ -75,7 +75,8 @@ module _ (pipeline : Pipeline) (schedule : Schedule) (boxes : Boxes) where
   -- of the first so many Funcs
   abbrev pub stages_below : ℕ → List StagePlace
   stages_below zero = []
-  stages_below (suc place) = stages_below place ++ stages_at place (slice_get schedule.standings place) (slice_get pipeline.funcs place) (slice_get boxes.funcs place)
+  stages_below (suc place) = stages_below place
+      ++ stages_at place (slice_get schedule.standings place) (slice_get pipeline.funcs place) (slice_get boxes.funcs place)
 
   abbrev pub stages : List StagePlace
   stages = stages_below (length pipeline.funcs)

@@ -53,7 +53,8 @@ UpdatePointsAreReadThrough = (pipeline : Pipeline) (schedule : Schedule) → IsW
 -- It is the Func that has the loop, or it is computed at that loop or at one inside it.
 pub data StandsAt (schedule : Schedule) (consumer : LoopPlace) (reader : ℕ) : Type 0 where
   HasLoop : reader ≡ consumer.func → StandsAt schedule consumer reader
-  IsWithin : (own : Standing) (at : LoopPlace) → IsReached schedule.standings reader own → own.place ≡ places.At at → is_within schedule.funcs consumer at ≡ true → StandsAt schedule consumer reader
+  IsWithin : (own : Standing) (at : LoopPlace) → IsReached schedule.standings reader own → own.place ≡ places.At at → is_within schedule.funcs consumer at
+      ≡ true → StandsAt schedule consumer reader
 
 -- What a Func that is computed reads of others is reached and computed; and where that is at a loop, the reader stands at it.
 pub record IsReadWithin (schedule : Schedule) (reader func : ℕ) : Type 0 where

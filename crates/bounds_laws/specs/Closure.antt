@@ -76,15 +76,18 @@ flat = record { base = no_base; low = origin; high = origin }
 
 -- The box of a Func of one dimension has one row, the one whose number is 0.
 abbrev pub OneRowBoxes : Type 0
-OneRowBoxes = (pipeline : Pipeline) (schedule : Schedule) (boxes : Boxes) → IsWellFormed pipeline → IsAccepted pipeline schedule → inferred pipeline schedule ≡ Ok boxes
-    → (place : ℕ) (func : Func) (own : SourceBox) → slice_get pipeline.funcs place ≡ Some func → dimensions func ≡ 1 → slice_get boxes.funcs place ≡ Some (Some own)
+OneRowBoxes = (pipeline : Pipeline) (schedule : Schedule) (boxes : Boxes) → IsWellFormed pipeline → IsAccepted pipeline schedule
+    → inferred pipeline schedule ≡ Ok boxes
+    → (place : ℕ) (func : Func) (own : SourceBox) → slice_get pipeline.funcs place ≡ Some func → dimensions func ≡ 1 → slice_get boxes.funcs place
+    ≡ Some (Some own)
     → own.y ≡ flat
 
 -- ---- the whole
 
 -- What the pixels of the output's picture read, with all that these read in turn, is held.
 abbrev pub AllReadsAreHeld : Type 0
-AllReadsAreHeld = (pipeline : Pipeline) (schedule : Schedule) (boxes : Boxes) → IsWellFormed pipeline → IsAccepted pipeline schedule → inferred pipeline schedule ≡ Ok boxes
+AllReadsAreHeld = (pipeline : Pipeline) (schedule : Schedule) (boxes : Boxes) → IsWellFormed pipeline → IsAccepted pipeline schedule
+    → inferred pipeline schedule ≡ Ok boxes
     → (inputs : Planes) → AnswerWords pipeline.inputs (reads_of inputs (pixels pipeline.funcs inputs 0))
     → (x y : ℕ) → x < pipeline.output.width → y < pipeline.output.height
     → Hold (is_held pipeline schedule boxes)

@@ -216,10 +216,12 @@ pub record IsSeenIn (values : List ℕ) (consumer : Option ConsumerLoop) (view :
 -- them with which that other one is asked, while the loops of the consumer from that one outward have the same turns.
 abbrev pub ArgumentsLieInViews : Type 0
 ArgumentsLieInViews = (pipeline : Pipeline) (schedule : Schedule) (boxes : Boxes) → IsAccepted pipeline schedule → inferred pipeline schedule ≡ Ok boxes
-    → (place : ℕ) (sought : Standing) (at : LoopPlace) → slice_get schedule.standings place ≡ Some sought → sought.is_reached ≡ true → sought.place ≡ places.At at
+    → (place : ℕ) (sought : Standing) (at : LoopPlace) → slice_get schedule.standings place ≡ Some sought → sought.is_reached ≡ true → sought.place
+    ≡ places.At at
     → (func : Func) (plan : FuncPlan) (consuming : SourceBox)
     → slice_get pipeline.funcs at.func ≡ Some func → slice_get schedule.funcs at.func ≡ Some plan → slice_get boxes.funcs at.func ≡ Some (Some consuming)
-    → (reader : ℕ) (its : Standing) (own : SourceBox) → slice_get schedule.standings reader ≡ Some its → its.is_reached ≡ true → slice_get boxes.funcs reader ≡ Some (Some own)
+    → (reader : ℕ) (its : Standing) (own : SourceBox) → slice_get schedule.standings reader ≡ Some its → its.is_reached ≡ true
+    → slice_get boxes.funcs reader ≡ Some (Some own)
     → StandsWithin pipeline schedule.funcs schedule.standings at reader
     → (turns : Values) (x y : ℕ) → MayBeArguments func plan consuming at.inside turns its.place own x y
     → IsSeenIn (values_in plan at.inside turns) (consumer_in schedule boxes.funcs sought.place)
@@ -227,24 +229,30 @@ ArgumentsLieInViews = (pipeline : Pipeline) (schedule : Schedule) (boxes : Boxes
 
 -- So all that its pure definition reads there of that other one lies in the box of that one.
 abbrev pub PureReadsInLoopsLie : Type 0
-PureReadsInLoopsLie = (pipeline : Pipeline) (schedule : Schedule) (boxes : Boxes) → IsWellFormed pipeline → IsAccepted pipeline schedule → inferred pipeline schedule ≡ Ok boxes
-    → (place : ℕ) (sought : Standing) (at : LoopPlace) → slice_get schedule.standings place ≡ Some sought → sought.is_reached ≡ true → sought.place ≡ places.At at
+PureReadsInLoopsLie = (pipeline : Pipeline) (schedule : Schedule) (boxes : Boxes) → IsWellFormed pipeline → IsAccepted pipeline schedule
+    → inferred pipeline schedule ≡ Ok boxes
+    → (place : ℕ) (sought : Standing) (at : LoopPlace) → slice_get schedule.standings place ≡ Some sought → sought.is_reached ≡ true → sought.place
+    ≡ places.At at
     → (func : Func) (plan : FuncPlan) (consuming : SourceBox)
     → slice_get pipeline.funcs at.func ≡ Some func → slice_get schedule.funcs at.func ≡ Some plan → slice_get boxes.funcs at.func ≡ Some (Some consuming)
     → (reader : ℕ) (reading : Func) (its : Standing) (own : SourceBox) → place < reader
-    → slice_get pipeline.funcs reader ≡ Some reading → slice_get schedule.standings reader ≡ Some its → its.is_reached ≡ true → slice_get boxes.funcs reader ≡ Some (Some own)
+    → slice_get pipeline.funcs reader ≡ Some reading → slice_get schedule.standings reader ≡ Some its → its.is_reached ≡ true → slice_get boxes.funcs reader
+    ≡ Some (Some own)
     → (reads : Reads) → AnswerWords pipeline.inputs reads
     → (turns : Values) (x y : ℕ) → MayBeArguments func plan consuming at.inside turns its.place own x y
     → AreBoxed (values_in plan at.inside turns) (sources.Func place) (slice_get boxes.funcs place) (pure_points pipeline schedule reads reader reading x y)
 
 -- And all that its updates read of it.
 abbrev pub UpdateReadsInLoopsLie : Type 0
-UpdateReadsInLoopsLie = (pipeline : Pipeline) (schedule : Schedule) (boxes : Boxes) → IsWellFormed pipeline → IsAccepted pipeline schedule → inferred pipeline schedule ≡ Ok boxes
-    → (place : ℕ) (sought : Standing) (at : LoopPlace) → slice_get schedule.standings place ≡ Some sought → sought.is_reached ≡ true → sought.place ≡ places.At at
+UpdateReadsInLoopsLie = (pipeline : Pipeline) (schedule : Schedule) (boxes : Boxes) → IsWellFormed pipeline → IsAccepted pipeline schedule
+    → inferred pipeline schedule ≡ Ok boxes
+    → (place : ℕ) (sought : Standing) (at : LoopPlace) → slice_get schedule.standings place ≡ Some sought → sought.is_reached ≡ true → sought.place
+    ≡ places.At at
     → (func : Func) (plan : FuncPlan) (consuming : SourceBox)
     → slice_get pipeline.funcs at.func ≡ Some func → slice_get schedule.funcs at.func ≡ Some plan → slice_get boxes.funcs at.func ≡ Some (Some consuming)
     → (reader : ℕ) (reading : Func) (its : Standing) (own : SourceBox) → place < reader
-    → slice_get pipeline.funcs reader ≡ Some reading → slice_get schedule.standings reader ≡ Some its → its.is_reached ≡ true → slice_get boxes.funcs reader ≡ Some (Some own)
+    → slice_get pipeline.funcs reader ≡ Some reading → slice_get schedule.standings reader ≡ Some its → its.is_reached ≡ true → slice_get boxes.funcs reader
+    ≡ Some (Some own)
     → (number_at : ℕ) (update : Update) → slice_get reading.updates number_at ≡ Some update
     → (reads : Reads) → AnswerWords pipeline.inputs reads
     → (turns : Values) (x y : ℕ) → MayBeArguments func plan consuming at.inside turns its.place own x y → IsNear x → IsNear y

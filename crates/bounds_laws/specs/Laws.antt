@@ -83,7 +83,8 @@ IsComputed func places.Nowhere = ⊥
 abbrev pub PureReadsOfFuncsLie : Type 0
 PureReadsOfFuncsLie = (pipeline : Pipeline) (schedule : Schedule) (boxes : Boxes) → IsWellFormed pipeline → inferred pipeline schedule ≡ Ok boxes
     → (reader : ℕ) (func : Func) (own : SourceBox) → slice_get pipeline.funcs reader ≡ Some func → slice_get boxes.funcs reader ≡ Some (Some own)
-    → (place : ℕ) (sought : Standing) → place < reader → slice_get schedule.standings place ≡ Some sought → sought.is_reached ≡ true → IsComputed place sought.place
+    → (place : ℕ) (sought : Standing) → place < reader → slice_get schedule.standings place ≡ Some sought → sought.is_reached ≡ true
+    → IsComputed place sought.place
     → (consumer : Option ConsumerLoop) → consumer_in schedule boxes.funcs sought.place ≡ consumer
     → (view : SourceBox) → view_of (slice_get schedule.funcs reader) (slice_get schedule.standings reader) own consumer ≡ view
     → (reads : Reads) → AnswerWords pipeline.inputs reads
@@ -134,7 +135,8 @@ abbrev pub UpdateReadsOfFuncsLie : Type 0
 UpdateReadsOfFuncsLie = (pipeline : Pipeline) (schedule : Schedule) (boxes : Boxes) → IsWellFormed pipeline → inferred pipeline schedule ≡ Ok boxes
     → (reader : ℕ) (func : Func) (own : SourceBox) → slice_get pipeline.funcs reader ≡ Some func → slice_get boxes.funcs reader ≡ Some (Some own)
     → (at : ℕ) (update : Update) → slice_get func.updates at ≡ Some update
-    → (place : ℕ) (sought : Standing) → place < reader → slice_get schedule.standings place ≡ Some sought → sought.is_reached ≡ true → IsComputed place sought.place
+    → (place : ℕ) (sought : Standing) → place < reader → slice_get schedule.standings place ≡ Some sought → sought.is_reached ≡ true
+    → IsComputed place sought.place
     → (consumer : Option ConsumerLoop) → consumer_in schedule boxes.funcs sought.place ≡ consumer
     → (view : SourceBox) → view_of (slice_get schedule.funcs reader) (slice_get schedule.standings reader) own consumer ≡ view
     → (reads : Reads) → AnswerWords pipeline.inputs reads

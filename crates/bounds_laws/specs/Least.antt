@@ -110,7 +110,8 @@ pub record IsLeastBox (consumer : Option ConsumerLoop) (columns rows : List Rang
 
 -- That of a Func is the least that holds what is asked of it.
 abbrev pub FuncBoxesAreLeast : Type 0
-FuncBoxesAreLeast = (pipeline : Pipeline) (schedule : Schedule) (boxes : Boxes) → IsWellFormed pipeline → IsAccepted pipeline schedule → inferred pipeline schedule ≡ Ok boxes
+FuncBoxesAreLeast = (pipeline : Pipeline) (schedule : Schedule) (boxes : Boxes) → IsWellFormed pipeline → IsAccepted pipeline schedule
+    → inferred pipeline schedule ≡ Ok boxes
     → (at : ℕ) (func : Func) (standing : Standing) (own : SourceBox)
     → slice_get pipeline.funcs at ≡ Some func → slice_get schedule.standings at ≡ Some standing → slice_get boxes.funcs at ≡ Some (Some own)
     → let consumer = consumer_in schedule boxes.funcs standing.place in

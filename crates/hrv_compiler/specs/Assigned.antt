@@ -26,7 +26,8 @@ module _ (pipeline : Pipeline) (schedule : Schedule) (boxes : Boxes) (pictures :
   -- to.
   abbrev pub WrittenAs : StagePlace → (ℕ → ℕ) → State → List ℕ → Type 0
   WrittenAs stage assigned begin turns =
-      (iteration x y byte : ℕ) → iteration < iterations pipeline schedule boxes stage → writes pipeline schedule boxes (input_planes pictures) stage iteration x y ≡ true → byte < 4
+      (iteration x y byte : ℕ) → iteration < iterations pipeline schedule boxes stage
+      → writes pipeline schedule boxes (input_planes pictures) stage iteration x y ≡ true → byte < 4
       → last_writer (byte_of_point boxes stage.func x y byte) None begin turns ≡ Some (assigned iteration)
 
   -- That holds up to the first place where the phase's gate word is full: `before` are the turns up to there.
@@ -44,10 +45,12 @@ module _ (pipeline : Pipeline) (schedule : Schedule) (boxes : Boxes) (pictures :
     pub turns : List ℕ
     pub named : Name harts turns
     pub finished : all_finished (run (opening image harts) turns) ≡ true
-    pub earlier : (phase : ℕ) (stage : StagePlace) → slice_get (stages pipeline schedule boxes) phase ≡ Some stage → suc phase < length (stages pipeline schedule boxes)
+    pub earlier : (phase : ℕ) (stage : StagePlace) → slice_get (stages pipeline schedule boxes) phase ≡ Some stage
+        → suc phase < length (stages pipeline schedule boxes)
         → DoneBy stage phase (assigned phase) (opening image harts) turns
     -- the last one has no gate
-    pub last : (phase : ℕ) (stage : StagePlace) → slice_get (stages pipeline schedule boxes) phase ≡ Some stage → suc phase ≡ length (stages pipeline schedule boxes)
+    pub last : (phase : ℕ) (stage : StagePlace) → slice_get (stages pipeline schedule boxes) phase ≡ Some stage → suc phase
+        ≡ length (stages pipeline schedule boxes)
         → WrittenAs stage (assigned phase) (opening image harts) turns
 
   -- for every number of harts, and each assignment of iterations of phases to them

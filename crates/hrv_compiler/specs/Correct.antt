@@ -46,7 +46,8 @@ pub record IsCorrect (pipeline : Pipeline) (pictures : List PictureContents) (ph
   -- no race but on the words of control
   pub never_races : (turns : List ℕ) → Race (control_words phases) (run (opening image harts) turns) → ⊥
   -- wherever all harts have finished, the output is the algorithm's
-  pub leaves_pixels : (turns : List ℕ) → all_finished (run (opening image harts) turns) ≡ true → ShowsOutput pipeline pictures (run (opening image harts) turns) image.output
+  pub leaves_pixels : (turns : List ℕ) → all_finished (run (opening image harts) turns) ≡ true
+      → ShowsOutput pipeline pictures (run (opening image harts) turns) image.output
   -- from everywhere, further turns of these harts make all finish
   pub can_finish : (turns : List ℕ) → (more : List ℕ) × Name harts more × (all_finished (run (opening image harts) (turns ++ more)) ≡ true)
   -- and after any turns so many rounds, in each of which every hart has at least one turn, make all finish; the count hangs on the image and on

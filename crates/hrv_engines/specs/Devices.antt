@@ -95,7 +95,8 @@ abbrev pub GaveNoTextFront : {S : Type 0} (gave : S → List ℕ → S → Type 
 GaveNoTextFront gave ended before after = (bytes : List ℕ) × gave before bytes after × ((ended after × (IsUtf8 bytes → ⊥)) ⊎ BeginsNoText bytes)
 
 -- A source of a text that needn't be read further than it takes to refuse it.
-abbrev pub text_front_of : (most : ℕ) {S : Type 0} (place : S → List ℕ) (failures : S → ℕ) (gave : S → List ℕ → S → Type 0) (ended : S → Type 0) (before after : S)
+abbrev pub text_front_of : (most : ℕ) {S : Type 0} (place : S → List ℕ) (failures : S → ℕ) (gave : S → List ℕ → S → Type 0) (ended : S
+    → Type 0) (before after : S)
     → Sources (List ℕ)
 text_front_of most place failures gave ended before after = record {
   gave = λ text. GaveTextFront most gave ended before text after;
@@ -134,7 +135,8 @@ pub record GaveEach {S : Type 0} (gave : S → List ℕ → S → Type 0) (first
       → (text : List ℕ) × (slice_get texts place ≡ Some text) × gave s text t
 
 -- The path is that of a source that failed, or that gave no text. All before it gave their texts.
-pub record NamesFailed {S : Type 0} (path_of : S → List ℕ) (failed : S → ℕ) (gave : S → List ℕ → S → Type 0) (none : S → S → Type 0) (first later : List S) (path : List ℕ) : Type 0 where
+pub record NamesFailed {S : Type 0} (path_of : S → List ℕ) (failed : S → ℕ) (gave : S → List ℕ → S → Type 0) (none : S → S
+    → Type 0) (first later : List S) (path : List ℕ) : Type 0 where
   pub place : ℕ
   pub before : S
   pub after : S

@@ -121,7 +121,8 @@ pub record DoesFirst (found : Option Stmt) (rest made : Stmt) : Type 0 where
   pub alone_is : found ≡ None → made ≡ rest
   pub about : (place : ℕ) → is_about place made ≡ (about_first place found && is_about place rest)
   pub in_runs : (reads : Reads) (func x y : ℕ) (expected : Values → Bool) (values : Values)
-      → stores_in_runs reads func x y expected made values ≡ (in_runs_first reads func x y expected found values && stores_in_runs reads func x y expected rest values)
+      → stores_in_runs reads func x y expected made values
+      ≡ (in_runs_first reads func x y expected found values && stores_in_runs reads func x y expected rest values)
 
 -- It stores in the buffer of one Func alone, while the Func's loops stand at small values.
 abbrev pub StoresInIt : ℕ → Stmt → Type 0
@@ -161,7 +162,8 @@ module _ (pipeline : Pipeline) (schedule : Schedule) (boxes : Boxes) where
       → (plane : Plane) → AnswerWords pipeline.inputs (reads_of inputs (with_plane place plane (pixels pipeline.funcs inputs place)))
       → AllByRecursion
       (λ point. same_source point.source (sources.Func place) ≡ false
-      → placed corners counters (reads_of inputs now) point.source point.x point.y ≡ reads_of inputs (pixels pipeline.funcs inputs place) point.source point.x point.y)
+      → placed corners counters (reads_of inputs now) point.source point.x point.y
+      ≡ reads_of inputs (pixels pipeline.funcs inputs place) point.source point.x point.y)
       (update_points pipeline schedule (reads_of inputs (with_plane place plane (pixels pipeline.funcs inputs place))) place update number x y)
 
   -- The nest leaves what stands after the stages up to the one with this number in the whole box of the Func, and keeps all else. Where
@@ -187,7 +189,8 @@ module _ (pipeline : Pipeline) (schedule : Schedule) (boxes : Boxes) where
 
   -- The points of the Func's box may be written and loaded, and so may be loaded, wherever its arguments lie in its box, all that its pure
   -- definition and its updates read of other sources, while the loops of the consumer stand so.
-  pub record MayTouch (consumer place : ℕ) (func : Func) (own : SourceBox) (values : List ℕ) (reads : Reads) (written : Points) (loaded : Point → Bool) (turned : loops.Values) : Type 0 where
+  pub record MayTouch (consumer place : ℕ) (func : Func) (own : SourceBox) (values : List ℕ) (reads : Reads) (written : Points) (loaded : Point
+      → Bool) (turned : loops.Values) : Type 0 where
     pub writes : (x y : ℕ) → has_point (Some own) x y ≡ true → written place x y ≡ true
     pub loads : (x y : ℕ) → has_point (Some own) x y ≡ true → loaded (record { source = sources.Func place; x = x; y = y }) ≡ true
     pub pure : (corners : List Corner) → AreCorners schedule.funcs boxes.funcs schedule.standings corners

@@ -44,7 +44,8 @@ turns_for plans places.Nowhere values = no_loops
 -- It is the corner of the box of a Func that is computed there.
 abbrev pub IsCorner : List FuncPlan → Place → SourceBox → Corner → Type 0
 IsCorner plans place own corner =
-    (values : Values) → (linear_value values corner.x ≡ first_of own.x (turns_for plans place values)) × (linear_value values corner.y ≡ first_of own.y (turns_for plans place values))
+    (values : Values) → (linear_value values corner.x ≡ first_of own.x (turns_for plans place values))
+    × (linear_value values corner.y ≡ first_of own.y (turns_for plans place values))
 
 abbrev pub IsCornerOf : List FuncPlan → Place → Option SourceBox → Corner → Type 0
 IsCornerOf plans place None corner = Unit {0}

@@ -44,14 +44,17 @@ module _ (pipeline : Pipeline) (schedule : Schedule) (boxes : Boxes) where
     Pure : (phase : Phase) → phase.tasks ≡ iteration_count (extents_of own) plan.pure → phase.private ≡ produced_from place 0 schedule.standings
         → phase.bytes ≡ byte_places 0 pipeline.inputs
         → DoesStage pipeline schedule boxes place func 0 (owns (extents_of own) plan.pure) phase
-        → TouchesItsOwn pipeline schedule boxes place (owns (extents_of own) plan.pure) phase → TakesFew pipeline schedule phase × IsLight pipeline schedule place func plan 0 phase
+        → TouchesItsOwn pipeline schedule boxes place (owns (extents_of own) plan.pure) phase → TakesFew pipeline schedule phase
+        × IsLight pipeline schedule place func plan 0 phase
         → StoresItsOwn boxes place (owns (extents_of own) plan.pure) phase → RoundsMayBeAtOnce phase → StoresInRuns place (extents_of own) plan.pure phase
         → IsStagePhase place func plan own 0 phase
     Updating : (at : ℕ) (update : Update) (stage : Stage) (phase : Phase) → IsUpdateAt schedule place func plan at update stage
         → phase.tasks ≡ iteration_count (update_extents own update) stage → phase.private ≡ [] → phase.bytes ≡ byte_places 0 pipeline.inputs
         → DoesStage pipeline schedule boxes place func (suc at) (owns_update own update stage) phase
-        → TouchesItsOwn pipeline schedule boxes place (owns_update own update stage) phase → TakesFew pipeline schedule phase × IsLight pipeline schedule place func plan (suc at) phase
-        → StoresWhatItNames pipeline schedule boxes place func at own update stage phase → RoundsMayBeAtOnce phase → IsStagePhase place func plan own (suc at) phase
+        → TouchesItsOwn pipeline schedule boxes place (owns_update own update stage) phase → TakesFew pipeline schedule phase
+        × IsLight pipeline schedule place func plan (suc at) phase
+        → StoresWhatItNames pipeline schedule boxes place func at own update stage phase → RoundsMayBeAtOnce phase
+        → IsStagePhase place func plan own (suc at) phase
 
   -- There is one exactly if there is the stage.
   abbrev pub IsStagePhaseIfThere : ℕ → Func → FuncPlan → SourceBox → ℕ → Option Phase → Type 0
@@ -61,7 +64,8 @@ module _ (pipeline : Pipeline) (schedule : Schedule) (boxes : Boxes) where
   -- Behind other phases stand those of the first so many stages of a Func.
   pub data ArePhasesOf (place : ℕ) (func : Func) (plan : FuncPlan) (own : SourceBox) (others : List Phase) : ℕ → List Phase → Type 0 where
     None_yet : ArePhasesOf place func plan own others 0 others
-    One_more : (number : ℕ) (phases : List Phase) (phase : Phase) → ArePhasesOf place func plan own others number phases → IsStagePhase place func plan own number phase
+    One_more : (number : ℕ) (phases : List Phase) (phase : Phase) → ArePhasesOf place func plan own others number phases
+        → IsStagePhase place func plan own number phase
         → ArePhasesOf place func plan own others (suc number) (phases ++ phase ∷ [])
 
   -- No phase is of this Func: the output doesn't reach it, or it isn't computed at root.
@@ -116,5 +120,6 @@ PhasesDoPixels = (pipeline : Pipeline) (schedule : Schedule) (boxes : Boxes) →
     → (phases : List Phase) → AreLowered pipeline schedule boxes (length pipeline.funcs) phases → DoPixels pipeline schedule boxes phases
 
 abbrev pub PhasesLeaveOutput : Type 0
-PhasesLeaveOutput = (pipeline : Pipeline) (schedule : Schedule) (boxes : Boxes) → IsWellFormed pipeline → IsAccepted pipeline schedule → inferred pipeline schedule ≡ Ok boxes
+PhasesLeaveOutput = (pipeline : Pipeline) (schedule : Schedule) (boxes : Boxes) → IsWellFormed pipeline → IsAccepted pipeline schedule
+    → inferred pipeline schedule ≡ Ok boxes
     → (phases : List Phase) → AreLowered pipeline schedule boxes (length pipeline.funcs) phases → LeaveOutput pipeline schedule boxes phases

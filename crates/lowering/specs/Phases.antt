@@ -25,7 +25,8 @@ pub record DoesTask (points : Points) (is_private : ℕ → Bool) (own : ℕ) (s
 
 -- Each task of a phase does its part. No point is owned by two; one that none owns is in the result what it is in the start, and so are all
 -- points of other Funcs.
-pub record DoesPhase (points : Points) (is_private : ℕ → Bool) (own : ℕ) (start result : Planes) (count : ℕ) (owns : ℕ → ℕ → ℕ → Bool) (tasks : ℕ → Planes → Planes) : Type 0 where
+pub record DoesPhase (points : Points) (is_private : ℕ → Bool) (own : ℕ) (start result : Planes) (count : ℕ) (owns : ℕ → ℕ → ℕ → Bool) (tasks : ℕ → Planes
+    → Planes) : Type 0 where
   pub not_private : is_private own ≡ false
   pub each : (number : ℕ) → number < count → DoesTask points is_private own start result (owns number) (tasks number)
   pub one_owner : (x y first second : ℕ) → first < count → second < count → owns first x y ≡ true → owns second x y ≡ true → first ≡ second
@@ -43,7 +44,8 @@ pub data Done (is_private : ℕ → Bool) (tasks : ℕ → Planes → Planes) : 
 
 -- In whatever order the tasks are done, from buffers that hold the start the result is left at each point that is there.
 abbrev pub TasksInAnyOrder : Type 0
-TasksInAnyOrder = (points : Points) (is_private : ℕ → Bool) (own : ℕ) (start result : Planes) (count : ℕ) (owns : ℕ → ℕ → ℕ → Bool) (tasks : ℕ → Planes → Planes)
+TasksInAnyOrder = (points : Points) (is_private : ℕ → Bool) (own : ℕ) (start result : Planes) (count : ℕ) (owns : ℕ → ℕ → ℕ → Bool) (tasks : ℕ → Planes
+    → Planes)
     → DoesPhase points is_private own start result count owns tasks
     → (order : List ℕ) → IsOrder count order
     → (funcs after : Planes) → ((place x y : ℕ) → is_private place ≡ false → points place x y ≡ true → funcs place x y ≡ start place x y)

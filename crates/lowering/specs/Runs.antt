@@ -19,7 +19,8 @@ use Rattle.lowering_nests.specs.Nests.{loops_of}
 -- The run visits the point, while the other loops of the Func at a place are in the turns that counters stand at, and these are turns of theirs.
 abbrev pub is_in_run : Extents → Stage → ℕ → ℕ → ℕ → Values → Bool
 is_in_run extents stage place x y values =
-    are_turns (counts extents stage.splits) (outside_innermost stage.loops) (loops_of place values) && list_any (is_slice x y) (run_of extents stage (loops_of place values))
+    are_turns (counts extents stage.splits) (outside_innermost stage.loops) (loops_of place values)
+    && list_any (is_slice x y) (run_of extents stage (loops_of place values))
 
 -- Where the stage of the Func at a place is vectorized, each task of the phase stores points of the Func in vectorized loops of the Func alone,
 -- and each run of such a loop stores exactly at the points that the stage visits in the run, while its other loops are in some of their turns, however
@@ -40,5 +41,6 @@ pub record IsRunOf (extents : Extents) (stage : Stage) (visits : List Visit) : T
 -- The list of runs has those of all turns of the stage's other loops, and no others.
 abbrev pub RunsAreListed : Type 0
 RunsAreListed = (extents : Extents) (stage : Stage)
-    → ((turns : loops.Values) → are_turns (counts extents stage.splits) (outside_innermost stage.loops) turns ≡ true → Contains (runs extents stage) (run_of extents stage turns))
+    → ((turns : loops.Values) → are_turns (counts extents stage.splits) (outside_innermost stage.loops) turns ≡ true
+    → Contains (runs extents stage) (run_of extents stage turns))
     × ((visits : List Visit) → Contains (runs extents stage) visits → IsRunOf extents stage visits)

@@ -27,7 +27,8 @@ use Rattle.lowering.specs.Updates.{owns_update}
 -- whatever buffers hold.
 abbrev pub StoresItsOwn : Boxes → ℕ → (ℕ → ℕ → ℕ → Bool) → Phase → Type 0
 StoresItsOwn boxes place owned phase =
-    (inputs funcs : Planes) (task : ℕ) → task < phase.tasks → (x y : ℕ) → is_stored_by_task (box_points boxes.funcs) inputs phase task place x y funcs ≡ owned task x y
+    (inputs funcs : Planes) (task : ℕ) → task < phase.tasks → (x y : ℕ) → is_stored_by_task (box_points boxes.funcs) inputs phase task place x y funcs
+    ≡ owned task x y
 
 -- ---- updates
 
@@ -36,6 +37,7 @@ StoresItsOwn boxes place owned phase =
 pub record StoresWhatItNames (pipeline : Pipeline) (schedule : Schedule) (boxes : Boxes) (place : ℕ) (func : Func) (at : ℕ) (own : SourceBox) (update : Update) (stage : Stage) (phase : Phase) : Type 0 where
   pub owned : (inputs : Planes) → AnswerWords pipeline.inputs (reads_of inputs (pixels pipeline.funcs inputs 0)) → (task : ℕ) → task < phase.tasks
       → (x y : ℕ) → names pipeline inputs place own update stage task x y ≡ true → owns_update own update stage task x y ≡ true
-  pub exactly : (inputs : Planes) → AnswerWords pipeline.inputs (reads_of inputs (pixels pipeline.funcs inputs 0)) → (funcs : Planes) (task : ℕ) → task < phase.tasks
+  pub exactly : (inputs : Planes) → AnswerWords pipeline.inputs (reads_of inputs (pixels pipeline.funcs inputs 0)) → (funcs : Planes) (task : ℕ)
+      → task < phase.tasks
       → Hold (box_points boxes.funcs) (is_private schedule.standings) place (owns_update own update stage task) (held boxes.funcs (after_stages pipeline.funcs inputs place func (suc at))) funcs
       → (x y : ℕ) → is_stored_by_task (box_points boxes.funcs) inputs phase task place x y funcs ≡ names pipeline inputs place own update stage task x y

@@ -175,7 +175,8 @@ ReadsPixels pipeline schedule corners place update turns own inputs values funcs
     → (plane : Plane) → AnswerWords pipeline.inputs (reads_of inputs (with_plane place plane (pixels pipeline.funcs inputs place)))
     → AllByRecursion
     (λ point. same_source point.source (sources.Func place) ≡ false
-    → placed corners (put_loops place inner values) (reads_of inputs funcs) point.source point.x point.y ≡ reads_of inputs (pixels pipeline.funcs inputs place) point.source point.x point.y)
+    → placed corners (put_loops place inner values) (reads_of inputs funcs) point.source point.x point.y
+    ≡ reads_of inputs (pixels pipeline.funcs inputs place) point.source point.x point.y)
     (update_points pipeline schedule (reads_of inputs (with_plane place plane (pixels pipeline.funcs inputs place))) place update number x y)
 
 -- Wherever its loops take its arguments, all that an update reads of other sources may be loaded.

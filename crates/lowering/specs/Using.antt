@@ -29,7 +29,8 @@ RisingIsAnOrder = (count : ℕ) → IsOrder count (numbers_below count)
 
 -- The turns of a loop over tasks do them in that order.
 abbrev pub TurnsAreDone : Type 0
-TurnsAreDone = (is_private : ℕ → Bool) (tasks : ℕ → Planes → Planes) (count : ℕ) (funcs : Planes) → Done is_private tasks (numbers_below count) funcs (turns count tasks funcs)
+TurnsAreDone = (is_private : ℕ → Bool) (tasks : ℕ → Planes → Planes) (count : ℕ) (funcs : Planes)
+    → Done is_private tasks (numbers_below count) funcs (turns count tasks funcs)
 
 -- ---- buffers
 

@@ -57,7 +57,8 @@ pub record IsDriven {O F : Type 0} {G : Ghosts O} (name : BoardId) (always : Boo
 
 -- each of the seats
 abbrev pub AreDriven : {O F : Type 0} {G : Ghosts O} → BoardId → Bool → ℕ → List (Seat O F G) → List (Seat O F G) → Type 0
-AreDriven {O} {F} {G} name always limit olds news = (k : ℕ) (d : Seat O F G) → k < length olds → IsDriven name always limit (slice_index_or olds k d) (slice_index_or news k d)
+AreDriven {O} {F} {G} name always limit olds news = (k : ℕ) (d : Seat O F G) → k < length olds
+    → IsDriven name always limit (slice_index_or olds k d) (slice_index_or news k d)
 
 -- a seat before and after a drive that was not made: it has asked for a stop, and no thread has run it
 pub record IsStopped {O F : Type 0} {G : Ghosts O} (name : BoardId) (old new : Seat O F G) : Type 0 where

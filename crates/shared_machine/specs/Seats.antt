@@ -33,7 +33,8 @@ pub record IsSeatAt {O F : Type 0} {G : Ghosts O} (name : BoardId) (turns sum wh
 -- the seats of the harts from one on, where these are the harts' numbers and tallies
 abbrev pub AreSeatsAt : {O F : Type 0} {G : Ghosts O} → BoardId → (ℕ → ℕ) → (ℕ → ℕ) → ℕ → List (Seat O F G) → Type 0
 AreSeatsAt name numbers tallies which [] = Unit {0}
-AreSeatsAt name numbers tallies which (seat ∷ others) = IsSeatAt name (numbers which) (tallies which) which seat × AreSeatsAt name numbers tallies (suc which) others
+AreSeatsAt name numbers tallies which (seat ∷ others) = IsSeatAt name (numbers which) (tallies which) which seat
+    × AreSeatsAt name numbers tallies (suc which) others
 
 -- before any turn
 abbrev pub AreNewSeats : {O F : Type 0} {G : Ghosts O} → BoardId → ℕ → List (Seat O F G) → Type 0

@@ -51,10 +51,12 @@ tally_name blanks (suc (suc (suc (suc (suc (suc (suc (suc more)))))))) = 0
 -- ---- under the lock
 
 abbrev pub numbers_of : {F : Type 0} → Books F → List ℕ
-numbers_of books = books.hart0.number.total ∷ books.hart1.number.total ∷ books.hart2.number.total ∷ books.hart3.number.total ∷ books.hart4.number.total ∷ books.hart5.number.total ∷ books.hart6.number.total ∷ books.hart7.number.total ∷ []
+numbers_of books = books.hart0.number.total ∷ books.hart1.number.total ∷ books.hart2.number.total ∷ books.hart3.number.total ∷ books.hart4.number.total
+    ∷ books.hart5.number.total ∷ books.hart6.number.total ∷ books.hart7.number.total ∷ []
 
 abbrev pub tallies_of : {F : Type 0} → Books F → List ℕ
-tallies_of books = books.hart0.tally.total ∷ books.hart1.tally.total ∷ books.hart2.tally.total ∷ books.hart3.tally.total ∷ books.hart4.tally.total ∷ books.hart5.tally.total ∷ books.hart6.tally.total ∷ books.hart7.tally.total ∷ []
+tallies_of books = books.hart0.tally.total ∷ books.hart1.tally.total ∷ books.hart2.tally.total ∷ books.hart3.tally.total ∷ books.hart4.tally.total
+    ∷ books.hart5.tally.total ∷ books.hart6.tally.total ∷ books.hart7.tally.total ∷ []
 
 -- ---- in a seat
 
@@ -93,4 +95,5 @@ tally_in (Hart7 one) = one.tally.amount
 -- the shares of the harts from one on, where these are the harts' numbers and tallies
 abbrev pub AreSharesAt : {F : Type 0} → (ℕ → ℕ) → (ℕ → ℕ) → ℕ → List (Shares F) → Type 0
 AreSharesAt numbers tallies hart [] = Unit {0}
-AreSharesAt numbers tallies hart (one ∷ others) = (hart_of one ≡ hart) × (number_in one ≡ numbers hart) × (tally_in one ≡ tallies hart) × AreSharesAt numbers tallies (suc hart) others
+AreSharesAt numbers tallies hart (one ∷ others) = (hart_of one ≡ hart) × (number_in one ≡ numbers hart) × (tally_in one ≡ tallies hart)
+    × AreSharesAt numbers tallies (suc hart) others

@@ -18,7 +18,8 @@ use Rattle.task_code_collecting.specs.Collected.{collected_code, collected_turns
 abbrev pub LoopsAreCollected : Type 0
 LoopsAreCollected =
     (own : Setting) → IsSetting own → (group : Group) (counter : Counter) (count : ℕ) (body : Stmt) (scope : List Counter) (values : Values)
-    → collected_fits group own.places scope counter count body ≡ true → SoundIn own (For counter count Vectorized body) values → RunsIn own (For counter count Vectorized body) values
+    → collected_fits group own.places scope counter count body ≡ true → SoundIn own (For counter count Vectorized body) values
+    → RunsIn own (For counter count Vectorized body) values
     → (f : ℕ → ℕ) (memory : List ℕ) (funcs : Planes) → may_be_at_once (reads_of own.inputs funcs) (For counter count Vectorized body) values ≡ true
     → HoldsFuncs own memory funcs → Knows own.world own.harts scope values f
     → Done own (collected_code group own.places scope counter count body) (collected_turns group own.places scope counter count body values) scope values f memory

@@ -23,7 +23,8 @@ stored_before own counter body values count funcs func x y =
     (iterated count (λ turn. trace own.points own.inputs func x y body (with counter turn values)) (record { funcs = funcs; is_stored = false })).is_stored
 
 -- Appended code does a loop's first so many iterations, wherever registers hold the scope's forms and something is so of loop variables.
-pub record LaysOut (old new : List ℕ) (places : Places) (scope : List Held) (is_so : Values → Type 0) (counter : Counter) (body : Stmt) (count : ℕ) : Type 0 where
+pub record LaysOut (old new : List ℕ) (places : Places) (scope : List Held) (is_so : Values
+    → Type 0) (counter : Counter) (body : Stmt) (count : ℕ) : Type 0 where
   pub insns : List Insn
   pub emits : Emits old new insns
   pub turns : Values → ℕ

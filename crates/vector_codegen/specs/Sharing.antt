@@ -87,7 +87,8 @@ module _ (text : List ℕ) (size harts : ℕ) (parts : List Part) (matter : ℕ 
     -- control words of this phase and of earlier ones
     pub control : (k address : ℕ) → k ≤ last → IsControlByte k address → (matter k).uses address ≡ Control
     -- those of later ones
-    pub fresh : (k address : ℕ) → k ≤ last → data_start + 8 * suc k ≤ address → address < data_start + 8 * suc last → ((matter k).uses address ≡ Fixed) × ((matter k).start address ≡ 0)
+    pub fresh : (k address : ℕ) → k ≤ last → data_start + 8 * suc k ≤ address → address < data_start + 8 * suc last → ((matter k).uses address ≡ Fixed)
+        × ((matter k).start address ≡ 0)
     pub runs : (k task number : ℕ) (hart : HartState) (found : List ℕ) → k ≤ last → Begins (phase k) task number hart found → Runs k task number hart found
     pub follows : (k address : ℕ) → k < last → Shared ((matter (suc k)).uses address) → FoundBy (phase k) (phase (suc k)) address
     pub whole : length memory ≡ size

@@ -57,13 +57,15 @@ module _ (pipeline : Pipeline) (schedule : Schedule) (boxes : List (Option Sourc
 
     -- One turn of a task may write points that it may write, and where points are written in runs, a whole one.
     abbrev pub TasksMayWriteRuns : Type 0
-    TasksMayWriteRuns = (text : List ℕ) (harts task hart : ℕ) (inputs : Planes) (points written : Points) (loaded : Point → Bool) → IsTask task hart → RunsAreNamed owners
+    TasksMayWriteRuns = (text : List ℕ) (harts task hart : ℕ) (inputs : Planes) (points written : Points) (loaded : Point → Bool) → IsTask task hart
+        → RunsAreNamed owners
         → ((func x y : ℕ) → written func x y ≡ true → IsWritten pipeline schedule boxes number owners task func x y)
         → MayBeWrittenAtOnce (setting text harts task hart inputs points written loaded)
 
     -- Any memory of the data's size with the inputs' bytes holds some words at the points that may be loaded.
     abbrev pub MemoryHoldsFuncs : Type 0
-    MemoryHoldsFuncs = (text memory : List ℕ) (harts task hart : ℕ) (inputs earlier : Planes) (points written : Points) (loaded : Point → Bool) → IsTask task hart
+    MemoryHoldsFuncs = (text memory : List ℕ) (harts task hart : ℕ) (inputs earlier : Planes) (points written : Points) (loaded : Point → Bool)
+        → IsTask task hart
         → length memory ≡ size pipeline schedule boxes → AreBytes memory → AnswerWords pipeline.inputs (reads_of inputs earlier) → HasInputs text memory inputs
         → ((point : Point) → loaded point ≡ true → IsLoaded pipeline schedule boxes number owners task point.source point.x point.y)
         → HoldsFuncs (setting text harts task hart inputs points written loaded) memory (funcs_in text memory hart)
@@ -72,13 +74,15 @@ module _ (pipeline : Pipeline) (schedule : Schedule) (boxes : List (Option Sourc
     -- own.
     abbrev pub TasksFindTheirs : Type 0
     TasksFindTheirs = (text memory : List ℕ) (task hart : ℕ) (inputs start : Planes) → IsTask task hart
-        → ((address : ℕ) → Given task (uses pipeline schedule boxes number owners address) → byte_at text memory address ≡ byte_in pipeline.inputs boxes inputs start (part pipeline schedule boxes address))
+        → ((address : ℕ) → Given task (uses pipeline schedule boxes number owners address) → byte_at text memory address
+        ≡ byte_in pipeline.inputs boxes inputs start (part pipeline schedule boxes address))
         → (func x y : ℕ) → RootPoint pipeline schedule boxes func x y → (func ≡ owners.func → owners.owns task x y ≡ true) → start func x y < 2 ^ 32
         → funcs_in text memory hart func x y ≡ start func x y
 
     -- Where memory holds Funcs that at the task's points are these planes, its bytes there are theirs.
     abbrev pub TasksLeaveTheirs : Type 0
-    TasksLeaveTheirs = (text left : List ℕ) (harts task hart : ℕ) (inputs funcs result : Planes) (points written : Points) (loaded : Point → Bool) → IsTask task hart
+    TasksLeaveTheirs = (text left : List ℕ) (harts task hart : ℕ) (inputs funcs result : Planes) (points written : Points) (loaded : Point → Bool)
+        → IsTask task hart
         → AreBytes left → HoldsFuncs (setting text harts task hart inputs points written loaded) left funcs
         → ((x y : ℕ) → owners.owns task x y ≡ true → RootPoint pipeline schedule boxes owners.func x y)
         → ((x y : ℕ) → owners.owns task x y ≡ true → loaded (func_point owners.func x y) ≡ true)

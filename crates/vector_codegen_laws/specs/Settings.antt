@@ -22,7 +22,8 @@ use Rattle.vector_codegen_laws.specs.Uses.{Owners, use_of}
 
 -- no point is owned by two tasks
 abbrev pub OneOwner : Owners → Type 0
-OneOwner owners = (x y first second : ℕ) → first < owners.tasks → second < owners.tasks → owners.owns first x y ≡ true → owners.owns second x y ≡ true → first ≡ second
+OneOwner owners = (x y first second : ℕ) → first < owners.tasks → second < owners.tasks → owners.owns first x y ≡ true → owners.owns second x y ≡ true
+    → first ≡ second
 
 module _ (pipeline : Pipeline) (schedule : Schedule) (boxes : List (Option SourceBox)) where
   abbrev pub places : Places
@@ -40,7 +41,8 @@ module _ (pipeline : Pipeline) (schedule : Schedule) (boxes : List (Option Sourc
     task_world text task hart = record { text = text; size = size; uses = uses; rule = λ task places. rule_of pipeline schedule boxes owners places; job = Task task; hart = hart }
 
     abbrev pub IsWritten : ℕ → ℕ → ℕ → ℕ → Type 0
-    IsWritten task func x y = (RootPoint pipeline schedule boxes func x y × ((func ≡ owners.func) × (owners.owns task x y ≡ true))) ⊎ PrivatePoint pipeline schedule boxes func x y
+    IsWritten task func x y = (RootPoint pipeline schedule boxes func x y × ((func ≡ owners.func) × (owners.owns task x y ≡ true)))
+        ⊎ PrivatePoint pipeline schedule boxes func x y
 
     abbrev pub IsLoaded : ℕ → Source → ℕ → ℕ → Type 0
     IsLoaded task (sources.Input place) x y = InputPoint pipeline schedule boxes place x y

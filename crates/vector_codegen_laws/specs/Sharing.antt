@@ -62,14 +62,16 @@ module _ (pipeline : Pipeline) (schedule : Schedule) (boxes : Boxes) where
     pub tasks_are : (k : ℕ) (stage : StagePlace) → slice_get (stages pipeline schedule boxes) k ≡ Some stage
         → (part_at text (size pipeline schedule boxes.funcs) harts parts matter k).tasks ≡ iterations pipeline schedule boxes stage
     -- each byte of a point that an iteration writes is its task's own, and written
-    pub own_bytes : (k : ℕ) (stage : StagePlace) → slice_get (stages pipeline schedule boxes) k ≡ Some stage → (task : ℕ) → task < iterations pipeline schedule boxes stage
+    pub own_bytes : (k : ℕ) (stage : StagePlace) → slice_get (stages pipeline schedule boxes) k ≡ Some stage → (task : ℕ)
+        → task < iterations pipeline schedule boxes stage
         → (x y byte : ℕ) → writes pipeline schedule boxes inputs stage task x y ≡ true → byte < 4
         → let address = address_at pipeline schedule boxes.funcs 0 (sources.Func stage.func) x y + byte in
         ((matter k).uses address ≡ Owned task) × ((matter k).writes task address ≡ true)
     -- their Funcs are computed at root, and have boxes
     pub roots_are : (k : ℕ) (stage : StagePlace) → slice_get (stages pipeline schedule boxes) k ≡ Some stage → RootFunc pipeline schedule boxes.funcs stage.func
     -- a stage is a pure definition or an update
-    pub numbers_are : (k : ℕ) (stage : StagePlace) (func : Func) → slice_get (stages pipeline schedule boxes) k ≡ Some stage → slice_get pipeline.funcs stage.func ≡ Some func
+    pub numbers_are : (k : ℕ) (stage : StagePlace) (func : Func) → slice_get (stages pipeline schedule boxes) k ≡ Some stage
+        → slice_get pipeline.funcs stage.func ≡ Some func
         → stage.number ≤ length func.updates
     -- a byte of a point of a Func at root stays as it is in a phase, or one task of the phase owns it, which computes a stage of the Func
     pub root_bytes : (k func x y byte : ℕ) → k ≤ last → RootPoint pipeline schedule boxes.funcs func x y → byte < 4
@@ -79,7 +81,8 @@ module _ (pipeline : Pipeline) (schedule : Schedule) (boxes : Boxes) where
     pub runs_are : (k place : ℕ) (func : Func) (plan : FuncPlan) (own : SourceBox) (number : ℕ) → IsAtRoot pipeline schedule boxes place func plan own
         → slice_get (stages pipeline schedule boxes) k ≡ Some (record { func = place; number = number })
         → writes_runs plan number ≡ true
-        → (task : ℕ) (written : List ℕ) → (matter k).rule task written ≡ true → IsOneRun (address_at pipeline schedule boxes.funcs 0 (sources.Func place)) (extents_of own) plan.pure written
+        → (task : ℕ) (written : List ℕ) → (matter k).rule task written ≡ true
+        → IsOneRun (address_at pipeline schedule boxes.funcs 0 (sources.Func place)) (extents_of own) plan.pure written
     pub ends : (left : List ℕ)
         → ((address task : ℕ) → task < (part_at text (size pipeline schedule boxes.funcs) harts parts matter last).tasks
         → (matter last).uses address ≡ Owned task → byte_at text left address ≡ (matter last).result address)

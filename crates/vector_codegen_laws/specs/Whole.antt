@@ -26,7 +26,8 @@ reached_at place (Some own) (Some func) = if own.is_reached && is_root own.place
 -- of the first so many Funcs
 abbrev pub reached_below : Pipeline → Schedule → ℕ → List StagePlace
 reached_below pipeline schedule zero = []
-reached_below pipeline schedule (suc place) = reached_below pipeline schedule place ++ reached_at place (slice_get schedule.standings place) (slice_get pipeline.funcs place)
+reached_below pipeline schedule (suc place) = reached_below pipeline schedule place
+    ++ reached_at place (slice_get schedule.standings place) (slice_get pipeline.funcs place)
 
 abbrev pub StagesAreReached : Type 0
 StagesAreReached = (pipeline : Pipeline) (schedule : Schedule) (boxes : Boxes) → IsAccepted pipeline schedule → inferred pipeline schedule ≡ Ok boxes
@@ -35,7 +36,8 @@ StagesAreReached = (pipeline : Pipeline) (schedule : Schedule) (boxes : Boxes) �
 -- ---- their iterations
 
 abbrev pub StagesHaveIterations : Type 0
-StagesHaveIterations = (pipeline : Pipeline) (schedule : Schedule) (boxes : Boxes) → IsWellFormed pipeline → IsAccepted pipeline schedule → inferred pipeline schedule ≡ Ok boxes
+StagesHaveIterations = (pipeline : Pipeline) (schedule : Schedule) (boxes : Boxes) → IsWellFormed pipeline → IsAccepted pipeline schedule
+    → inferred pipeline schedule ≡ Ok boxes
     → (phase : ℕ) (stage : StagePlace) → slice_get (stages pipeline schedule boxes) phase ≡ Some stage → 0 < iterations pipeline schedule boxes stage
 
 -- an iteration of the stage that writes the point
@@ -45,7 +47,8 @@ pub record IsWritten (pipeline : Pipeline) (schedule : Schedule) (boxes : Boxes)
   pub writes_it : writes pipeline schedule boxes inputs stage iteration x y ≡ true
 
 abbrev pub PureStagesWriteAll : Type 0
-PureStagesWriteAll = (pipeline : Pipeline) (schedule : Schedule) (boxes : Boxes) → IsWellFormed pipeline → IsAccepted pipeline schedule → inferred pipeline schedule ≡ Ok boxes
+PureStagesWriteAll = (pipeline : Pipeline) (schedule : Schedule) (boxes : Boxes) → IsWellFormed pipeline → IsAccepted pipeline schedule
+    → inferred pipeline schedule ≡ Ok boxes
     → (inputs : Planes) (phase : ℕ) (stage : StagePlace) → slice_get (stages pipeline schedule boxes) phase ≡ Some stage → stage.number ≡ 0
     → (own : SourceBox) → slice_get boxes.funcs stage.func ≡ Some (Some own) → (x y : ℕ) → x < extent own.x → y < extent own.y
     → IsWritten pipeline schedule boxes inputs stage x y

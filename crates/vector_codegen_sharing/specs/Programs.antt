@@ -50,7 +50,8 @@ pub record Link (earlier later : Phase) : Type 0 where
   pub harts : earlier.harts ≡ later.harts
   pub gate : IsControl later earlier.gate
   pub before : earlier.gate + 4 ≤ later.ticket
-  pub setup : (number : ℕ) (hart : HartState) (memory : List ℕ) → Stands earlier number hart (earlier.door + 12) → length memory ≡ later.size → AreBytes memory → SoonDone later Setup number (suc (later.turns Setup)) hart memory
+  pub setup : (number : ℕ) (hart : HartState) (memory : List ℕ) → Stands earlier number hart (earlier.door + 12) → length memory ≡ later.size
+      → AreBytes memory → SoonDone later Setup number (suc (later.turns Setup)) hart memory
 
 pub record Follows (earlier later : Phase) : Type 0 where
   pub link : Link earlier later

@@ -23,7 +23,8 @@ abbrev pub OneResult : Type 0
 OneResult =
     (phases : ℕ → Phase) (last entry : ℕ) (memory turns : List ℕ) → Program phases last → Opens (phases 0) entry memory
     → let end = run (start (phases 0) entry memory) turns in all_finished end ≡ true
-    → ((address task : ℕ) → task < (phases last).tasks → (phases last).uses address ≡ Owned task → byte_at end.text end.memory address ≡ (phases last).result address)
+    → ((address task : ℕ) → task < (phases last).tasks → (phases last).uses address ≡ Owned task → byte_at end.text end.memory address
+    ≡ (phases last).result address)
     × ((address : ℕ) → (phases last).uses address ≡ Fixed → byte_at end.text end.memory address ≡ (phases last).start address)
 
 -- ---- no race: what two harts touch at once, one of them writing, is a byte of a control word
@@ -71,7 +72,8 @@ pub record DoneBy (phase : Phase) (k : ℕ) (assigned : ℕ → ℕ) (begin : St
   pub after : List ℕ
   pub split : turns ≡ before ++ after
   pub full : word_at (run begin before).text (run begin before).memory (gate_word k) ≡ length begin.harts
-  pub first : (some : List ℕ) (turning : ℕ) (others : List ℕ) → before ≡ some ++ turning ∷ others → word_at (run begin some).text (run begin some).memory (gate_word k) < length begin.harts
+  pub first : (some : List ℕ) (turning : ℕ) (others : List ℕ) → before ≡ some ++ turning ∷ others
+      → word_at (run begin some).text (run begin some).memory (gate_word k) < length begin.harts
   pub writers : WrittenAs phase assigned begin before
 
 abbrev pub EveryAssignment : Type 0

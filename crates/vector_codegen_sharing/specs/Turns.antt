@@ -83,7 +83,8 @@ pub record Race (control : List ℕ) (state : State) : Type 0 where
   pub place : ℕ
   pub no_control : is_byte_of control place ≡ false
   pub written : is_in place (writes (next_of state.text (length state.memory) one) one) ≡ true
-  pub touched : (is_in place (reads (next_of state.text (length state.memory) other) other) ≡ true) ⊎ (is_in place (writes (next_of state.text (length state.memory) other) other) ≡ true)
+  pub touched : (is_in place (reads (next_of state.text (length state.memory) other) other) ≡ true)
+      ⊎ (is_in place (writes (next_of state.text (length state.memory) other) other) ≡ true)
 
 -- ---- which harts make turns
 

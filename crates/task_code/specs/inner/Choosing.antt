@@ -17,9 +17,11 @@ chosen places scope counter count kind body plain = code_chosen places scope cou
 
 -- words of it are appended, beside words of the iterations in turn
 abbrev pub EmitsChosen : List ℕ → List ℕ → Places → List Counter → Counter → ℕ → LoopKind → Stmt → List ℕ → Type 0
-EmitsChosen old new places scope counter count kind body in_turn = (plain : List Insn) → Emits [] in_turn plain → Emits old new (chosen places scope counter count kind body plain)
+EmitsChosen old new places scope counter count kind body in_turn = (plain : List Insn) → Emits [] in_turn plain
+    → Emits old new (chosen places scope counter count kind body plain)
 
 -- it is too long, or an iteration's statement has no registers
 abbrev pub IsChosenFault : Places → List Counter → Counter → ℕ → LoopKind → Stmt → List ℕ → CodeFault → Type 0
 IsChosenFault places scope counter count kind body in_turn =
-    IsFault ((plain : List Insn) → Emits [] in_turn plain → IsLong (chosen places scope counter count kind body plain)) (FitsRound places body (length scope + 1) → ⊥)
+    IsFault ((plain : List Insn) → Emits [] in_turn plain
+    → IsLong (chosen places scope counter count kind body plain)) (FitsRound places body (length scope + 1) → ⊥)

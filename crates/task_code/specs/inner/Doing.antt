@@ -18,7 +18,8 @@ use Rattle.task_code.specs.inner.Fitting.{fits, fits_task, task_turns}
 -- a statement that fits, from any numbers that know the counters' values and any memory that holds the buffers
 abbrev pub StatementsAreDone : Type 0
 StatementsAreDone =
-    (own : Setting) → IsSetting own → (statement : Stmt) (scope : List Counter) (values : Values) → fits own.places statement scope ≡ true → SoundIn own statement values → AtOnceIn own statement values
+    (own : Setting) → IsSetting own → (statement : Stmt) (scope : List Counter) (values : Values) → fits own.places statement scope ≡ true
+    → SoundIn own statement values → AtOnceIn own statement values
     → RunsIn own statement values
     → (f : ℕ → ℕ) (memory : List ℕ) (funcs : Planes) → HoldsFuncs own memory funcs → Knows own.world own.harts scope values f
     → Done own (stmt_code own.places statement scope) (stmt_turns own.places statement scope values) scope values f memory
