@@ -7,3 +7,4 @@ pub mod Batches
 pub mod RunningOut
 pub mod MadeAgain
 pub mod Halves
+pub mod Alone

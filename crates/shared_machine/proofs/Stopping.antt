@@ -191,6 +191,24 @@ stopped-adds state (one ∷ turns) hart below halted =
     let rest = stopped-adds (turn state one) turns hart below' (subst (λ h. h.status ≢ Running) (sym (turn-other state one hart (λ q. n (sym q)))) halted) in
     (tally-apart state one hart turns n ∙ rest.0, rest.1))
 
+code-steps : (came : Outcome) → code_of came ≡ 16 → came ≡ Stepped
+code-steps Stepped code = refl
+code-steps Finished code = absurd (omega (arith, code))
+code-steps (Trapped trap) code = let few = trap-few trap in absurd (omega (arith, code, few))
+code-steps Idle code = absurd (omega (arith, code))
+
+-- a hart whose turn isn't a step doesn't run behind it
+pub stops-behind : (state : State) (hart : ℕ) → hart < length state.harts → outcome state hart ≢ Stepped → (hart_at (turn state hart) hart).status ≢ Running
+stops-behind state hart below apart = go (hart_at state hart).status refl
+  where
+    go : (status : Status) → (hart_at state hart).status ≡ status → (hart_at (turn state hart) hart).status ≢ Running
+    go Running is = ⊎_elim
+        (λ (on : GoesOn (outcome state hart) (hart_at (turn state hart) hart).status × (outcome state hart ≢ Idle)). absurd (apart (code-steps (outcome state hart) on.0.code)))
+        (λ (off : Stops (outcome state hart) (hart_at (turn state hart) hart).status). off.halts)
+        (turn-went state hart below is)
+    go HasFinished is = (stopped-adds state (hart ∷ []) hart below (λ runs. let q = sym is ∙ runs in cc q)).1
+    go (HasTrapped trap) is = (stopped-adds state (hart ∷ []) hart below (λ runs. let q = sym is ∙ runs in cc q)).1
+
 -- from a running hart on: it runs, and the tally is a multiple of 16, or neither
 abbrev pub Told : Status → ℕ → Type 0
 Told status tallied = ((status ≡ Running) × (tallied % 16 ≡ 0)) ⊎ ((status ≢ Running) × (tallied % 16 ≢ 0))

@@ -38,7 +38,7 @@ pub fn drive<
     ensures of { All (IsSeatOf (name_of shared.now.board)) seats.new }
     ensures driven { OnOk result (AreDriven (name_of shared.now.board) G.OPEN limit seats.old seats.new) }
     ensures stopped { OnErr result (AreStopped (name_of shared.now.board) seats.old seats.new) }
-    ensures some { OnErr result (1 ≤ length seats.old) }
+    ensures several { OnErr result (2 ≤ length seats.old) }
     ensures fault { IfErr result (λ fault. fault ≡ NoThread) }
 {
     drive_batched(rt, shared, seats, limit, 1, gate)
@@ -50,7 +50,8 @@ pub fn drive<
 /// lock, and told of the last.
 ///
 /// The threads meet before the first turn. Where one of them can't be had, or doesn't come for more than a second, each
-/// seat asks for a stop and no turn is made, nor later by a seat that asked.
+/// seat asks for a stop and no turn is made, nor later by a seat that asked. The first thread is the caller's, so that
+/// one seat is always driven.
 pub fn drive_batched<
     O: Origin + Send + Sync,
     F: Ledgers + Send + Sync,
@@ -70,7 +71,7 @@ pub fn drive_batched<
     ensures of { All (IsSeatOf (name_of shared.now.board)) seats.new }
     ensures driven { OnOk result (AreDriven (name_of shared.now.board) G.OPEN limit seats.old seats.new) }
     ensures stopped { OnErr result (AreStopped (name_of shared.now.board) seats.old seats.new) }
-    ensures some { OnErr result (1 ≤ length seats.old) }
+    ensures several { OnErr result (2 ≤ length seats.old) }
     ensures fault { IfErr result (λ fault. fault ≡ NoThread) }
 {
     let turns = Turns {

@@ -41,7 +41,8 @@ pub(crate) trait Work<T> {
 }
 
 /// Does the work of each place in a thread of its own. The threads meet before: where one of them can't be had, or
-/// doesn't come for more than a second, the work is left at each place. Whether it was done.
+/// doesn't come for more than a second, the work is left at each place. Whether it was done. The first thread is there:
+/// one place needs no other.
 pub(crate) fn for_each_met<T: Send, W: Work<T> + Sync, R: Threads + Wait + Sync>(
     rt: &R,
     s: &mut [T],
@@ -51,9 +52,13 @@ pub(crate) fn for_each_met<T: Send, W: Work<T> + Sync, R: Threads + Wait + Sync>
     ensures fits { All (W.fits work.now) s.new }
     ensures done { result ≡ true → EachIs (W.done work.now) s.old s.new }
     ensures left { result ≡ false → EachIs (W.left work.now) s.old s.new }
-    ensures some { result ≡ false → 1 ≤ length s.old }
+    ensures several { result ≡ false → 2 ≤ length s.old }
 {
     if s.is_empty() {
+        return true;
+    }
+    if s.len() == 1 {
+        work.work(&mut s[0]);
         return true;
     }
     let meeting = Meeting::new(s.len());

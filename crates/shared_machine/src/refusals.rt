@@ -2,6 +2,7 @@
 
 ghost use Rattle.std.specs.Prelude.{◌≡◌};
 ghost use Rattle.shared_machine.specs.Refusals.{drive_number, number_of};
+ghost use Rattle.shared_machine.specs.declared.refusals.DriveFault.TheVariants as fault;
 ghost use Rattle.shared_machine.specs.declared.refusals.Refusal.TheVariants.{OutOfMemory};
 
 use std::alloc::{AllocError, AllocFailed};
@@ -74,12 +75,16 @@ impl DriveFault {
 }
 
 impl From<AllocError> for DriveFault {
+    ghost from_gives = { λ _ e. e ≡ fault.OutOfMemory };
+
     fn from(_e: AllocError) -> DriveFault {
         DriveFault::OutOfMemory
     }
 }
 
 impl<T: Drop> From<AllocFailed<T>> for DriveFault {
+    ghost from_gives = { λ _ e. e ≡ fault.OutOfMemory };
+
     fn from(_e: AllocFailed<T>) -> DriveFault {
         DriveFault::OutOfMemory
     }

@@ -1,25 +1,28 @@
 //! A machine that runs until its harts stop.
 
-ghost use Rattle.std.specs.Prelude.{◌≡◌, ◌≤◌, All, length, true, false, OnOk, IfOk};
+ghost use Rattle.std.specs.Prelude.{◌≡◌, ◌≤◌, All, length, true, false, Err, OnOk, IfOk};
 ghost use Rattle.board.specs.Tokens.{name_of};
 ghost use Rattle.turn_log.specs.TurnLog.{count_of};
 ghost use Rattle.shared_machine.specs.Driving.{AreDriven, has_refused, refused_by};
-ghost use Rattle.shared_machine.specs.Log.{most_batch, state_after, tally};
+ghost use Rattle.shared_machine.specs.Log.{state_after, tally};
 ghost use Rattle.shared_machine.specs.Running.{IsRunOf};
 ghost use Rattle.shared_machine.specs.Seats.{IsSeatOf, AreSeatsAt};
 ghost use Rattle.shared_machine.specs.Tallies.{AreNamed};
+ghost use Rattle.shared_machine.specs.declared.refusals.DriveFault.TheVariants.{NoThread};
 
 use crate::books::Blanks;
 use crate::driving::drive_batched;
 use crate::gates::AlwaysOpen;
 use crate::ledgers::Ledgers;
+use crate::locked::Locked;
 use crate::origins::Origin;
 use crate::refusals::{DriveFault, Refusal};
+use crate::replaying::replay;
 use crate::seats::{Ended, Seat};
 use crate::shared::Shared;
 use loader::Image;
 use multi_hart::Machine;
-use std::alloc::Global;
+use std::alloc::{AllocError, Global};
 use std::marker::Brand;
 use std::sync::Wait;
 use std::thread::Threads;
@@ -28,14 +31,15 @@ use turn_log::TurnLog;
 /// How many turns are made under one lock at most.
 const BATCH: u64 = 64;
 
-/// How many where no other hart waits for the lock.
-const LONE_BATCH: u64 = 4096;
+/// The hart that is there where there is one.
+const FIRST: usize = 0;
 
 /// Runs the machine of an image on from a log of its turns, in a thread for each of the log's harts, until each has
 /// stopped or has made so many turns more. The machine at the end, and the log of all turns, which begins with the one
 /// given.
 ///
-/// Where a turn is refused memory, none comes out; nor where threads can't be had.
+/// Where a turn is refused memory, none comes out; nor where threads can't be had. One hart needs none beside the
+/// caller's.
 pub fn run<R: Threads + Wait + Sync>(
     rt: &R,
     alloc: Global,
@@ -45,8 +49,49 @@ pub fn run<R: Threads + Wait + Sync>(
 ) -> Result<(Machine, TurnLog), DriveFault>
     ensures machine { IfOk result (λ ran. ran.0 ≡ state_after image log.harts ran.1.turns) }
     ensures log { IfOk result (λ ran. IsRunOf image log.harts log.turns limit ran.1) }
+    ensures threads { result ≡ Err NoThread → 2 ≤ log.harts }
 {
+    if log.harts() == 1 {
+        return Ok(run_alone::<Brand>(alloc, image, log, limit)?);
+    }
     run_named::<Brand, Brand, R>(rt, alloc, image, log, limit, Blanks::new())
+}
+
+/// The same of one hart, whose turns need no lock.
+fn run_alone<O: Origin>(
+    alloc: Global,
+    image: Image,
+    log: TurnLog,
+    limit: u64,
+) -> Result<(Machine, TurnLog), AllocError>
+    requires one { O.harts ≡ 1 }
+    requires image { image ≡ O.image }
+    requires harts { log.harts ≡ O.harts }
+    requires resumed { log.turns ≡ O.resumed }
+    ensures machine { IfOk result (λ ran. ran.0 ≡ state_after O.image O.harts ran.1.turns) }
+    ensures log { IfOk result (λ ran. IsRunOf O.image O.harts O.resumed limit ran.1) }
+{
+    let mut machine = image.machine(alloc, 1)?;
+    replay(&mut machine, &log);
+    let mut locked = Locked::<O>::new(machine, log);
+    run_on(&mut locked, limit)?;
+    Ok(locked.into_parts())
+}
+
+/// Makes turns of the one hart of a machine that no thread shares, until it has stopped or has made so many.
+fn run_on<O: Origin>(locked: &mut Locked<O>, limit: u64) -> Result<(), AllocError>
+    requires { O.harts ≡ 1 }
+    ensures { OnOk result (IsRunOf O.image O.harts locked.old.log.turns limit locked.new.log) }
+{
+    if limit == 0 {
+        return Ok(());
+    }
+    match locked.turns(FIRST, limit) {
+        Ok(_) => Ok(()),
+        Err(Refusal::OutOfMemory) => Err(AllocError),
+        // The hart has made as many turns as it may.
+        Err(_) => Ok(()),
+    }
 }
 
 /// The same of a machine that types name.
@@ -103,16 +148,7 @@ fn drive_all<O: Origin + Send + Sync, F: Ledgers + Send + Sync, R: Threads + Wai
     ensures of { All (IsSeatOf (name_of shared.now.board)) seats.new.items }
     ensures driven { OnOk result (AreDriven (name_of shared.now.board) true limit seats.old.items seats.new.items) }
 {
-    let most = batch(seats.len());
-    drive_batched(rt, shared, seats.as_mut_slice(), limit, most, &AlwaysOpen)
-}
-
-/// How many turns are made under one lock at most, of so many harts.
-fn batch(harts: usize) -> u64
-    ensures some { 1 ≤ result }
-    ensures few { result ≤ most_batch }
-{
-    if harts == 1 { LONE_BATCH } else { BATCH }
+    drive_batched(rt, shared, seats.as_mut_slice(), limit, BATCH, &AlwaysOpen)
 }
 
 /// Why a thread ended that should have gone on: a turn was refused memory, or a stop was asked, which is asked where
