@@ -3,14 +3,16 @@
 //!
 //! - [`verdict`]: **the boxes of a pipeline under a schedule, or the first fault** (`specs/Verdict.antt`); [`judging`]
 //!   has what is judged of boxes, [`faults`] why there are none.
-//! - [`boxes`]: the box of a source, as the hull of the ranges in which it is read (`specs/Boxes.antt`).
+//! - [`boxes`]: the box of a source, as the hull of the ranges in which it is read (`specs/Boxes.antt`), and how wide
+//!   and high it is (`specs/Extents.antt`).
 //! - [`views`]: between which numbers a Func's arguments lie where it reads a source (`specs/Views.antt`).
 //! - `asks`: what a Func reads that is computed (`specs/Inference.antt`).
 //! - `readings`, `inference`, [`source_boxes`]: the boxes of all sources, from the output back
 //!   (`specs/Inference.antt`).
 //! - [`layout`]: where inputs, boxes and frames lie (`specs/Layout.antt`).
-//! - [`plan`]: a pipeline, its schedule and its boxes as one value (`specs/Plans.antt`).
-//! - [`tasks`]: how many tasks each phase has (`specs/Tasks.antt`).
+//! - [`plan`]: a pipeline, a schedule that is accepted for it and its boxes as one value (`specs/Plans.antt`).
+//! - [`tasks`]: how many tasks each phase has (`specs/Tasks.antt`). Which stage it computes, and which points that one
+//!   writes, other crates say in the words of `specs/Stages.antt`.
 //! - [`sources`]: sources told apart.
 //! - [`laws`]: what each byte of the data is part of, by its address (`specs/Parts.antt`): a phase's control words, an
 //!   input, the box of a Func computed at root, the copies of that of one computed at a loop, a frame. Each is found

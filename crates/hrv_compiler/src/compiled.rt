@@ -35,9 +35,8 @@ use std::marker::Model;
 use task_code_statements::stages::CodeStage;
 
 /// A pipeline under a schedule that was accepted for it, with the words of its phases, where each ends, and the stages
-/// inside of phases. Contracts
-/// see a `CompiledContents` that is an `IsCompiled` (`specs/Compiled.antt`); what its words do, [`Compiled::image`]
-/// promises of the images that it makes.
+/// inside of phases. Contracts see a `CompiledContents` that is an `IsCompiled` (`specs/Compiled.antt`); what its words
+/// do, [`Compiled::image`] promises of the images that it makes.
 pub struct Compiled {
     pub(crate) pipeline: Pipeline,
     pub(crate) schedule: Schedule,
@@ -188,11 +187,7 @@ impl Compiled {
         let text = hrv_map::map_text(
             alloc,
             algorithm,
-            &Plan {
-                pipeline: &self.pipeline,
-                schedule: &self.schedule,
-                boxes: &self.boxes,
-            },
+            &Plan::new(&self.pipeline, &self.schedule, &self.boxes),
             self.ends.as_slice(),
             self.stages.as_slice(),
         )?;

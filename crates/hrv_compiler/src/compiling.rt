@@ -5,7 +5,6 @@ ghost use Rattle.std.specs.List.{AllByRecursion};
 ghost use Rattle.schedule.specs.Accepted.{IsAccepted};
 ghost use Rattle.bounds_weights.specs.Weight.{is_too_deep, needs as needed};
 ghost use Rattle.bounds_weights.specs.Weight.{most_weight, weight};
-ghost use Rattle.bounds.specs.Plans.{IsPlan};
 ghost use Rattle.bounds.specs.Verdict.{inferred};
 ghost use Rattle.memory.specs.Access.{most_words};
 ghost use Rattle.task_code_scalar.specs.Faults.{LieLow};
@@ -70,14 +69,13 @@ fn generated(alloc: Global, phases: &[Phase], places: &Places) -> Result<Program
 /// The program of the phases of a pipeline under a schedule whose expressions need no more registers than code is made
 /// for.
 fn words_of(alloc: Global, plan: &Plan<'_>) -> Result<Program, CompileFault>
-    requires plan { IsPlan plan.now }
-    requires light { weight plan.now.pipeline.now plan.now.schedule.now ≤ most_weight }
-    requires shallow { is_too_deep (needed plan.now.pipeline.now plan.now.schedule.now) ≡ false }
-    ensures ok { IfOk result (λ program. AreWordsOf plan.now.pipeline.now plan.now.schedule.now plan.now.boxes.now
+    requires light { weight plan.now.pipeline plan.now.schedule ≤ most_weight }
+    requires shallow { is_too_deep (needed plan.now.pipeline plan.now.schedule) ≡ false }
+    ensures ok { IfOk result (λ program. AreWordsOf plan.now.pipeline plan.now.schedule plan.now.boxes
         program.words.items program.ends.items) }
     ensures err { IfErr result (λ fault. fault ≡ faults.Memory) }
 {
-    let phases = lower(alloc, plan.pipeline, plan.schedule, plan.boxes)?;
+    let phases = lower(alloc, plan.pipeline(), plan.schedule(), plan.boxes())?;
     let places = places(alloc, plan)?;
     let program = generated(alloc, phases.as_slice(), &places)?;
     Ok(program)
@@ -96,14 +94,7 @@ fn built(alloc: Global, pipeline: Pipeline, schedule: Schedule) -> Result<Compil
         words,
         ends,
         stages,
-    } = words_of(
-        alloc,
-        &Plan {
-            pipeline: &pipeline,
-            schedule: &schedule,
-            boxes: &boxes,
-        },
-    )?;
+    } = words_of(alloc, &Plan::new(&pipeline, &schedule, &boxes))?;
     Ok(Compiled {
         pipeline,
         schedule,

@@ -4,7 +4,6 @@ ghost use Rattle.std.specs.Prelude.{◌≡◌, ◌≤◌, ◌*◌, IfOk};
 ghost use Rattle.halide_pipeline.specs.WellFormed.{most_points};
 ghost use Rattle.bounds.specs.Boxes.{AreBoxes, IsBox, IsBoxOrNone};
 ghost use Rattle.bounds.specs.Extents.{extent, points};
-ghost use Rattle.bounds.specs.Plans.{IsPlan};
 ghost use Rattle.task_code_scalar.specs.Code as code;
 ghost use Rattle.vector_codegen_laws.specs.Places as spec;
 ghost use Rattle.hrv_compiler.specs.Addresses.{AreAddresses, HasFewPoints, HaveFewPoints, IsAddress};
@@ -138,16 +137,16 @@ fn func_places(
 /// Memory ran out.
 #[tactic(auto, using(crate::proofs::Low::have_few, crate::proofs::Low::inputs_low))]
 pub fn places(alloc: Global, plan: &Plan<'_>) -> Result<Places, AllocError>
-    requires plan { IsPlan plan.now }
-    ensures { IfOk result (λ places. places ≡ spec.places_of plan.now.pipeline.now plan.now.schedule.now
-        plan.now.boxes.now.funcs plan.now.boxes.now.layout) }
+    ensures { IfOk result (λ places. places ≡ spec.places_of plan.now.pipeline plan.now.schedule
+        plan.now.boxes.funcs plan.now.boxes.layout) }
 {
-    let layout = &plan.boxes.layout;
-    let inputs = input_places(alloc, layout.inputs.as_slice(), plan.pipeline.inputs())?;
+    let boxes = plan.boxes();
+    let layout = &boxes.layout;
+    let inputs = input_places(alloc, layout.inputs.as_slice(), plan.pipeline().inputs())?;
     let funcs = func_places(
         alloc,
-        plan.schedule.standings.as_slice(),
-        plan.boxes.funcs.as_slice(),
+        plan.schedule().standings.as_slice(),
+        boxes.funcs.as_slice(),
         layout.roots.as_slice(),
         layout.privates.as_slice(),
     )?;

@@ -234,17 +234,18 @@ fn push_copies(
     place: usize,
     at: LoopPlace,
 ) -> Result<(), AllocError>
-    ensures { OnOk result (out.new.items ≡ out.old.items ++ spec.copies_if names.now plan.now.schedule.now
-        plan.now.boxes.now place at (box_in (slice_get plan.now.boxes.now.funcs place))) }
+    ensures { OnOk result (out.new.items ≡ out.old.items ++ spec.copies_if names.now plan.now.schedule
+        plan.now.boxes place at (box_in (slice_get plan.now.boxes.funcs place))) }
 {
-    let Some(own) = box_at(plan.boxes.funcs.as_slice(), place) else {
+    let boxes = plan.boxes();
+    let Some(own) = box_at(boxes.funcs.as_slice(), place) else {
         return Ok(());
     };
     let around = NamedLoop {
         consumer: name_at(names, at.func),
-        name: loop_name_in(at.inside, plan.schedule, at.func),
+        name: loop_name_in(at.inside, plan.schedule(), at.func),
     };
-    let address = address_at(&plan.boxes.layout.privates, place);
+    let address = address_at(&boxes.layout.privates, place);
     push_copies_line(alloc, out, name_at(names, place), &around, address, &own)?;
     Ok(())
 }
@@ -258,14 +259,14 @@ fn push_func_line(
     plan: &Plan<'_>,
     place: usize,
 ) -> Result<(), AllocError>
-    ensures { OnOk result (out.new.items ≡ out.old.items ++ spec.func_line names.now plan.now.schedule.now
-        plan.now.boxes.now place) }
+    ensures { OnOk result (out.new.items ≡ out.old.items ++ spec.func_line names.now plan.now.schedule
+        plan.now.boxes place) }
 {
-    let Some(standing) = plan.schedule.standing(place) else {
+    let Some(standing) = plan.schedule().standing(place) else {
         return Ok(());
     };
     match standing.place {
-        Place::Root => push_root(alloc, out, names, plan.boxes, place)?,
+        Place::Root => push_root(alloc, out, names, plan.boxes(), place)?,
         Place::At(at) => push_copies(alloc, out, names, plan, place, at)?,
         Place::Inlined | Place::Nowhere => {}
     }
@@ -283,8 +284,8 @@ pub(crate) fn push_func_lines(
     funcs: &[Func],
 ) -> Result<(), AllocError>
     requires { place + length funcs.now < 2 ^ 64 }
-    ensures { OnOk result (out.new.items ≡ out.old.items ++ spec.func_lines names.now plan.now.schedule.now
-        plan.now.boxes.now place
+    ensures { OnOk result (out.new.items ≡ out.old.items ++ spec.func_lines names.now plan.now.schedule
+        plan.now.boxes place
         funcs.now) }
 {
     let [_, others @ ..] = funcs else {

@@ -1,7 +1,6 @@
 //! The text that says where everything of a program lies.
 
 ghost use Rattle.std.specs.Prelude.{◌≡◌, ◌<◌, ◌≤◌, ◌^◌, ◌++◌, IfOk, OnOk};
-ghost use Rattle.schedule.specs.Accepted.{IsAccepted};
 ghost use Rattle.hrv_map.specs.Lines as lines;
 ghost use Rattle.hrv_map.specs.Maps as spec;
 
@@ -41,12 +40,11 @@ fn push_layout(
     names: &Names,
     plan: &Plan<'_>,
 ) -> Result<(), AllocError>
-    requires { plan.now.boxes.now.layout.phases ≤ 4194304 }
-    ensures { OnOk result (out.new.items ≡ out.old.items ++ spec.layout_text names.now plan.now.pipeline.now
-        plan.now.schedule.now
-        plan.now.boxes.now) }
+    requires { plan.now.boxes.layout.phases ≤ 4194304 }
+    ensures { OnOk result (out.new.items ≡ out.old.items ++ spec.layout_text names.now plan.now.pipeline
+        plan.now.schedule plan.now.boxes) }
 {
-    let layout = &plan.boxes.layout;
+    let layout = &plan.boxes().layout;
     push_control_lines(alloc, out, layout.phases)?;
     push_input_lines(
         alloc,
@@ -54,9 +52,9 @@ fn push_layout(
         &names.inputs,
         &layout.inputs,
         0,
-        plan.pipeline.inputs(),
+        plan.pipeline().inputs(),
     )?;
-    push_func_lines(alloc, out, &names.funcs, plan, 0, plan.pipeline.funcs())?;
+    push_func_lines(alloc, out, &names.funcs, plan, 0, plan.pipeline().funcs())?;
     push_frames_line(alloc, out, layout)?;
     Ok(())
 }
@@ -64,9 +62,8 @@ fn push_layout(
 /// The phases in the order of their code.
 #[tactic(auto, unfolding(crate::specs::Maps::phases_of))]
 fn phases_of(alloc: Global, plan: &Plan<'_>, ends: &[u32]) -> Result<Vec<CodePhase>, AllocError>
-    requires { IsAccepted plan.now.pipeline.now plan.now.schedule.now }
-    ensures { IfOk result (λ phases. phases.items ≡ spec.phases_of plan.now.pipeline.now plan.now.schedule.now
-        plan.now.boxes.now ends.now) }
+    ensures { IfOk result (λ phases. phases.items ≡ spec.phases_of plan.now.pipeline plan.now.schedule
+        plan.now.boxes ends.now) }
 {
     let stages = stages_of(alloc, plan)?;
     let mut tasks = Vec::new(alloc);
@@ -76,10 +73,9 @@ fn phases_of(alloc: Global, plan: &Plan<'_>, ends: &[u32]) -> Result<Vec<CodePha
     Ok(phases)
 }
 
-/// The text of a pipeline under a schedule that was accepted for it, with boxes that were inferred for both: where the
-/// parts of the data lie, and which words of the machine's text are the code of each phase, and of stages inside. Names
-/// are those that the algorithm's text gives; the code of each phase ends at a word of the machine's text, by its place
-/// from 0, and stages inside are in the order of their code.
+/// The text of a plan: where the parts of the data lie, and which words of the machine's text are the code of each
+/// phase, and of stages inside. Names are those that the algorithm's text gives; the code of each phase ends at a word
+/// of the machine's text, by its place from 0, and stages inside are in the order of their code.
 ///
 /// # Errors
 ///
@@ -92,11 +88,9 @@ pub fn map_text(
     ends: &[u32],
     stages: &[CodeStage],
 ) -> Result<Vec<u8>, AllocError>
-    requires accepted { IsAccepted plan.now.pipeline.now plan.now.schedule.now }
-    requires phases { plan.now.boxes.now.layout.phases ≤ 4194304 }
-    ensures { IfOk result (λ text. text.items ≡ spec.map_text algorithm.now plan.now.pipeline.now plan.now.schedule.now
-        plan.now.boxes.now
-        ends.now stages.now) }
+    requires phases { plan.now.boxes.layout.phases ≤ 4194304 }
+    ensures { IfOk result (λ text. text.items ≡ spec.map_text algorithm.now plan.now.pipeline plan.now.schedule
+        plan.now.boxes ends.now stages.now) }
 {
     let names = names_of(alloc, algorithm)?;
     let phases = phases_of(alloc, plan, ends)?;

@@ -5,7 +5,6 @@ ghost use Rattle.std.specs.Fmt.{decimal};
 ghost use Rattle.std.specs.String.{string_bytes};
 ghost use Rattle.disassembler.specs.Listing.{hexadecimal_text};
 ghost use Rattle.memory.specs.Access.{text_start};
-ghost use Rattle.schedule.specs.Accepted.{IsAccepted};
 ghost use Rattle.bounds.specs.Extents.{box_in};
 ghost use Rattle.bounds.specs.Tasks as counts;
 ghost use Rattle.hrv_map.specs.Lines.{newline};
@@ -128,32 +127,31 @@ fn push_stages(
 
 /// The stages that are phases, in order.
 pub(crate) fn stages_of(alloc: Global, plan: &Plan<'_>) -> Result<Vec<StageName>, AllocError>
-    ensures { IfOk result (λ stages. stages.items ≡ spec.stages_from plan.now.schedule.now plan.now.boxes.now 0
-        plan.now.pipeline.now.funcs) }
+    ensures { IfOk result (λ stages. stages.items ≡ spec.stages_from plan.now.schedule plan.now.boxes 0
+        plan.now.pipeline.funcs) }
 {
     let mut stages = Vec::new(alloc);
     push_stages(
         &mut stages,
-        plan.schedule,
-        plan.boxes,
+        plan.schedule(),
+        plan.boxes(),
         0,
-        plan.pipeline.funcs(),
+        plan.pipeline().funcs(),
     )?;
     Ok(stages)
 }
 
 /// How many tasks the phase of a stage has.
 fn tasks_of(alloc: Global, plan: &Plan<'_>, stage: StageName) -> Result<u32, AllocError>
-    requires { IsAccepted plan.now.pipeline.now plan.now.schedule.now }
-    ensures { IfOk result (λ count. count ≡ unwrap_or (counts.tasks plan.now.pipeline.now plan.now.schedule.now
-        plan.now.boxes.now.funcs stage)
+    ensures { IfOk result (λ count. count ≡ unwrap_or (counts.tasks plan.now.pipeline plan.now.schedule
+        plan.now.boxes.funcs stage)
         0) }
 {
     let count = tasks(
         alloc,
-        plan.pipeline,
-        plan.schedule,
-        &plan.boxes.funcs,
+        plan.pipeline(),
+        plan.schedule(),
+        &plan.boxes().funcs,
         stage,
     )?;
     Ok(count.unwrap_or(0))
@@ -167,9 +165,8 @@ pub(crate) fn push_tasks(
     plan: &Plan<'_>,
     stages: &[StageName],
 ) -> Result<(), AllocError>
-    requires { IsAccepted plan.now.pipeline.now plan.now.schedule.now }
-    ensures { OnOk result (list.new.items ≡ list.old.items ++ spec.tasks_each plan.now.pipeline.now
-        plan.now.schedule.now plan.now.boxes.now
+    ensures { OnOk result (list.new.items ≡ list.old.items ++ spec.tasks_each plan.now.pipeline
+        plan.now.schedule plan.now.boxes
         stages.now) }
 {
     let [stage, others @ ..] = stages else {

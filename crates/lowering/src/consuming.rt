@@ -13,7 +13,6 @@ ghost use Rattle.loop_ir.specs.Runs.{is_about};
 ghost use Rattle.loop_ir.specs.Sizes.{whole_size};
 ghost use Rattle.bounds_weights.specs.Weight.{flags_of};
 ghost use Rattle.lowering_nests.specs.Nests.{AreFew};
-ghost use Rattle.bounds.specs.Plans.{IsPlan};
 ghost use Rattle.lowering.specs.ProducedFuncs as produced;
 ghost use Rattle.lowering.specs.Consuming as spec;
 ghost use Rattle.lowering.specs.PurePhases.{inside_of};
@@ -127,38 +126,38 @@ fn with_update(
     of: &UpdateOf<'_>,
     before: Stmt,
 ) -> Result<Stmt, AllocError>
-    requires plan { IsPlan plan.now }
-    requires parts { IsComputedAt plan.now.pipeline.now plan.now.schedule.now plan.now.boxes.now (places.At at)
+    requires parts { IsComputedAt plan.now.pipeline plan.now.schedule plan.now.boxes (places.At at)
         of.now.computed.place of.now.computed.func.now of.now.computed.plan.now of.now.computed.own.now }
-    requires update { IsUpdateAt plan.now.schedule.now of.now.computed.place of.now.computed.func.now
+    requires update { IsUpdateAt plan.now.schedule of.now.computed.place of.now.computed.func.now
         of.now.computed.plan.now of.now.at of.now.update.now of.now.stage.now }
-    requires before { spec.DoesNests plan.now.pipeline.now plan.now.schedule.now plan.now.boxes.now at
+    requires before { spec.DoesNests plan.now.pipeline plan.now.schedule plan.now.boxes at
         of.now.computed.place of.now.computed.func.now of.now.computed.own.now of.now.at before }
     requires alone { spec.StoresInIt of.now.computed.place before }
-    requires sound { spec.IsSoundNest plan.now.pipeline.now plan.now.schedule.now plan.now.boxes.now at
+    requires sound { spec.IsSoundNest plan.now.pipeline plan.now.schedule plan.now.boxes at
         of.now.computed.place of.now.computed.func.now of.now.computed.own.now before }
     requires few { depth before ≤ 9 }
-    requires needs { greatest_need before ≤ most_need plan.now.pipeline.now plan.now.schedule.now }
-    requires sizes { whole_size before ≤ 64 * shares (flags_of plan.now.schedule.now.standings)
-        plan.now.pipeline.now.funcs of.now.computed.func.now of.now.computed.plan.now of.now.at }
+    requires needs { greatest_need before ≤ most_need plan.now.pipeline plan.now.schedule }
+    requires sizes { whole_size before ≤ 64 * shares (flags_of plan.now.schedule.standings)
+        plan.now.pipeline.funcs of.now.computed.func.now of.now.computed.plan.now of.now.at }
     requires at_once { MayAlwaysBeAtOnce before }
     requires about { is_about of.now.computed.place before ≡ true }
-    ensures does { IfOk result (spec.DoesNests plan.now.pipeline.now plan.now.schedule.now plan.now.boxes.now
+    ensures does { IfOk result (spec.DoesNests plan.now.pipeline plan.now.schedule plan.now.boxes
         at of.now.computed.place of.now.computed.func.now of.now.computed.own.now (suc of.now.at)) }
     ensures alone { IfOk result (spec.StoresInIt of.now.computed.place) }
-    ensures sound { IfOk result (spec.IsSoundNest plan.now.pipeline.now plan.now.schedule.now
-        plan.now.boxes.now at of.now.computed.place of.now.computed.func.now of.now.computed.own.now) }
+    ensures sound { IfOk result (spec.IsSoundNest plan.now.pipeline plan.now.schedule
+        plan.now.boxes at of.now.computed.place of.now.computed.func.now of.now.computed.own.now) }
     ensures few { IfOk result (λ made. depth made ≤ 9) }
-    ensures needs { IfOk result (λ made. greatest_need made ≤ most_need plan.now.pipeline.now
-        plan.now.schedule.now) }
-    ensures sizes { IfOk result (λ made. whole_size made ≤ 64 * shares (flags_of plan.now.schedule.now.standings)
-        plan.now.pipeline.now.funcs of.now.computed.func.now of.now.computed.plan.now (suc of.now.at)) }
+    ensures needs { IfOk result (λ made. greatest_need made ≤ most_need plan.now.pipeline
+        plan.now.schedule) }
+    ensures sizes { IfOk result (λ made. whole_size made ≤ 64 * shares (flags_of plan.now.schedule.standings)
+        plan.now.pipeline.funcs of.now.computed.func.now of.now.computed.plan.now (suc of.now.at)) }
     ensures at_once { IfOk result MayAlwaysBeAtOnce }
     ensures about { IfOk result (λ made. is_about of.now.computed.place made ≡ true) }
 {
-    let plans = plan.schedule.funcs.as_slice();
-    let standings = plan.schedule.standings.as_slice();
-    let corners = corners_of(alloc, plans, plan.boxes.funcs.as_slice(), standings)?;
+    let schedule = plan.schedule();
+    let plans = schedule.funcs.as_slice();
+    let standings = schedule.standings.as_slice();
+    let corners = corners_of(alloc, plans, plan.boxes().funcs.as_slice(), standings)?;
     let Some(corner) = corner_at(&corners, of.computed.place) else {
         return Ok(before);
     };
@@ -176,23 +175,24 @@ fn nests_upto(
     computed: &ComputedFunc<'_>,
     count: usize,
 ) -> Result<Stmt, AllocError>
-    requires plan { IsPlan plan.now }
-    requires parts { IsComputedAt plan.now.pipeline.now plan.now.schedule.now plan.now.boxes.now (places.At at)
+    requires parts { IsComputedAt plan.now.pipeline plan.now.schedule plan.now.boxes (places.At at)
         computed.now.place computed.now.func.now computed.now.plan.now computed.now.own.now }
     requires count { count ≤ length computed.now.func.now.updates }
-    ensures does { IfOk result (spec.DoesNests plan.now.pipeline.now plan.now.schedule.now plan.now.boxes.now
+    ensures does { IfOk result (spec.DoesNests plan.now.pipeline plan.now.schedule plan.now.boxes
         at computed.now.place computed.now.func.now computed.now.own.now count) }
     ensures alone { IfOk result (spec.StoresInIt computed.now.place) }
-    ensures sound { IfOk result (spec.IsSoundNest plan.now.pipeline.now plan.now.schedule.now
-        plan.now.boxes.now at computed.now.place computed.now.func.now computed.now.own.now) }
+    ensures sound { IfOk result (spec.IsSoundNest plan.now.pipeline plan.now.schedule
+        plan.now.boxes at computed.now.place computed.now.func.now computed.now.own.now) }
     ensures few { IfOk result (λ made. depth made ≤ 9) }
-    ensures needs { IfOk result (λ made. greatest_need made ≤ most_need plan.now.pipeline.now
-        plan.now.schedule.now) }
-    ensures sizes { IfOk result (λ made. whole_size made ≤ 64 * shares (flags_of plan.now.schedule.now.standings)
-        plan.now.pipeline.now.funcs computed.now.func.now computed.now.plan.now count) }
+    ensures needs { IfOk result (λ made. greatest_need made ≤ most_need plan.now.pipeline
+        plan.now.schedule) }
+    ensures sizes { IfOk result (λ made. whole_size made ≤ 64 * shares (flags_of plan.now.schedule.standings)
+        plan.now.pipeline.funcs computed.now.func.now computed.now.plan.now count) }
     ensures at_once { IfOk result MayAlwaysBeAtOnce }
     ensures about { IfOk result (λ made. is_about computed.now.place made ≡ true) }
 {
+    // What every plan keeps is known once its parts are read.
+    let _schedule = plan.schedule();
     let Some(number) = count.checked_sub(1) else {
         let made = pure_nest(alloc, plan, at, computed)?;
         return Ok(made);
@@ -221,10 +221,9 @@ fn stage_nests(
     at: LoopPlace,
     computed: &ComputedFunc<'_>,
 ) -> Result<Stmt, AllocError>
-    requires plan { IsPlan plan.now }
-    requires parts { IsComputedAt plan.now.pipeline.now plan.now.schedule.now plan.now.boxes.now (places.At at)
+    requires parts { IsComputedAt plan.now.pipeline plan.now.schedule plan.now.boxes (places.At at)
         computed.now.place computed.now.func.now computed.now.plan.now computed.now.own.now }
-    ensures { IfOk result (λ made. spec.IsNestOf plan.now.pipeline.now plan.now.schedule.now plan.now.boxes.now
+    ensures { IfOk result (λ made. spec.IsNestOf plan.now.pipeline plan.now.schedule plan.now.boxes
         at computed.now.place made) }
 {
     let count = computed.func.updates.len();
@@ -239,23 +238,23 @@ fn nests_of(
     at: LoopPlace,
     place: usize,
 ) -> Result<Option<Stmt>, AllocError>
-    requires plan { IsPlan plan.now }
-    ensures { IfOk result (spec.IsNestAt plan.now.pipeline.now plan.now.schedule.now plan.now.boxes.now at
+    ensures { IfOk result (spec.IsNestAt plan.now.pipeline plan.now.schedule plan.now.boxes at
         place) }
 {
-    let Some(standing) = plan.schedule.standing(place) else {
+    let schedule = plan.schedule();
+    let Some(standing) = schedule.standing(place) else {
         return Ok(None);
     };
     if !is_computed_at(at, standing) {
         return Ok(None);
     }
-    let Some(func) = plan.pipeline.func(place) else {
+    let Some(func) = plan.pipeline().func(place) else {
         return Ok(None);
     };
-    let Some(func_plan) = plan.schedule.funcs.get(place) else {
+    let Some(func_plan) = schedule.funcs.get(place) else {
         return Ok(None);
     };
-    let Some(own) = box_at(plan.boxes.funcs.as_slice(), place) else {
+    let Some(own) = box_at(plan.boxes().funcs.as_slice(), place) else {
         return Ok(None);
     };
     let computed = ComputedFunc {
@@ -290,11 +289,10 @@ fn nests_before(
     from: usize,
     inside: Stmt,
 ) -> Result<Stmt, AllocError>
-    requires plan { IsPlan plan.now }
-    ensures { IfOk result (λ made. spec.HasNests plan.now.pipeline.now plan.now.schedule.now plan.now.boxes.now
+    ensures { IfOk result (λ made. spec.HasNests plan.now.pipeline plan.now.schedule plan.now.boxes
         at from inside made) }
 {
-    if plan.schedule.standings.len() <= from {
+    if plan.schedule().standings.len() <= from {
         return Ok(inside);
     }
     let rest = nests_before(alloc, plan, at, from + 1, inside)?;
@@ -313,10 +311,9 @@ fn loops_around(
     loops: &[Loop],
     leaf: Stmt,
 ) -> Result<Stmt, AllocError>
-    requires plan { IsPlan plan.now }
     requires splits { AreSplits sizes.now.splits }
     requires few { AreFew sizes.now.extents }
-    ensures { IfOk result (λ made. spec.HasLoops plan.now.pipeline.now plan.now.schedule.now plan.now.boxes.now
+    ensures { IfOk result (λ made. spec.HasLoops plan.now.pipeline plan.now.schedule plan.now.boxes
         consumer (counts sizes.now.extents sizes.now.splits) leaf loops.now made) }
 {
     match loops {
@@ -356,9 +353,8 @@ fn outermost(
     stage: &Stage,
     inner: Stmt,
 ) -> Result<Stmt, AllocError>
-    requires plan { IsPlan plan.now }
-    ensures { IfOk result (λ made. spec.HasOutermost plan.now.pipeline.now plan.now.schedule.now
-        plan.now.boxes.now consumer (parallel stage.now) inner made) }
+    ensures { IfOk result (λ made. spec.HasOutermost plan.now.pipeline plan.now.schedule
+        plan.now.boxes consumer (parallel stage.now) inner made) }
 {
     match stage.parallel() {
         None => Ok(inner),
@@ -373,8 +369,8 @@ fn outermost(
     }
 }
 
-/// What each task of a stage of a consumer does: the store under the loops inside the parallel one, with the nests of the
-/// Funcs that are computed at them.
+/// What each task of a stage of a consumer does: the store under the loops inside the parallel one, with the nests of
+/// the Funcs that are computed at them.
 ///
 /// # Errors
 ///
@@ -387,10 +383,9 @@ pub fn body_of(
     extents: Extents,
     store: Stmt,
 ) -> Result<Stmt, AllocError>
-    requires plan { IsPlan plan.now }
     requires splits { AreSplits stage.now.splits }
     requires few { AreFew extents }
-    ensures { IfOk result (λ made. spec.IsBody plan.now.pipeline.now plan.now.schedule.now plan.now.boxes.now
+    ensures { IfOk result (λ made. spec.IsBody plan.now.pipeline plan.now.schedule plan.now.boxes
         consumer stage.now extents store made) }
 {
     let splits = stage.splits.as_slice();

@@ -8,7 +8,6 @@ ghost use Rattle.loop_ir.specs.Depths.{depth};
 ghost use Rattle.loop_ir.specs.Needs.{greatest_need};
 ghost use Rattle.loop_ir.specs.Runs.{is_about};
 ghost use Rattle.loop_ir.specs.Sizes.{whole_size};
-ghost use Rattle.bounds.specs.Plans.{IsPlan};
 ghost use Rattle.lowering.specs.Consuming.{DoesNest, IsSoundNest, StoresInIt};
 ghost use Rattle.lowering.specs.PurePhases.{IsStoreOf};
 ghost use Rattle.bounds.specs.Stages.{IsComputedAt};
@@ -35,23 +34,24 @@ pub(crate) fn store_of(
     placed: Place,
     computed: &ComputedFunc<'_>,
 ) -> Result<Stmt, AllocError>
-    ensures rules { IsWellFormed plan.now.pipeline.now }
-    ensures stores { IfOk result (λ made. IsStoreOf plan.now.pipeline.now plan.now.schedule.now
-        plan.now.boxes.now placed computed.now.place computed.now.func.now computed.now.own.now made) }
+    ensures rules { IsWellFormed plan.now.pipeline }
+    ensures stores { IfOk result (λ made. IsStoreOf plan.now.pipeline plan.now.schedule
+        plan.now.boxes placed computed.now.place computed.now.func.now computed.now.own.now made) }
     ensures leaf { IfOk result IsLeaf }
     ensures about { IfOk result (λ made. is_about computed.now.place made ≡ true) }
     ensures depth { IfOk result (λ made. depth made ≡ 0) }
-    ensures needs { IfOk result (λ made. greatest_need made ≤ max 1 (taken (flags_of plan.now.schedule.now.standings)
-        plan.now.pipeline.now.funcs computed.now.place computed.now.func.now.pure)) }
+    ensures needs { IfOk result (λ made. greatest_need made ≤ max 1 (taken (flags_of plan.now.schedule.standings)
+        plan.now.pipeline.funcs computed.now.place computed.now.func.now.pure)) }
     ensures sizes { IfOk result (λ made. whole_size made + 12 ≤ 64 * counted
-        (flags_of plan.now.schedule.now.standings) plan.now.pipeline.now.funcs computed.now.place
+        (flags_of plan.now.schedule.standings) plan.now.pipeline.funcs computed.now.place
         computed.now.func.now.pure) }
 {
-    let funcs = plan.pipeline.funcs();
-    let plans = plan.schedule.funcs.as_slice();
-    let standings = plan.schedule.standings.as_slice();
+    let funcs = plan.pipeline().funcs();
+    let schedule = plan.schedule();
+    let plans = schedule.funcs.as_slice();
+    let standings = schedule.standings.as_slice();
     let flags = inlined_flags(alloc, standings)?;
-    let corners = corners_of(alloc, plans, plan.boxes.funcs.as_slice(), standings)?;
+    let corners = corners_of(alloc, plans, plan.boxes().funcs.as_slice(), standings)?;
     let corner = corner_of(alloc, plans, placed, computed.own)?;
     let reader = LoweredFunc {
         funcs,
@@ -74,23 +74,24 @@ pub fn pure_nest(
     at: LoopPlace,
     computed: &ComputedFunc<'_>,
 ) -> Result<Stmt, AllocError>
-    requires plan { IsPlan plan.now }
-    requires parts { IsComputedAt plan.now.pipeline.now plan.now.schedule.now plan.now.boxes.now (places.At at)
+    requires parts { IsComputedAt plan.now.pipeline plan.now.schedule plan.now.boxes (places.At at)
         computed.now.place computed.now.func.now computed.now.plan.now computed.now.own.now }
-    ensures does { IfOk result (λ made. DoesNest plan.now.pipeline.now plan.now.schedule.now plan.now.boxes.now
+    ensures does { IfOk result (λ made. DoesNest plan.now.pipeline plan.now.schedule plan.now.boxes
         at computed.now.place computed.now.func.now computed.now.own.now 0 made) }
     ensures alone { IfOk result (StoresInIt computed.now.place) }
     ensures about { IfOk result (λ made. is_about computed.now.place made ≡ true) }
-    ensures sound { IfOk result (λ made. IsSoundNest plan.now.pipeline.now plan.now.schedule.now
-        plan.now.boxes.now at computed.now.place computed.now.func.now computed.now.own.now made) }
+    ensures sound { IfOk result (λ made. IsSoundNest plan.now.pipeline plan.now.schedule
+        plan.now.boxes at computed.now.place computed.now.func.now computed.now.own.now made) }
     ensures few { IfOk result (λ made. depth made ≤ 9) }
     ensures at_once { IfOk result MayAlwaysBeAtOnce }
-    ensures needs { IfOk result (λ made. greatest_need made ≤ most_need plan.now.pipeline.now
-        plan.now.schedule.now) }
+    ensures needs { IfOk result (λ made. greatest_need made ≤ most_need plan.now.pipeline
+        plan.now.schedule) }
     ensures sizes { IfOk result (λ made. whole_size made ≤ 64 * stage_weight
-        (nodes_in (flags_of plan.now.schedule.now.standings) plan.now.pipeline.now.funcs
+        (nodes_in (flags_of plan.now.schedule.standings) plan.now.pipeline.funcs
         computed.now.func.now.pure) computed.now.plan.now.pure) }
 {
+    // What every plan keeps is known once its parts are read.
+    let _schedule = plan.schedule();
     let placed = Place::At(at);
     let extents = extents_of(computed.own);
     let store = store_of(alloc, plan, placed, computed)?;

@@ -4,7 +4,6 @@ ghost use Rattle.std.specs.Prelude.{◌≡◌, ◌≤◌, ◌*◌, List, IfOk, O
 ghost use Rattle.schedule.specs.Accepted.{IsAccepted};
 ghost use Rattle.bounds.specs.Verdict.{inferred};
 ghost use Rattle.loop_ir.specs.declared.statements.Phase.{Phase as MadePhase};
-ghost use Rattle.bounds.specs.Plans.{IsPlan};
 ghost use Rattle.lowering.specs.Lowered as spec;
 ghost use Rattle.bounds.specs.Stages.{IsAtRoot};
 ghost use Rattle.lowering.specs.Registers.{TakeFew};
@@ -28,13 +27,14 @@ fn stage_phase(
     computed: &ComputedFunc<'_>,
     number: usize,
 ) -> Result<Option<Phase>, AllocError>
-    requires plan { IsPlan plan.now }
-    requires at { IsAtRoot plan.now.pipeline.now plan.now.schedule.now plan.now.boxes.now computed.now.place
+    requires at { IsAtRoot plan.now.pipeline plan.now.schedule plan.now.boxes computed.now.place
         computed.now.func.now computed.now.plan.now computed.now.own.now }
-    ensures { IfOk result (spec.IsStagePhaseIfThere plan.now.pipeline.now plan.now.schedule.now
-        plan.now.boxes.now computed.now.place computed.now.func.now computed.now.plan.now computed.now.own.now
+    ensures { IfOk result (spec.IsStagePhaseIfThere plan.now.pipeline plan.now.schedule
+        plan.now.boxes computed.now.place computed.now.func.now computed.now.plan.now computed.now.own.now
         number) }
 {
+    // What every plan keeps is known once its parts are read.
+    let _schedule = plan.schedule();
     let Some(at) = number.checked_sub(1) else {
         let phase = pure_phase(alloc, plan, computed)?;
         return Ok(Some(phase));
@@ -63,14 +63,13 @@ fn with_stage(
     number: usize,
     before: Vec<Phase>,
 ) -> Result<Vec<Phase>, AllocError>
-    requires plan { IsPlan plan.now }
-    requires at { IsAtRoot plan.now.pipeline.now plan.now.schedule.now plan.now.boxes.now computed.now.place
+    requires at { IsAtRoot plan.now.pipeline plan.now.schedule plan.now.boxes computed.now.place
         computed.now.func.now computed.now.plan.now computed.now.own.now }
     requires number { number ≤ length computed.now.func.now.updates }
     ensures { IfOk result (λ made. (others : List MadePhase)
-        → spec.ArePhasesOf plan.now.pipeline.now plan.now.schedule.now plan.now.boxes.now computed.now.place
+        → spec.ArePhasesOf plan.now.pipeline plan.now.schedule plan.now.boxes computed.now.place
         computed.now.func.now computed.now.plan.now computed.now.own.now others number before.items
-        → spec.ArePhasesOf plan.now.pipeline.now plan.now.schedule.now plan.now.boxes.now computed.now.place
+        → spec.ArePhasesOf plan.now.pipeline plan.now.schedule plan.now.boxes computed.now.place
         computed.now.func.now computed.now.plan.now computed.now.own.now others (suc number) made.items) }
 {
     let found = stage_phase(alloc, plan, computed, number)?;
@@ -90,12 +89,11 @@ fn with_stages(
     last: usize,
     others: Vec<Phase>,
 ) -> Result<Vec<Phase>, AllocError>
-    requires plan { IsPlan plan.now }
-    requires at { IsAtRoot plan.now.pipeline.now plan.now.schedule.now plan.now.boxes.now computed.now.place
+    requires at { IsAtRoot plan.now.pipeline plan.now.schedule plan.now.boxes computed.now.place
         computed.now.func.now computed.now.plan.now computed.now.own.now }
     requires last { last ≤ length computed.now.func.now.updates }
-    ensures { IfOk result (λ phases. spec.ArePhasesOf plan.now.pipeline.now plan.now.schedule.now
-        plan.now.boxes.now computed.now.place computed.now.func.now computed.now.plan.now computed.now.own.now
+    ensures { IfOk result (λ phases. spec.ArePhasesOf plan.now.pipeline plan.now.schedule
+        plan.now.boxes computed.now.place computed.now.func.now computed.now.plan.now computed.now.own.now
         others.items (suc last) phases.items) }
 {
     let before = match last.checked_sub(1) {
@@ -113,25 +111,25 @@ fn with_func(
     place: usize,
     others: Vec<Phase>,
 ) -> Result<Vec<Phase>, AllocError>
-    requires plan { IsPlan plan.now }
-    requires others { spec.AreLowered plan.now.pipeline.now plan.now.schedule.now plan.now.boxes.now place
+    requires others { spec.AreLowered plan.now.pipeline plan.now.schedule plan.now.boxes place
         others.items }
-    ensures { IfOk result (λ phases. spec.AreLowered plan.now.pipeline.now plan.now.schedule.now
-        plan.now.boxes.now (suc place) phases.items) }
+    ensures { IfOk result (λ phases. spec.AreLowered plan.now.pipeline plan.now.schedule
+        plan.now.boxes (suc place) phases.items) }
 {
-    let Some(standing) = plan.schedule.standing(place) else {
+    let schedule = plan.schedule();
+    let Some(standing) = schedule.standing(place) else {
         return Ok(others);
     };
     if !is_at_root(standing) {
         return Ok(others);
     }
-    let Some(func) = plan.pipeline.func(place) else {
+    let Some(func) = plan.pipeline().func(place) else {
         return Ok(others);
     };
-    let Some(func_plan) = plan.schedule.funcs.get(place) else {
+    let Some(func_plan) = schedule.funcs.get(place) else {
         return Ok(others);
     };
-    let Some(own) = box_at(plan.boxes.funcs.as_slice(), place) else {
+    let Some(own) = box_at(plan.boxes().funcs.as_slice(), place) else {
         return Ok(others);
     };
     let last = func.updates.len();
@@ -147,9 +145,8 @@ fn with_func(
 
 /// The phases of the first so many Funcs.
 fn lower_first(alloc: Global, plan: &Plan<'_>, count: usize) -> Result<Vec<Phase>, AllocError>
-    requires plan { IsPlan plan.now }
-    ensures { IfOk result (λ phases. spec.AreLowered plan.now.pipeline.now plan.now.schedule.now
-        plan.now.boxes.now count phases.items) }
+    ensures { IfOk result (λ phases. spec.AreLowered plan.now.pipeline plan.now.schedule
+        plan.now.boxes count phases.items) }
 {
     if count == 0 {
         return Ok(Vec::new(alloc));
@@ -186,11 +183,7 @@ pub fn lower(
     ensures output { IfOk result (λ phases. spec.LeaveOutput pipeline.now schedule.now boxes.now phases.items) }
 {
     let count = pipeline.funcs().len();
-    let plan = Plan {
-        pipeline,
-        schedule,
-        boxes,
-    };
+    let plan = Plan::new(pipeline, schedule, boxes);
     let phases = lower_first(alloc, &plan, count)?;
     Ok(phases)
 }

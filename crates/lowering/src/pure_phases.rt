@@ -7,7 +7,6 @@ ghost use Rattle.bounds.specs.Extents as views;
 ghost use Rattle.loop_ir.specs.Depths.{task_depth};
 ghost use Rattle.loop_ir.specs.Needs.{greatest_need};
 ghost use Rattle.lowering_nests.specs.Nests.{AreFew};
-ghost use Rattle.bounds.specs.Plans.{IsPlan};
 ghost use Rattle.lowering.specs.ProducedFuncs.{produced_from};
 ghost use Rattle.schedule_loops.specs.Visits.{owns};
 ghost use Rattle.lowering.specs.PurePhases as spec;
@@ -97,42 +96,42 @@ pub fn pure_phase(
     plan: &Plan<'_>,
     computed: &ComputedFunc<'_>,
 ) -> Result<Phase, AllocError>
-    requires plan { IsPlan plan.now }
-    requires at { spec_stages.IsAtRoot plan.now.pipeline.now plan.now.schedule.now plan.now.boxes.now
+    requires at { spec_stages.IsAtRoot plan.now.pipeline plan.now.schedule plan.now.boxes
         computed.now.place computed.now.func.now computed.now.plan.now computed.now.own.now }
     ensures tasks { IfOk result (λ phase. phase.tasks ≡ iterations.iteration_count
         (views.extents_of computed.now.own.now) computed.now.plan.now.pure) }
     ensures private { IfOk result (λ phase. phase.private ≡ produced_from computed.now.place 0
-        plan.now.schedule.now.standings) }
-    ensures bytes { IfOk result (λ phase. phase.bytes ≡ spec.byte_places 0 plan.now.pipeline.now.inputs) }
-    ensures does { IfOk result (spec.DoesPure plan.now.pipeline.now plan.now.schedule.now plan.now.boxes.now
+        plan.now.schedule.standings) }
+    ensures bytes { IfOk result (λ phase. phase.bytes ≡ spec.byte_places 0 plan.now.pipeline.inputs) }
+    ensures does { IfOk result (spec.DoesPure plan.now.pipeline plan.now.schedule plan.now.boxes
         computed.now.place computed.now.func.now computed.now.plan.now computed.now.own.now) }
-    ensures stage { IfOk result (DoesStage plan.now.pipeline.now plan.now.schedule.now plan.now.boxes.now
+    ensures stage { IfOk result (DoesStage plan.now.pipeline plan.now.schedule plan.now.boxes
         computed.now.place computed.now.func.now 0 (owns (views.extents_of computed.now.own.now)
         computed.now.plan.now.pure)) }
-    ensures touches { IfOk result (TouchesItsOwn plan.now.pipeline.now plan.now.schedule.now plan.now.boxes.now
+    ensures touches { IfOk result (TouchesItsOwn plan.now.pipeline plan.now.schedule plan.now.boxes
         computed.now.place (owns (views.extents_of computed.now.own.now) computed.now.plan.now.pure)) }
     ensures few { IfOk result (λ phase. task_depth phase ≤ 14) }
-    ensures needs { IfOk result (λ phase. greatest_need phase.body ≤ most_need plan.now.pipeline.now
-        plan.now.schedule.now) }
-    ensures light { IfOk result (IsLight plan.now.pipeline.now plan.now.schedule.now computed.now.place
+    ensures needs { IfOk result (λ phase. greatest_need phase.body ≤ most_need plan.now.pipeline
+        plan.now.schedule) }
+    ensures light { IfOk result (IsLight plan.now.pipeline plan.now.schedule computed.now.place
         computed.now.func.now computed.now.plan.now 0) }
     ensures few_tasks { IfOk result (λ phase. phase.tasks ≤ 2 ^ 31) }
     ensures rounds { IfOk result RoundsMayBeAtOnce }
     ensures in_runs { IfOk result (StoresInRuns computed.now.place (views.extents_of computed.now.own.now)
         computed.now.plan.now.pure) }
-    ensures stores { IfOk result (StoresItsOwn plan.now.boxes.now computed.now.place
+    ensures stores { IfOk result (StoresItsOwn plan.now.boxes computed.now.place
         (owns (views.extents_of computed.now.own.now) computed.now.plan.now.pure)) }
 {
+    let schedule = plan.schedule();
     let stage = &computed.plan.pure;
     let extents = extents_of(computed.own);
     let root = Place::Root;
     let store = store_of(alloc, plan, root, computed)?;
     let body = body_of(alloc, plan, computed.place, stage, extents, store)?;
     let tasks = task_count(alloc, stage, extents)?;
-    let bytes = byte_inputs(alloc, plan.pipeline.inputs())?;
+    let bytes = byte_inputs(alloc, plan.pipeline().inputs())?;
     let counter = task_counter(computed.place, stage);
-    let private = produced_places(alloc, computed.place, plan.schedule.standings.as_slice())?;
+    let private = produced_places(alloc, computed.place, schedule.standings.as_slice())?;
     Ok(Phase {
         tasks,
         counter,

@@ -18,7 +18,6 @@ ghost use Rattle.lowering_nests.specs.Nests.{AreFew, Repeats};
 ghost use Rattle.lowering_nests.specs.Rounds.{IsLeaf, MayBeAtOnce, MayBeUnder};
 ghost use Rattle.lowering_nests.specs.Sizes.{nest_size};
 ghost use Rattle.schedule_lines.specs.declared.stages.Loop.{Loop};
-ghost use Rattle.bounds.specs.Plans.{IsPlan};
 ghost use Rattle.lowering.specs.Consuming.{StoresInIt};
 ghost use Rattle.lowering.specs.PurePhases as pure;
 ghost use Rattle.bounds.specs.Stages as pure_stages;
@@ -94,26 +93,26 @@ fn store_at(
 ) -> Result<Stmt, AllocError>
     requires { of.now.computed.place + 1 < 2 ^ 64 }
     ensures stores { IfOk result (λ made. spec.StoresUpdate corners.now (flagged
-        (flags_of plan.now.schedule.now.standings)) plan.now.pipeline.now.funcs of.now.computed.place corner.now
+        (flags_of plan.now.schedule.standings)) plan.now.pipeline.funcs of.now.computed.place corner.now
         of.now.update.now made) }
     ensures leaf { IfOk result IsLeaf }
     ensures about { IfOk result (λ made. is_about of.now.computed.place made ≡ true) }
     ensures hits { IfOk result (λ made. spec.HitsUpdate corners.now (flagged
-        (flags_of plan.now.schedule.now.standings)) plan.now.pipeline.now.funcs of.now.computed.place corner.now
+        (flags_of plan.now.schedule.standings)) plan.now.pipeline.funcs of.now.computed.place corner.now
         of.now.update.now made) }
     ensures sound { IfOk result (λ made. spec.IsSoundUpdate corners.now (flagged
-        (flags_of plan.now.schedule.now.standings)) plan.now.pipeline.now.funcs of.now.computed.place corner.now
+        (flags_of plan.now.schedule.standings)) plan.now.pipeline.funcs of.now.computed.place corner.now
         of.now.update.now made) }
     ensures depth { IfOk result (λ made. depth made ≡ 0) }
-    ensures needs { IfOk result (λ made. greatest_need made ≤ update_taken (flags_of plan.now.schedule.now.standings)
-        plan.now.pipeline.now.funcs of.now.computed.place of.now.update.now) }
+    ensures needs { IfOk result (λ made. greatest_need made ≤ update_taken (flags_of plan.now.schedule.standings)
+        plan.now.pipeline.funcs of.now.computed.place of.now.update.now) }
     ensures sizes { IfOk result (λ made. AreShort corners.now → IsShort corner.now
-        → whole_size made + 12 ≤ 64 * update_counted (flags_of plan.now.schedule.now.standings)
-        plan.now.pipeline.now.funcs of.now.computed.place of.now.update.now) }
+        → whole_size made + 12 ≤ 64 * update_counted (flags_of plan.now.schedule.standings)
+        plan.now.pipeline.funcs of.now.computed.place of.now.update.now) }
 {
-    let flags = inlined_flags(alloc, plan.schedule.standings.as_slice())?;
+    let flags = inlined_flags(alloc, plan.schedule().standings.as_slice())?;
     let reader = LoweredFunc {
-        funcs: plan.pipeline.funcs(),
+        funcs: plan.pipeline().funcs(),
         flags: flags.as_slice(),
         corners,
         place: of.computed.place,
@@ -126,18 +125,19 @@ fn store_at(
 fn root_store(alloc: Global, plan: &Plan<'_>, of: &UpdateOf<'_>) -> Result<Stmt, AllocError>
     requires { of.now.computed.place + 1 < 2 ^ 64 }
     ensures leaf { IfOk result IsLeaf }
-    ensures stores { IfOk result (λ made. spec.IsUpdateStoreOf plan.now.pipeline.now plan.now.schedule.now
-        plan.now.boxes.now of.now.computed.place of.now.computed.own.now of.now.update.now made) }
+    ensures stores { IfOk result (λ made. spec.IsUpdateStoreOf plan.now.pipeline plan.now.schedule
+        plan.now.boxes of.now.computed.place of.now.computed.own.now of.now.update.now made) }
     ensures depth { IfOk result (λ made. depth made ≡ 0) }
-    ensures needs { IfOk result (λ made. greatest_need made ≤ update_taken (flags_of plan.now.schedule.now.standings)
-        plan.now.pipeline.now.funcs of.now.computed.place of.now.update.now) }
+    ensures needs { IfOk result (λ made. greatest_need made ≤ update_taken (flags_of plan.now.schedule.standings)
+        plan.now.pipeline.funcs of.now.computed.place of.now.update.now) }
     ensures sizes { IfOk result (λ made. whole_size made + 12 ≤ 64 * update_counted
-        (flags_of plan.now.schedule.now.standings) plan.now.pipeline.now.funcs of.now.computed.place
+        (flags_of plan.now.schedule.standings) plan.now.pipeline.funcs of.now.computed.place
         of.now.update.now) }
 {
-    let plans = plan.schedule.funcs.as_slice();
-    let standings = plan.schedule.standings.as_slice();
-    let corners = corners_of(alloc, plans, plan.boxes.funcs.as_slice(), standings)?;
+    let schedule = plan.schedule();
+    let plans = schedule.funcs.as_slice();
+    let standings = schedule.standings.as_slice();
+    let corners = corners_of(alloc, plans, plan.boxes().funcs.as_slice(), standings)?;
     let corner = corner_of(alloc, plans, Place::Root, of.computed.own)?;
     let made = store_at(alloc, plan, corners.as_slice(), &corner, of)?;
     Ok(made)
@@ -215,33 +215,32 @@ fn nest_of(
 ///
 /// Memory ran out.
 pub fn update_phase(alloc: Global, plan: &Plan<'_>, of: &UpdateOf<'_>) -> Result<Phase, AllocError>
-    requires plan { IsPlan plan.now }
-    requires root { pure_stages.IsAtRoot plan.now.pipeline.now plan.now.schedule.now plan.now.boxes.now
+    requires root { pure_stages.IsAtRoot plan.now.pipeline plan.now.schedule plan.now.boxes
         of.now.computed.place of.now.computed.func.now of.now.computed.plan.now of.now.computed.own.now }
-    requires at { spec.IsUpdateAt plan.now.schedule.now of.now.computed.place of.now.computed.func.now
+    requires at { spec.IsUpdateAt plan.now.schedule of.now.computed.place of.now.computed.func.now
         of.now.computed.plan.now of.now.at of.now.update.now of.now.stage.now }
-    ensures tasks { IfOk result (λ phase. phase.tasks
-        ≡ iterations.iteration_count (spec_extents.update_extents of.now.computed.own.now of.now.update.now) of.now.stage.now) }
+    ensures tasks { IfOk result (λ phase. phase.tasks ≡ iterations.iteration_count
+        (spec_extents.update_extents of.now.computed.own.now of.now.update.now) of.now.stage.now) }
     ensures private { IfOk result (λ phase. phase.private ≡ []) }
-    ensures bytes { IfOk result (λ phase. phase.bytes ≡ pure.byte_places 0 plan.now.pipeline.now.inputs) }
-    ensures does { IfOk result (DoesStage plan.now.pipeline.now plan.now.schedule.now plan.now.boxes.now
+    ensures bytes { IfOk result (λ phase. phase.bytes ≡ pure.byte_places 0 plan.now.pipeline.inputs) }
+    ensures does { IfOk result (DoesStage plan.now.pipeline plan.now.schedule plan.now.boxes
         of.now.computed.place of.now.computed.func.now (suc of.now.at) (spec.owns_update of.now.computed.own.now
         of.now.update.now of.now.stage.now)) }
-    ensures touches { IfOk result (TouchesItsOwn plan.now.pipeline.now plan.now.schedule.now plan.now.boxes.now
+    ensures touches { IfOk result (TouchesItsOwn plan.now.pipeline plan.now.schedule plan.now.boxes
         of.now.computed.place (spec.owns_update of.now.computed.own.now of.now.update.now of.now.stage.now)) }
     ensures few { IfOk result (λ phase. task_depth phase ≤ 14) }
-    ensures needs { IfOk result (λ phase. greatest_need phase.body ≤ most_need plan.now.pipeline.now
-        plan.now.schedule.now) }
+    ensures needs { IfOk result (λ phase. greatest_need phase.body ≤ most_need plan.now.pipeline
+        plan.now.schedule) }
     ensures sizes { IfOk result (λ phase. whole_size phase.body + 24 ≤ 64 * stage_weight
-        (update_nodes (flags_of plan.now.schedule.now.standings) plan.now.pipeline.now.funcs of.now.update.now)
+        (update_nodes (flags_of plan.now.schedule.standings) plan.now.pipeline.funcs of.now.update.now)
         of.now.stage.now) }
     ensures few_tasks { IfOk result (λ phase. phase.tasks ≤ 2 ^ 31) }
     ensures rounds { IfOk result RoundsMayBeAtOnce }
-    ensures stores { IfOk result (StoresWhatItNames plan.now.pipeline.now plan.now.schedule.now
-        plan.now.boxes.now of.now.computed.place of.now.computed.func.now of.now.at of.now.computed.own.now
+    ensures stores { IfOk result (StoresWhatItNames plan.now.pipeline plan.now.schedule
+        plan.now.boxes of.now.computed.place of.now.computed.func.now of.now.at of.now.computed.own.now
         of.now.update.now of.now.stage.now) }
 {
-    let bytes = byte_inputs(alloc, plan.pipeline.inputs())?;
+    let bytes = byte_inputs(alloc, plan.pipeline().inputs())?;
     let extents = update_extents(of.computed.own, of.update);
     let store = root_store(alloc, plan, of)?;
     let body = body_of(alloc, of.computed.place, of.stage, extents, store)?;
@@ -273,29 +272,28 @@ pub fn update_nest(
     corner: &Corner,
     of: &UpdateOf<'_>,
 ) -> Result<Stmt, AllocError>
-    requires plan { IsPlan plan.now }
-    requires computed { spec.IsComputedIn plan.now.pipeline.now plan.now.schedule.now plan.now.boxes.now
+    requires computed { spec.IsComputedIn plan.now.pipeline plan.now.schedule plan.now.boxes
         of.now.computed.place of.now.computed.func.now of.now.computed.plan.now of.now.computed.own.now }
-    requires at { spec.IsUpdateAt plan.now.schedule.now of.now.computed.place of.now.computed.func.now
+    requires at { spec.IsUpdateAt plan.now.schedule of.now.computed.place of.now.computed.func.now
         of.now.computed.plan.now of.now.at of.now.update.now of.now.stage.now }
     requires corner { slice_get corners.now of.now.computed.place ≡ Some corner.now }
-    ensures does { IfOk result (spec.DoesUpdate plan.now.pipeline.now plan.now.schedule.now plan.now.boxes.now
+    ensures does { IfOk result (spec.DoesUpdate plan.now.pipeline plan.now.schedule plan.now.boxes
         corners.now of.now.computed.place of.now.computed.func.now corner.now of.now.computed.own.now of.now.at
         of.now.update.now) }
     ensures alone { IfOk result (StoresInIt of.now.computed.place) }
-    ensures sound { IfOk result (spec.AreSoundLoops plan.now.pipeline.now plan.now.schedule.now
-        plan.now.boxes.now corners.now of.now.computed.place corner.now of.now.computed.own.now of.now.update.now) }
+    ensures sound { IfOk result (spec.AreSoundLoops plan.now.pipeline plan.now.schedule
+        plan.now.boxes corners.now of.now.computed.place corner.now of.now.computed.own.now of.now.update.now) }
     ensures few { IfOk result (λ made. depth made ≤ 9) }
     ensures at_once { IfOk result MayAlwaysBeAtOnce }
     ensures about { IfOk result (λ made. is_about of.now.computed.place made ≡ true) }
-    ensures needs { IfOk result (λ made. greatest_need made ≤ most_need plan.now.pipeline.now
-        plan.now.schedule.now) }
+    ensures needs { IfOk result (λ made. greatest_need made ≤ most_need plan.now.pipeline
+        plan.now.schedule) }
     ensures sizes { IfOk result (λ made. AreShort corners.now
-        → whole_size made ≤ 64 * stage_weight (update_nodes (flags_of plan.now.schedule.now.standings)
-        plan.now.pipeline.now.funcs of.now.update.now) of.now.stage.now) }
+        → whole_size made ≤ 64 * stage_weight (update_nodes (flags_of plan.now.schedule.standings)
+        plan.now.pipeline.funcs of.now.update.now) of.now.stage.now) }
 {
-    // What every pipeline keeps is known once its parts are read.
-    let _funcs = plan.pipeline.funcs();
+    // What every plan and its pipeline keep is known once their parts are read.
+    let _funcs = plan.pipeline().funcs();
     let store = store_at(alloc, plan, corners, corner, of)?;
     let extents = update_extents(of.computed.own, of.update);
     let made = nest_of(alloc, of.computed.place, of.stage, extents, store)?;
