@@ -10,7 +10,7 @@ use loader::{Image, read_image};
 use multi_hart::Machine;
 use shared_machine::{
     AlwaysOpen, Blanks, DriveFault, Ended, Gate, Ledgers, Origin, Refusal, Seat, Shared, drive,
-    drive_batched,
+    drive_batched, run,
 };
 use std::marker::Brand;
 use std::process::Abort;
@@ -171,6 +171,50 @@ fn two_harts_count(rt: HostRuntime) -> Result<(), Fail> {
         true,
         &AlwaysOpen,
     )
+}
+
+/// Drives the counter of one hart to its end in the thread that is there, and then once more.
+fn drive_lone_counter<
+    O: Origin + Send + Sync,
+    F: Ledgers + Send + Sync,
+    R: Threads + Wait + Abort + AllocGlobal + Sync,
+>(rt: &R, image: Image, blanks: Blanks, batched: bool) -> Result<(), Fail>
+    requires image { image ≡ O.image }
+    requires harts { O.harts ≡ 1 }
+    requires resumed { O.resumed ≡ [] }
+    requires blanks { AreNamed F.numbers F.tallies blanks }
+{
+    let (shared, mut seats) = Shared::<O, F>::new(rt.alloc(), image, 1, blanks)?;
+    check_driven(rt, &shared, &mut seats, batched, &AlwaysOpen, 4);
+    check_driven(rt, &shared, &mut seats, batched, &AlwaysOpen, 5);
+    Ok(())
+}
+
+#[test]
+fn a_lone_seat_is_driven(rt: HostRuntime) -> Result<(), Fail> {
+    for batched in [false, true] {
+        let image = read_image(rt.alloc(), &COUNTER)?;
+        drive_lone_counter::<Brand, Brand, HostRuntime>(&rt, image, Blanks::new(), batched)?;
+    }
+    Ok(())
+}
+
+/// One hart runs to its limit or its end, and goes on from its log: one that has finished makes an idle turn more.
+#[test]
+fn one_hart_runs(rt: HostRuntime) -> Result<(), Fail> {
+    for (limit, turns, word) in [(0, 0, 0), (2, 2, 0), (3, 3, 1), (4, 4, 1), (100, 4, 1)] {
+        let image = read_image(rt.alloc(), &COUNTER)?;
+        let (_, log) = run(&rt, rt.alloc(), image, TurnLog::new(rt.alloc(), 1), limit)?;
+        assert_eq!(rt; log.count_of(0), turns);
+        let image = read_image(rt.alloc(), &COUNTER)?;
+        let (machine, log) = run(&rt, rt.alloc(), image, log, 0)?;
+        assert_eq!(rt; machine.word(WORD), Some(word));
+        let image = read_image(rt.alloc(), &COUNTER)?;
+        let (machine, log) = run(&rt, rt.alloc(), image, log, 100)?;
+        assert_eq!(rt; machine.word(WORD), Some(1));
+        assert_eq!(rt; log.count_of(0), if turns < 4 { 4 } else { 5 });
+    }
+    Ok(())
 }
 
 /// Each hart has a thread of its own, which begins before the other one has made a turn.

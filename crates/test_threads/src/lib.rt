@@ -1,7 +1,8 @@
 //! Tests of machines that threads share, as no file of cases can ask.
 //!
 //! - [`boards`]: numbers and a stop on a board.
-//! - [`counters`]: a program of two harts that is driven, stopped, held, and run on from a log; what gates are asked.
+//! - [`counters`]: a program of two harts that is driven, stopped, held, and run on from a log, and by one hart alone;
+//!   what gates are asked.
 //! - [`strips`]: a compiled blur, of whose harts one is abandoned, and in two phases that all of them end.
 #![tactic(auto)]
 
