@@ -60,6 +60,13 @@ pub record LinesLeft (survey : Survey) (building : Building) (rest text : List �
   pub built : IsBuilt building so_far
   pub same : taken_from (taken survey) building.here.line so_far (lines_of rest) ≡ taken_from (taken survey) 1 before_first (lines_of text)
 
+pub all_left : (survey : Survey) (building : Building) (text : List ℕ) → IsBuilt building before_first → LinesLeft survey building text text
+all_left survey building text b = record {
+  so_far = before_first;
+  built = b;
+  same = ap (λ h. taken_from (taken survey) h.line before_first (lines_of text)) b.here;
+}
+
 -- the next line's number
 numbered : (survey : Survey) (a next : Assembled) (line : List ℕ) → taken survey a line ≡ Ok next → next.here.line ≡ a.here.line + 1
 unfolding taken

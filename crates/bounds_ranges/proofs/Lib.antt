@@ -5,3 +5,4 @@ pub mod Products
 pub mod Operations
 pub mod PixelWords
 pub mod Walking
+pub mod Rows

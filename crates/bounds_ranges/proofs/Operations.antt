@@ -5,6 +5,7 @@ use Rattle.std.proofs.lemmas.Bool.{lt-ltb, le-ltb, leb-true, cases_lt, and_parts
 use Rattle.halide_pipeline.specs.declared.definitions.Func.{Func}
 use Rattle.halide_pipeline.specs.declared.definitions.Input.{Input}
 use Rattle.halide_pipeline.specs.declared.expressions.Expr.{Expr}
+use Rattle.halide_pipeline.specs.declared.expressions.Expr.TheOpen.{Expr-F}
 use Rattle.halide_pipeline.specs.declared.expressions.Expr.TheOpen as layer
 use Rattle.halide_pipeline.specs.declared.expressions.Operation.{Operation}
 use Rattle.halide_pipeline.specs.declared.expressions.Operation.TheVariants as op

@@ -4,4 +4,5 @@ pub mod Keeping
 pub mod OnTheWay
 pub mod Passes
 pub mod Places
+pub mod Refusing
 pub mod Stopping

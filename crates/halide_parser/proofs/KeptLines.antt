@@ -21,7 +21,7 @@ use Rattle.halide_parser.specs.declared.judging.Judged.{Judged}
 use Rattle.halide_parser.specs.declared.readers.Reader.{Reader}
 use Rattle.halide_parser.specs.declared.scopes.Scope.{Scope}
 use Rattle.halide_parser.specs.inner.Judging as j
-use Rattle.halide_parser.specs.inner.JudgedLines.{tree_of}
+use Rattle.halide_parser.specs.inner.JudgedLines.{tree_of, tree_or_zero}
 use Rattle.halide_parser.specs.inner.JudgedLines as lines
 use Rattle.halide_parser.specs.Meaning.{with_input, with_func, with_output}
 use Rattle.halide_parser.specs.Rules as r

@@ -18,6 +18,11 @@ bytes_fill n w (inl e) h = rw e (let m : n * 8 ≡ 128 = rw e at h in omega arit
 bytes_fill n w (inr (inl e)) h = rw e (let m : n * 16 ≡ 128 = rw e at h in omega arith)
 bytes_fill n w (inr (inr e)) h = rw e (let m : n * 32 ≡ 128 = rw e at h in omega arith)
 
+pub few : (n w : ℕ) → IsWidth w → n * w ≡ 128 → n ≤ 16
+few n w (inl e) h = let m : n * 8 ≡ 128 = rw e at h in omega arith
+few n w (inr (inl e)) h = let m : n * 16 ≡ 128 = rw e at h in omega arith
+few n w (inr (inr e)) h = let m : n * 32 ≡ 128 = rw e at h in omega arith
+
 pub length-lowest_bytes : (count n : ℕ) → length (lowest_bytes count n) ≡ count
 length-lowest_bytes zero n = refl
 length-lowest_bytes (suc count) n = ap suc (length-lowest_bytes count (n / 256))

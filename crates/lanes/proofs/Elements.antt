@@ -1,7 +1,7 @@
 -- Results that stand in the place of what they are the results of.
 use Rattle.std.proofs.Common.{◌≡◌, ℕ, zero, suc, ◌+◌, ◌<◌, ◌≤◌, Bool, true, false, List, [], ◌∷◌, ◌++◌, map, take, length, get_or, refl, sym, ◌∙◌, ap, arith}
 use Rattle.std.proofs.Math.ListN.{set, replicate}
-use Rattle.std.proofs.lemmas.List.{take_all}
+use Rattle.std.proofs.lemmas.List.{take_all, map-set}
 use Rattle.std.proofs.lemmas.Bool.Decides.{nat_tests}
 use Rattle.std.specs.List.{range_with_len, fold}
 use Rattle.lanes.specs.Words.{active, is_active, zip_with, merged, chosen_of, reduced, EachPair, EachFrom, LeadsTo}
@@ -105,6 +105,13 @@ pub reduced_from_steps : {A B : Type 0} (seen : A → B) (f : B → B → B) (R 
     → (start : A) (bs : List Bool) (xs : List A) (end : A) → LeadsTo R start (chosen_of bs xs) end → seen end ≡ reduced f bs (seen start) (map seen xs)
 reduced_from_steps seen f R h start bs xs end e = fold_from_steps seen f R h start (chosen_of bs xs) end e ∙ ap (fold f (seen start)) (map-chosen_of seen bs xs)
 
+pub map-merged : {A B : Type 0} (seen : A → B) (bs : List Bool) (xs ys : List A) → map seen (merged bs xs ys) ≡ merged bs (map seen xs) (map seen ys)
+map-merged seen [] xs ys = refl
+map-merged seen (b ∷ bs) [] ys = refl
+map-merged seen (b ∷ bs) (x ∷ xs) [] = refl
+map-merged seen (true ∷ bs) (x ∷ xs) (y ∷ ys) = ap (λ zs. seen x ∷ zs) (map-merged seen bs xs ys)
+map-merged seen (false ∷ bs) (x ∷ xs) (y ∷ ys) = ap (λ zs. seen y ∷ zs) (map-merged seen bs xs ys)
+
 -- the results of each index, from a first one on
 pub map_from_indices : {A B : Type 0} (seen : A → B) (f : ℕ → B) (R : ℕ → A → Type 0) → ((i : ℕ) (a : A) → R i a → seen a ≡ f i)
     → (a n : ℕ) (xs : List A) → length xs ≡ n → EachFrom R a xs → map seen xs ≡ map f (range_with_len a n)
@@ -121,6 +128,13 @@ tests_from_indices f R h a zero (x ∷ xs) p e = absurd (omega arith)
 tests_from_indices f R h a (suc n) [] p e = absurd (omega arith)
 tests_from_indices f R h a (suc n) (x ∷ xs) p e =
     let head = h a x e.0 in let tail = tests_from_indices f R h (a + 1) n xs (omega arith) e.1 in cc
+
+pub map-replicate : {A B : Type 0} (seen : A → B) (n : ℕ) (x : A) → map seen (replicate n x) ≡ replicate n (seen x)
+map-replicate seen zero x = refl
+map-replicate seen (suc n) x = ap (λ ys. seen x ∷ ys) (map-replicate seen n x)
+
+-- what is seen of lists that are made of others
+pub ruleset seen_lists = (map-merged, map-set, map-replicate)
 
 -- ---- all elements active
 

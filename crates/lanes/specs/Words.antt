@@ -64,6 +64,13 @@ min_signed w a b = if less_signed w b a then b else a
 abbrev pub max_signed : ℕ → ℕ → ℕ → ℕ
 max_signed w a b = if less_signed w a b then b else a
 
+-- 1 where the first is less, else 0
+abbrev pub set_less_unsigned : ℕ → ℕ → ℕ → ℕ
+set_less_unsigned w a b = if less_unsigned w a b then 1 else 0
+
+abbrev pub set_less_signed : ℕ → ℕ → ℕ → ℕ
+set_less_signed w a b = if less_signed w a b then 1 else 0
+
 -- ---- bits
 
 abbrev pub and : ℕ → ℕ → ℕ → ℕ

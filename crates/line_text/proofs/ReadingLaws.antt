@@ -38,6 +38,9 @@ pub record Left {S F : Type 0} (takes : S → List ℕ → Result S F) (first : 
   pub counted : count + length (lines_of rest) ≡ length (lines_of text)
   pub total : taken_from takes (count + 1) now (lines_of rest) ≡ taken_from takes 1 first (lines_of text)
 
+pub starts : {S F : Type 0} (takes : S → List ℕ → Result S F) (first : S) (text : List ℕ) → Left takes first text first text 0
+starts takes first text = record { few = omega arith; counted = omega arith; total = refl }
+
 pub goes_on : {S F : Type 0} (takes : S → List ℕ → Result S F) (first : S) (text : List ℕ) (now : S) (rest : List ℕ) (count : ℕ) (next : S) (line after : List ℕ)
     → lines_of rest ≡ line ∷ lines_of after → length after < length rest → takes now line ≡ Ok next → Left takes first text now rest count → Left takes first text next after (count + 1)
 goes_on takes first text now rest count next line after e less took left =

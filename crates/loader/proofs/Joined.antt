@@ -1,10 +1,12 @@
 -- Appending one piece after the other, or all of them at once.
-use Rattle.std.proofs.Common.{◌≡◌, ℕ, List, ◌++◌, length, Option, append_assoc}
+use Rattle.std.proofs.Common.{◌≡◌, ℕ, List, ◌++◌, length, Option, append_assoc, refl}
 use Rattle.std.specs.Int.{w32, to_le_bytes}
 use Rattle.loader.specs.declared.formats.Format.{Format}
 use Rattle.loader.specs.declared.outputs.Output.{Output}
 use Rattle.loader.specs.Image.{ImageContents}
 use Rattle.loader.specs.Spelling.{magic, spelled_numbers, output_fields, spelled_start}
+
+pub ruleset joined = append_assoc
 
 regrouped : (out m e t d f : List ℕ) → out ++ m ++ e ++ t ++ d ++ f ≡ out ++ (m ++ e ++ t ++ d ++ f)
 regrouped out m e t d f = simp append_assoc

@@ -9,6 +9,10 @@ use Rattle.loader.specs.Spelling.{in_front, trimmed, stored, padded, is_zero, st
 
 -- ---- the zeros are put back
 
+-- how many zeros were at the end
+abbrev lost : List ℕ → ℕ
+lost bytes = length bytes - length (trimmed bytes)
+
 length-in_front : (byte : ℕ) (bytes : List ℕ) → length (in_front byte bytes) ≤ suc (length bytes)
 length-in_front byte (next ∷ bytes) = omega arith
 length-in_front byte [] = by_test (byte == 0) where

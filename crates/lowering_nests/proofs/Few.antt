@@ -1,7 +1,8 @@
 -- Loops have few turns; splits taken from the last one.
-use Rattle.std.proofs.Common.{◌≡◌, ℕ, suc, ◌+◌, ◌-◌, ◌*◌, ◌^◌, ◌<◌, ◌≤◌, Bool, true, false, cond, List, [], ◌∷◌, ◌++◌, length, get_or, take, sym, ap, ◌∙◌, arith}
+use Rattle.std.proofs.Common.{◌≡◌, ℕ, suc, ◌+◌, ◌-◌, ◌*◌, ◌^◌, ◌<◌, ◌≤◌, Bool, true, false, cond, List, [], ◌∷◌, ◌++◌, length, get_or, take, sym, ap, subst, ◌∙◌, arith, length-append}
 use Rattle.std.specs.List.{AllByRecursion}
 use Rattle.std.proofs.Math.Nat.{div-le_self}
+use Rattle.halide_pipeline.proofs.Seeing.{all_parts}
 use Rattle.schedule_lines.specs.declared.stages.LoopId.{LoopId}
 use Rattle.schedule_lines.specs.declared.stages.LoopId.TheVariants as ids
 use Rattle.schedule_lines.specs.declared.stages.Split.{Split}
@@ -56,6 +57,12 @@ bodies_last (split ∷ splits) last counts place body =
     bodies_last splits last (more_counts counts place split) (suc place) (split_body counts place split body)
     ∙ ap (λ (p : ℕ). split_body (counts_from (more_counts counts place split) (suc place) splits) p last (split_bodies (more_counts counts place split) (suc place) splits (split_body counts place split body))) e
 
+pub splits_before : (splits : List Split) (last : Split) → AreSplits (splits ++ last ∷ []) → AreSplits splits
+splits_before splits last are = record { few = omega (arith, length-append splits (last ∷ []), are.few); factors = (all_parts IsFactor splits (last ∷ []) are.factors).0 }
+
+pub last_factor : (splits : List Split) (last : Split) → AreSplits (splits ++ last ∷ []) → last.factor ≤ 64
+last_factor splits last are = (all_parts IsFactor splits (last ∷ []) are.factors).1.0.few
+
 -- a list that isn't empty, as code takes its last element
 pub last_of_rest : {A : Type 0} (xs : List A) (other : A) → 1 ≤ length xs → take (length xs - 1) xs ++ get_or xs (length xs - 1) other ∷ [] ≡ xs
 last_of_rest [] other some = absurd (omega (arith, some))
@@ -75,6 +82,15 @@ module _ (splits : List Split) (other : Split) (some : 1 ≤ length splits) (are
 
   abbrev last : Split
   last = get_or splits (length splits - 1) other
+
+  parted : AreSplits (others ++ last ∷ [])
+  parted = subst AreSplits (sym (last_of_rest splits other some)) are
+
+  pub others_are : AreSplits others
+  others_are = splits_before others last parted
+
+  pub last_is : last.factor ≤ 64
+  last_is = last_factor others last parted
 
   pub over_last : {A : Type 0} (extents : Extents) (list : Values → List A)
       → split_body (counts extents others) (length others) last (over_loops extents others list) ≡ over_loops extents splits list

@@ -1,5 +1,5 @@
 -- How many words loops around a body ask for.
-use Rattle.std.proofs.Common.{◌≡◌, ℕ, ◌-◌, ◌≤◌, Bool, List, ◌∷◌, length, get_or, take, drop, sym, ap, ◌∙◌}
+use Rattle.std.proofs.Common.{◌≡◌, ℕ, ◌-◌, ◌≤◌, Bool, List, ◌∷◌, length, get_or, take, drop, sym, ap, subst, ◌∙◌}
 use Rattle.schedule_lines.specs.declared.stages.Loop.{Loop}
 use Rattle.schedule_lines.specs.declared.stages.Mark.TheVariants as marks
 use Rattle.schedule_lines.specs.Directives.{is_marked}

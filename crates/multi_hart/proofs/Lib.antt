@@ -1,3 +1,5 @@
+pub mod Alone
+pub mod BytesPut
 pub mod Framing
 pub mod Resting
 pub mod Stepping

@@ -1,9 +1,9 @@
 -- The group of vector registers that begins at v0, as lanes of 32 bits: its bits and what they spell.
-use Rattle.std.proofs.Common.{◌≡◌, ℕ, zero, suc, ◌+◌, ◌-◌, ◌*◌, ◌/◌, ◌%◌, ◌^◌, ◌<◌, ◌≤◌, List, [], length, get_or, true, false, refl, ap, ◌∙◌, sym, subst, arith, inl, inr}
+use Rattle.std.proofs.Common.{◌≡◌, ℕ, zero, suc, ◌+◌, ◌-◌, ◌*◌, ◌/◌, ◌%◌, ◌^◌, ◌<◌, ◌≤◌, List, [], ◌∷◌, length, get_or, true, false, refl, ap, ◌∙◌, sym, subst, arith, inl, inr}
 use Rattle.std.specs.Prelude.{◌⊎◌, ◌==◌, ◌&&◌, cond, if◌then◌else◌, min, nat_le, nat_lt, replicate, slice_index, slice_index_or}
 use Rattle.std.specs.Int.{bit_at}
 use Rattle.std.proofs.Math.Nat.{mod-eq_of_lt}
-use Rattle.std.proofs.lemmas.Bool.{cases_lt}
+use Rattle.std.proofs.lemmas.Bool.{cases_eq, cases_lt}
 use Rattle.std.proofs.lemmas.Bool.Decides.{nat_tests}
 use Rattle.std.proofs.lemmas.Nat.{mod-pow-add}
 use Rattle.std.proofs.lemmas.Nat.Bits.{bit_at-suc, bit_at-lt, bit_at_lowest, bit_at_cat_low, bit_at_cat_high}
@@ -47,6 +47,9 @@ low-bit b x k l = let e : b + 256 * x ≡ x * 2 ^ 8 + b = omega arith in ap (λ 
 
 high-bit : (b x k : ℕ) → b < 256 → 8 ≤ k → bit_at (b + 256 * x) k ≡ bit_at x (k - 8)
 high-bit b x k s l = let e : b + 256 * x ≡ x * 2 ^ 8 + b = omega arith in ap (λ z. bit_at z k) e ∙ bit_at_cat_high x 8 b k s l
+
+last-bit : (b k : ℕ) → k < 8 → bit_at (b + 256 * 0) k ≡ bit_at b k
+last-bit b k l = low-bit b 0 k l
 
 word-bit : (b : ℕ → ℕ) (k : ℕ) → ((i : ℕ) → i < 4 → b i < 256) → k < 32 → bit_at (of_bytes b) k ≡ bit_at (b (k / 8)) (k % 8)
 word-bit b k small l = elim (cases_lt k 8) [
@@ -180,6 +183,9 @@ pub held-above : (f : ℕ → ℕ) (d i : ℕ) → 1 ≤ d → held f d i ≡ f 
 held-above f d i l =
     let t : nat_lt (4 * d + i) 4 ≡ false = grind (arith, nat_tests, l) in
     ap (λ b. if b then first_lane f i else f (lane d i)) t
+
+pub written-first : (f : ℕ → ℕ) (n : ℕ) (new : ℕ → ℕ) (q : ℕ) → write_group f 0 n new q ≡ write_first f n new q
+written-first f n new q = refl
 
 pub written-above : (f : ℕ → ℕ) (d n : ℕ) (new : ℕ → ℕ) (q : ℕ) → 1 ≤ d → write_group f d n new q ≡ write_lanes f d n new q
 written-above f d n new q l =

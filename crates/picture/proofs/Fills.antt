@@ -1,7 +1,7 @@
 -- Pixels and slices that threads computed, put into one list.
-use Rattle.std.proofs.Common.{◌≡◌, ℕ, zero, suc, List, [], ◌∷◌, map, Vec, Result, Ok, Err, sym, subst}
+use Rattle.std.proofs.Common.{◌≡◌, ℕ, zero, suc, ◌+◌, ◌*◌, ◌<◌, length, get_or, arith, List, [], ◌∷◌, map, Vec, Result, Ok, Err, refl, sym, ap, subst}
 use Rattle.std.specs.Prelude.{IfOk, MatchResult, Some, slice_get}
-use Rattle.std.specs.List.{AllZip, Contains}
+use Rattle.std.specs.List.{AllZip, Contains, range_with_len}
 use Rattle.std.specs.declared.alloc.AllocError.{AllocError}
 use Rattle.std.specs.declared.alloc.Global.{Global}
 use Rattle.picture.specs.declared.scenes.Slice.{Slice}
@@ -9,7 +9,7 @@ use Rattle.picture.specs.declared.scenes.Table.{Table}
 use Rattle.halide_pipeline.specs.Contents.{PictureContents}
 use Rattle.halide_pipeline.specs.declared.definitions.Func.{Func}
 use Rattle.halide_pipeline.specs.Pixel.{Plane}
-use Rattle.picture.specs.inner.Evaluation.{AreBoxes, IsTable, IsSliceOf, AreSlicesOf}
+use Rattle.picture.specs.inner.Evaluation.{AreBoxes, IsTable, IsSliceOf, AreSlicesOf, numbered_pixel}
 
 zip_ok : {X : Type 0} (R : ℕ → X → Type 0) (places : List ℕ) (values : List X) → AllZip (λ at (r : Result X AllocError). IfOk r (R at)) places (map Ok values) → AllZip R places values
 zip_ok R [] [] zip = zip
@@ -24,6 +24,30 @@ collected {X} R places results (Ok v) made zip =
     let all = zip_ok R places made.0 (subst (λ (rs : List (Result X AllocError)). AllZip (λ at r. IfOk r (R at)) places rs) made.1 zip) in
     subst (λ (values : List X). AllZip R places values) (sym made.2) all
 collected R places results (Err e) made zip = tt
+
+-- what is zipped with the numbers from 0 on is as long, and has at each place what stands for its number
+filled_from : (R : ℕ → ℕ → Type 0) (from count : ℕ) (values : List ℕ) → AllZip R (range_with_len from count) values → (length values ≡ count) × ((at : ℕ) → at < count → R (from + at) (get_or values at 0))
+filled_from R from zero [] zip = (refl, λ at less. absurd (omega arith))
+filled_from R from zero (value ∷ values) zip = absurd zip
+filled_from R from (suc count) [] zip = absurd zip
+filled_from R from (suc count) (value ∷ values) zip =
+    let rest = filled_from R (from + 1) count values zip.1 in
+    (ap suc rest.0, by_place R from count value values zip.0 rest.1)
+  where
+    by_place : (R : ℕ → ℕ → Type 0) (from count value : ℕ) (values : List ℕ) → R from value → ((at : ℕ) → at < count → R (from + 1 + at) (get_or values at 0)) → (at : ℕ) → at < suc count → R (from + at) (get_or (value ∷ values) at 0)
+    by_place R from count value values first rest zero less = let e : from + 0 ≡ from = omega arith in rw e first
+    by_place R from count value values first rest (suc at) less = let e : from + suc at ≡ from + 1 + at = omega arith in rw e (rest at (omega arith))
+
+pub table_from_zip : (plane : Plane) (table : Table) → AllZip (λ at pixel. pixel ≡ numbered_pixel plane table.left table.top table.width at) (range_with_len 0 (table.width * table.height)) table.pixels.items → IsTable plane table
+table_from_zip plane table zip =
+    let R : ℕ → ℕ → Type 0 = λ at pixel. pixel ≡ numbered_pixel plane table.left table.top table.width at in
+    let all = filled_from R 0 (table.width * table.height) table.pixels.items zip in
+    record {
+      len = all.0;
+      each = λ at within.
+          let e : 0 + at ≡ at = omega arith in
+          subst (λ (n : ℕ). R n (get_or table.pixels.items at 0)) e (all.1 at (omega (arith, all.0, within)));
+    }
 
 -- what is zipped with numbers
 each_zipped : {X : Type 0} (P : X → Type 0) (places : List ℕ) (values : List X) → AllZip (λ at s. P s) places values → (at : ℕ) (value : X) → slice_get values at ≡ Some value → P value

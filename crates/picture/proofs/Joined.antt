@@ -12,6 +12,12 @@ use Rattle.halide_pipeline.specs.Pixel.{Plane}
 use Rattle.picture.specs.declared.scenes.Table.{Table}
 use Rattle.picture.specs.inner.Evaluation.{IsNumberedRow, AreNumberedRows, AreNumbered, IsTable, numbered_pixel}
 
+pub no-rows : (plane : Plane) (left top width : ℕ) (pixels : List ℕ) → pixels ≡ [] → AreNumbered plane left top width 0 pixels
+no-rows plane left top width pixels none = record {
+  len = ap length none ∙ omega arith;
+  each = λ at less. absurd (omega (arith, less, ap length none));
+}
+
 in-row : (plane : Plane) (left top width number at : ℕ) → at < width
     → numbered_pixel plane left top width (number * width + at) ≡ plane (word.add left at) (word.add top number)
 unfolding numbered_pixel

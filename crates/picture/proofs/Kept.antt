@@ -10,7 +10,13 @@ use Rattle.picture.specs.declared.memos.Memo.{Memo}
 use Rattle.picture.specs.declared.scenes.Scene.{Scene}
 use Rattle.picture.specs.declared.scenes.State.TheVariants as states
 use Rattle.picture.specs.inner.Evaluation.{IsMemo, earlier_of, inputs_of, plane_in, plane_of, reads_in}
-use Rattle.picture.specs.inner.Memos.{remembered, Remembers}
+use Rattle.picture.specs.inner.Memos.{remembered, Remembers, KnowsNothing}
+
+pub none_kept : (funcs : List Func) (pictures : List PictureContents) (memo : Memo) → KnowsNothing memo → IsMemo funcs pictures memo
+none_kept funcs pictures memo none = record { each = λ place x y pixel fits_x fits_y is. absurd (differs pixel (sym (none.each place x y) ∙ is)) }
+  where
+    differs : (pixel : ℕ) → None ≡ Some pixel → ⊥
+    differs pixel e = cc
 
 all_three : (a b c : Bool) → (a && b && c) ≡ true → (a ≡ true) × (b ≡ true) × (c ≡ true)
 all_three true true true e = (refl, refl, refl)

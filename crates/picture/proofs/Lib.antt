@@ -14,6 +14,7 @@ pub mod Outputs
 pub mod PixelRows
 pub mod ReadBack
 pub mod Rows
+pub mod Shared
 pub mod SideBySide
 pub mod SpelledBack
 pub mod Tables

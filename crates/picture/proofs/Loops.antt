@@ -13,9 +13,16 @@ onto_onto : (front : List ℕ) (pixel : ℕ) (others : Read (List ℕ)) → onto
 onto_onto front pixel (Ok read) = rw (append_assoc front (pixel ∷ []) read.0) refl
 onto_onto front pixel (Err fault) = refl
 
+onto_none : (others : Read (List ℕ)) → onto [] others ≡ others
+onto_none (Ok read) = refl
+onto_none (Err fault) = refl
+
 -- pixels in front of those that are left are all pixels
 pub record Left (width count : ℕ) (text front : List ℕ) (left : ℕ) (rest : List ℕ) : Type 0 where
   pub total : onto front (pixels_at width left rest) ≡ pixels_at width count text
+
+pub starts : (width count : ℕ) (text front : List ℕ) → front ≡ [] → Left width count text front count text
+starts width count text front e = record { total = rw e (onto_none (pixels_at width count text)) }
 
 -- one pixel further
 pub goes_on : (width count : ℕ) (text front : List ℕ) (left : ℕ) (rest : List ℕ) (pixel : ℕ) (after next : List ℕ) → Left width count text front (suc left) rest

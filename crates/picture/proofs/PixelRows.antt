@@ -1,6 +1,7 @@
 -- Updates along rows of pixels.
-use Rattle.std.proofs.Common.{◌≡◌, ℕ, ◌+◌, ◌-◌, ◌<◌, cond, Bool, List, Some, sym, ap, ◌∙◌}
-use Rattle.std.specs.Prelude.{slice_get}
+use Rattle.std.proofs.Common.{◌≡◌, ℕ, ◌+◌, ◌-◌, ◌<◌, cond, Bool, List, Some, refl, sym, ap, ◌∙◌}
+use Rattle.std.specs.Prelude.{◌==◌, ◌&&◌, slice_get}
+use Rattle.std.proofs.lemmas.Bool.{eq-eqb}
 use Rattle.halide_pipeline.specs.Words as word
 use Rattle.halide_pipeline.specs.declared.expressions.Expr.{Expr}
 use Rattle.halide_pipeline.specs.declared.expressions.Expr.TheVariants as exprs
@@ -8,7 +9,7 @@ use Rattle.halide_pipeline.specs.declared.expressions.Variable.{Variable}
 use Rattle.halide_pipeline.specs.declared.definitions.Func.{Func}
 use Rattle.halide_pipeline.specs.declared.definitions.Update.{Update}
 use Rattle.halide_pipeline.specs.declared.environments.Environment.{Environment}
-use Rattle.halide_pipeline.specs.Pixel.{Plane, Planes, Reads, after, points, reads_of, stage, value, value_at, variable}
+use Rattle.halide_pipeline.specs.Pixel.{Plane, Planes, Reads, after, at_reduction, index_value, points, reads_of, stage, value, value_at, variable}
 use Rattle.halide_pipeline.proofs.Trees.{at_variable}
 use Rattle.picture.specs.declared.in_place.Stretch.{Stretch}
 use Rattle.picture.specs.declared.scenes.Scene.{Scene}
@@ -19,6 +20,16 @@ use Rattle.picture.proofs.Forward.{after-suc, stage-suc}
 pub variable-alone : (reads : Reads) (point : Environment) (e : Expr) (v : Variable) → e ≡ exprs.Variable v → value reads point e ≡ variable point v
 unfolding value
 variable-alone reads point e v is = ap (value reads point) is ∙ at_variable ℕ (value_at reads point) v
+
+pub everywhere : (update : Update) (y : ℕ) → ((reads : Reads) (point : Environment) → value reads point update.left_x ≡ point.first_argument)
+    → ((reads : Reads) (point : Environment) → point.second_argument ≡ y → index_value reads point update.left_y ≡ y) → StoresEverywhere update y
+everywhere update y first second = record {
+  each = λ reads number x.
+      let point = at_reduction update number x y in
+      let column = eq-eqb (value reads point update.left_x) x (first reads point) in
+      let row = eq-eqb (index_value reads point update.left_y) y (second reads point refl) in
+      ap (λ (b : Bool). b && index_value reads point update.left_y == y) column ∙ row;
+}
 
 pub not-begun : (scene : Scene) (own : ℕ) (update : Update) (plane : Plane) (stretch : Stretch) (before pixels : List ℕ) → pixels ≡ before → IsRowOf plane stretch before
     → IsRowOf (after own update (inputs_of scene) (earlier_of scene own) plane 0) stretch pixels

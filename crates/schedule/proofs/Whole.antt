@@ -1,6 +1,8 @@
 -- A text that is read means a schedule that keeps all rules.
 use Rattle.std.proofs.Common.{◌≡◌, ℕ, ◌+◌, List, Option, Some, None, Result, Ok, Err, refl, subst, arith}
-use Rattle.line_text.specs.Lines.{lines_of, taken_from, ◌>>=◌}
+use Rattle.line_text.specs.Lines.{lines_of, taken_from, ◌>>=◌, FailsAt}
+use Rattle.line_text.specs.declared.read_errors.LocatedError.{LocatedError}
+use Rattle.line_text.specs.declared.read_errors.LocatedError.TheVariants as places
 use Rattle.halide_pipeline.specs.Pipelines.{Pipeline}
 use Rattle.halide_pipeline.specs.WellFormed.{IsWellFormed}
 use Rattle.schedule_lines.specs.declared.faults.ScheduleFault.{ScheduleFault}
@@ -44,6 +46,12 @@ read_by (Ok reader) pipeline text schedule is e rules =
 pub read_keeps : (pipeline : Pipeline) (text : List ℕ) (schedule : Schedule) → read pipeline text ≡ Ok schedule → IsWellFormed pipeline → IsAccepted pipeline schedule
 unfolding read
 read_keeps pipeline text schedule e rules = read_by (taken_from (taken pipeline) 1 (start pipeline) (lines_of text)) pipeline text schedule refl e rules
+
+-- a line is faulty
+pub fails : (error : LocatedError ScheduleFault) (pipeline : Pipeline) (text : List ℕ) → FailsAt error (taken_from (taken pipeline) 1 (start pipeline) (lines_of text)) → FailsAt error (read pipeline text)
+unfolding read
+fails places.Memory pipeline text e = tt
+fails (places.Fault number fault) pipeline text e = rw e refl
 
 -- no line is
 pub ends : (pipeline : Pipeline) (text : List ℕ) (reader : Reader) → taken_from (taken pipeline) 1 (start pipeline) (lines_of text) ≡ Ok reader → read pipeline text ≡ finished pipeline reader

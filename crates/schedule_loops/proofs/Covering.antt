@@ -92,6 +92,9 @@ inner_sum tails.Shift factor extent value some l long = omega (arith, div-add-mo
 
 module _ {A : Type 0} (counts : Values) (body : Values → List A) (start : Values) (wanted : List A) (before : List Loop) (own : Loop) (after : List Loop) (splits : List Split) (line : SplitLine)
     (is_update : Bool) (is : IsSplit is_update line) (sound : Sound (before ++ own ∷ after) splits) (long : IsLong line.tail line.factor (counts own.id)) (on_old : OnOld (length splits) body) where
+  abbrev place : ℕ
+  place = length splits
+
   abbrev split : Split
   split = split_by own line
 

@@ -5,6 +5,7 @@ use Rattle.std.specs.List.{AllByRecursion, list_all}
 use Rattle.std.specs.Int.{div_ceil}
 use Rattle.std.proofs.lemmas.Bool.{cases_eq, eq-eqb, ne_eqb}
 use Rattle.std.proofs.lemmas.Grind.{div_ceil_times}
+use Rattle.std.proofs.lemmas.List.{append-nil}
 use Rattle.std.proofs.lemmas.List.Folds.{list_all-append}
 use Rattle.std.proofs.lemmas.Nat.{mul-le}
 use Rattle.std.proofs.Math.Nat.{le-div_iff_mul-le, div-lt_iff_lt-mul}
@@ -15,7 +16,7 @@ use Rattle.schedule_lines.specs.Directives.{is_shift}
 use Rattle.schedule_loops.specs.declared.extents.Extents.{Extents}
 use Rattle.schedule_loops.specs.declared.sizes.LoopSize.{LoopSize}
 use Rattle.schedule_loops.specs.declared.sizes.SizedSplit.{SizedSplit}
-use Rattle.schedule_loops.specs.Visits.{Values, rounds, whole_counts, more_counts, counts_from, whole_strides, more_strides, strides_from, more_uneven, uneven_from, shift_fits, shifts_fit_from, IsFactor}
+use Rattle.schedule_loops.specs.Visits.{Values, rounds, whole_counts, more_counts, counts_from, whole_strides, more_strides, strides_from, more_uneven, uneven_from, shift_fits, shifts_fit_from, IsFactor, AreSplits}
 use Rattle.schedule_loops.specs.inner.Table.{looked_up, outer_of, inner_of, no_size, row_of, rows_from, splits_of, row_fits, IsTable, IsKept, stride_limit, AreBounded}
 use Rattle.schedule_loops.proofs.Linear.{even}
 use Rattle.schedule_loops.proofs.Lists.{first_of_rest, get_last, get_other}
@@ -206,6 +207,9 @@ pub record RowsLeft (extents : Extents) (splits : List Split) (rows : List Sized
   pub few : length rows + length rest ≤ 4
   pub bounded : AreBounded extents rows
 
+pub none_yet : (extents : Extents) (splits : List Split) → AreSplits splits → RowsLeft extents splits [] splits
+none_yet extents splits are = record { made = refl; all = refl; factors = are.factors; few = omega (arith, are.few); bounded = bounded_begun extents }
+
 splits_more : (rows : List SizedSplit) (added : SizedSplit) (rest : List Split) → splits_of (rows ++ added ∷ []) ++ rest ≡ splits_of rows ++ added.split ∷ rest
 splits_more [] added rest = refl
 splits_more (first ∷ rows) added rest = ap (λ (xs : List Split). first.split ∷ xs) (splits_more rows added rest)
@@ -243,3 +247,11 @@ module _ (extents : Extents) (splits : List Split) (rows : List SizedSplit) (res
       subst (λ (r : List SizedSplit). RowsLeft extents splits r (take (length rest - 1) (drop 1 rest)))
       (sym (new_is ∙ ap (λ (r : SizedSplit). rows ++ r ∷ []) (row_is ∙ ap (λ (z : LoopSize). row_of z first) found)))
       (one_more extents splits rows first (take (length rest - 1) (drop 1 rest)) parted)
+
+pub all_rows : (extents : Extents) (splits : List Split) (rows : List SizedSplit) → RowsLeft extents splits rows [] → splits_of rows ≡ splits
+all_rows extents splits rows left = sym (append-nil (splits_of rows)) ∙ left.all
+
+pub is_kept : (extents : Extents) (splits : List Split) (rows : List SizedSplit) → AreSplits splits → RowsLeft extents splits rows [] → IsKept extents rows
+is_kept extents splits rows are left =
+    let all : splits_of rows ≡ splits = all_rows extents splits rows left in
+    record { table = ap (rows_from extents []) all ∙ sym left.made; splits = subst AreSplits (sym all) are }

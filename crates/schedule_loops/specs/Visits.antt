@@ -222,6 +222,9 @@ iteration extents stage number =
 abbrev pub points_written : (Visit → ℕ × ℕ) → Extents → Stage → ℕ → List (ℕ × ℕ)
 points_written left extents stage number = map left (iteration extents stage number)
 
+abbrev pub own_point : Visit → ℕ × ℕ
+own_point visit = (visit.x, visit.y)
+
 -- ---- iterations in any order
 
 -- what the iterations of a list visit, one after the other

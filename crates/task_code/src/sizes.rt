@@ -1,4 +1,4 @@
-//! How many words of code a loop may ask for, counted up to 2^18: no text has more.
+//! How many words of code a task may ask for, counted up to 2^18: no text has more.
 
 ghost use Rattle.std.specs.Prelude.{◌≡◌, ℕ, ◌+◌, ◌*◌, ◌^◌, ◌≤◌, if◌then◌else◌, min};
 ghost use Rattle.loop_ir.specs.Sizes as spec;

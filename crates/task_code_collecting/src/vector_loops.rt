@@ -1,4 +1,4 @@
-//! The loops that rounds are of.
+//! A vectorized loop, taken apart.
 
 use loop_ir::expressions::Counter;
 use loop_ir::statements::Stmt;

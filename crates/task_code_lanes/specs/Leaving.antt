@@ -1,7 +1,6 @@
--- What the code of an expression over lanes leaves, wherever it stands: the expression's value in each round. This project's own.
+-- What code over lanes leaves, wherever it stands: a number for each iteration of a loop. This project's own.
 use Rattle.std.specs.Prelude.{◌≡◌, ◌<◌, ◌≤◌, ◌⊎◌, ℕ, List}
 use Rattle.rv_insn.specs.declared.instructions.Insn.{Insn}
-use Rattle.loop_ir.specs.Expressions.{value}
 use Rattle.multi_hart_logic.specs.Alone.{World}
 use Rattle.multi_hart_logic.specs.Paths.{Line, lane, vl_number, vtype_number, LanesConfigured}
 use Rattle.task_code_lanes.specs.declared.groups.Group.{Group}

@@ -1,4 +1,5 @@
-//! Single vector instructions as words, on whole groups; none but merges goes by a mask.
+//! Vector instructions as words, some in pairs, on whole groups (of bytes: on one register); none but merges goes by a
+//! mask.
 
 ghost use Rattle.std.specs.Prelude.{◌≡◌, ◌<◌, ◌≤ℤ◌, [], ◌∷◌, OnOk, pos, negsuc, true};
 ghost use Rattle.rv_insn.specs.declared.instructions.Insn.TheVariants.{Vector};

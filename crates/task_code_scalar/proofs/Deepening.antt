@@ -16,7 +16,7 @@ use Rattle.loop_ir.specs.declared.expressions.Expr.TheVariants as e
 use Rattle.loop_ir.proofs.Folds.{Both, left_of, right_of, folds_related, at_binary, at_divide, at_remainder, at_select, at_load}
 use Rattle.task_code_scalar.specs.declared.places.Place.{Place}
 use Rattle.task_code_scalar.specs.declared.places.Places.{Places}
-use Rattle.task_code_scalar.specs.Code.{Made, Deep, EmitsValue, EmitsDeep, EmitsSecond, beside, second_code, second_depth, move, on_stack, deep_or, deep_leaf, deep_at, deep, made, made_at, frames_of, frame_words, literal, spill, unspill, chosen, operation, quotient, remainder, addressed, fetch, loading, place_of, second_need}
+use Rattle.task_code_scalar.specs.Code.{Made, Deep, EmitsValue, EmitsDeep, EmitsSecond, beside, second_code, second_depth, move, on_stack, deep_or, deep_leaf, deep_at, deep, made, made_at, frames_of, frame_words, literal, spill, unspill, chosen, operation, quotient, remainder, selection, addressed, fetch, loading, place_of, second_need}
 use Rattle.task_code_scalar.specs.Words.{Emits}
 use Rattle.task_code_scalar.proofs.Spelling.{emits_then}
 

@@ -1,5 +1,5 @@
 -- Runs as a log keeps them: where they are found, what one more makes of them, where they end.
-use Rattle.std.proofs.Common.{◌≡◌, ℕ, zero, suc, ◌+◌, ◌-◌, ◌<◌, ◌≤◌, true, false, cond, eqb, List, [], ◌∷◌, ◌++◌, length, drop, replicate, Option, Some, None, refl, sym, ap, subst, ◌∙◌, zero-add, arith, inl, inr}
+use Rattle.std.proofs.Common.{◌≡◌, ℕ, zero, suc, ◌+◌, ◌-◌, ◌<◌, ◌≤◌, Bool, true, false, cond, eqb, leb, List, [], ◌∷◌, ◌++◌, length, drop, replicate, Option, Some, None, refl, sym, ap, subst, ◌∙◌, zero-add, arith, inl, inr}
 use Rattle.std.specs.Prelude.{slice_get, get_or, set}
 use Rattle.std.specs.List.{flat_map}
 use Rattle.std.specs.List.Sorted.{IsNonDecreasingBy, IsPartitionPoint}
@@ -11,7 +11,7 @@ use Rattle.std.proofs.Math.Seq.{drop-nil}
 use Rattle.std.proofs.Math.Seq.{drop-append-add}
 use Rattle.turn_log.specs.TurnLog.{LogState, IsLog, count_of, most_turns}
 use Rattle.turn_log.specs.LogSpelling.{begins_with, expanded, runs_of, run_bytes, header, spelled}
-use Rattle.turn_log.specs.inner.Kept.{runs_from, turns_of, is_of, with_run, AreRuns, IsKept}
+use Rattle.turn_log.specs.inner.Kept.{runs_from, turns_of, is_of, with_run, IsRun, AreRuns, IsKept}
 use Rattle.turn_log.specs.RunAt.{ahead, first_run, run_at}
 use Rattle.turn_log.specs.declared.runs.Run.{Run}
 use Rattle.turn_log.specs.inner.Stretches.{Stretch}
@@ -230,11 +230,19 @@ with_run-opens [] run other = refl
 with_run-opens (first ∷ []) run other = sym (cond-false (eqb first.hart run.hart) (run ∷ []) (first ∷ run ∷ []) other)
 with_run-opens (first ∷ (second ∷ others)) run other = ap (λ (rs : List Stretch). first ∷ rs) (with_run-opens (second ∷ others) run other)
 
+pub some_runs : (runs : List Stretch) (hart : ℕ) → is_of (last_of runs) hart ≡ true → 1 ≤ length runs
+some_runs [] hart e = absurd cc
+some_runs (first ∷ others) hart e = omega arith
+
 -- ---- the last turn
 
 last_of-there : (first : Stretch) (others : List Stretch) → last_of (first ∷ others) ≡ None → ⊥
 last_of-there first [] e = cc
 last_of-there first (second ∷ others) e = last_of-there second others e
+
+pub no_turns : (runs : List Stretch) → last_of runs ≡ None → turns_of runs ≡ []
+no_turns [] e = refl
+no_turns (first ∷ others) e = absurd (last_of-there first others e)
 
 pub last_hart-none : (runs : List Stretch) → last_of runs ≡ None → slice_get (turns_of runs) (length (turns_of runs) - 1) ≡ None
 last_hart-none [] e = refl
@@ -261,6 +269,9 @@ pub last_turn-other : (harts : ℕ) (runs : List Stretch) (hart : ℕ) → AreRu
 last_turn-other harts runs hart are other = other_hart harts runs hart (last_of runs) refl are other
 
 -- ---- how many turns
+
+pub length-none : (runs : List Stretch) → last_of runs ≡ None → length (turns_of runs) ≡ 0
+length-none runs e = ap length (no_turns runs e)
 
 pub length-some : (harts : ℕ) (runs : List Stretch) (run : Stretch) → AreRuns harts (runs_from 0 runs) → last_of runs ≡ Some run → length (turns_of runs) ≡ run.end
 length-some harts runs run are e =

@@ -1,16 +1,16 @@
 -- The laws of reading: what is read is spelled so, what is spelled so is read, whatever follows.
-use Rattle.std.proofs.Common.{◌≡◌, ℕ, zero, suc, ◌+◌, ◌*◌, Bool, true, false, cond, eqb, List, [], ◌∷◌, ◌++◌, length, drop, Result, Ok, Err, refl, sym, ap, subst, ◌∙◌, arith}
+use Rattle.std.proofs.Common.{◌≡◌, ℕ, zero, suc, ◌+◌, ◌*◌, ◌^◌, ◌<◌, ◌≤◌, Bool, true, false, cond, eqb, List, [], ◌∷◌, ◌++◌, length, drop, replicate, Result, Ok, Err, refl, sym, ap, subst, ◌∙◌, arith}
 use Rattle.std.specs.Prelude.{IfOk, IfErr}
-use Rattle.std.specs.List.{flat_map}
+use Rattle.std.specs.List.{flat_map, AllByRecursion}
 use Rattle.std.proofs.lemmas.Bool.{eqb-true}
 use Rattle.std.proofs.lemmas.List.{append_assoc, append-nil, nil_from_length, length-append}
 use Rattle.turn_log.specs.TurnLog.{LogState, IsLog}
-use Rattle.turn_log.specs.LogSpelling.{runs_of, expanded, run_bytes, header, spelled, ◌>>=◌, header_at, front_run, front_runs, log_at, log_of, Answers, Refuses}
+use Rattle.turn_log.specs.LogSpelling.{runs_of, expanded, run_bytes, header, spelled, ◌>>=◌, header_at, run_read, front_run, front_runs, log_at, log_of, Answers, Refuses}
 use Rattle.turn_log.specs.declared.log_faults.LogFault.{LogFault}
 use Rattle.turn_log.specs.declared.log_faults.LogFault.TheVariants.{Magic, Truncated, Hart, NotCanonical, TooManyTurns, OutOfMemory}
 use Rattle.turn_log.specs.declared.runs.Run.{Run}
 use Rattle.turn_log.proofs.RunLaws.{AllFollow, AllFollow-log, IsLog-expanded, AreRuns-from_follow, runs_of-expanded, expanded-runs_of, few_runs}
-use Rattle.turn_log.proofs.LogFields.{IsBytes, IsBytes-drop, bind_ok, ok_is, header_takes, header_again, drop-header, length-header, run_takes, run_again, length-run}
+use Rattle.turn_log.proofs.LogFields.{IsBytes, IsBytes-drop, bind_ok, ok_is, header_takes, header_again, drop-header, length-header, run_takes, run_again, run_read-again, drop-run, length-run}
 
 -- ---- runs
 

@@ -1,10 +1,12 @@
 -- Runs of turns: the turns that they stand for, and the longest runs of turns.
-use Rattle.std.proofs.Common.{◌≡◌, ℕ, zero, suc, ◌+◌, ◌-◌, ◌*◌, ◌<◌, ◌≤◌, Bool, true, false, cond, eqb, List, [], ◌∷◌, ◌++◌, length, All, replicate, refl, sym, ap, subst, ◌∙◌, arith, add-one, inl, inr}
-use Rattle.std.specs.List.{AllByRecursion}
+use Rattle.std.proofs.Common.{◌≡◌, ℕ, zero, suc, ◌+◌, ◌-◌, ◌*◌, ◌^◌, ◌<◌, ◌≤◌, Bool, true, false, cond, eqb, List, [], ◌∷◌, ◌++◌, length, drop, All, replicate, Some, None, refl, sym, ap, subst, ◌∙◌, arith, add-one, one-add, inl, inr}
+use Rattle.std.specs.Prelude.{slice_get, sum, get_or}
+use Rattle.std.specs.List.{prefix_len, AllByRecursion}
 use Rattle.std.proofs.lemmas.Bool.{cond_both, cond-true, cond-false, eqb-true, eqb-false, eq-eqb, ne_eqb, cases_Bool}
-use Rattle.std.proofs.lemmas.List.Elements.{All-append, All-replicate, All-nil, recursion_from_All}
+use Rattle.std.proofs.lemmas.List.{get_or-replicate}
+use Rattle.std.proofs.lemmas.List.Elements.{All-append, All-push, All-replicate, All-nil, recursion_from_All}
 use Rattle.std.proofs.lemmas.List.Folds.{sum_by-replicate}
-use Rattle.std.proofs.lemmas.List.Sums.{sum_by-cons, sum_by-append}
+use Rattle.std.proofs.lemmas.List.Sums.{sum_by-cons, sum_by-append, sum_by_push}
 use Rattle.turn_log.specs.TurnLog.{LogState, count_of, most_turns, IsLog}
 use Rattle.turn_log.specs.LogSpelling.{begins_with, joined, runs_of, expanded, total_of}
 use Rattle.turn_log.specs.inner.Kept.{IsRun, AreRuns}
@@ -136,6 +138,11 @@ AllFollow-from_runs harts before (run ∷ runs) are apart few =
 next_apart : (harts : ℕ) (before : List Run) (run : Run) (runs : List Run) → AllFollow harts (run ∷ before) runs → begins_with runs run.hart ≡ false
 next_apart harts before run [] all = refl
 next_apart harts before run (next ∷ runs) all = other_way run.hart next.hart all.0.other
+
+-- what follows has a length of eight bytes
+pub lengths_fit : (harts : ℕ) (before runs : List Run) → AllFollow harts before runs → AllByRecursion (λ run. run.length < 2 ^ 64) runs
+lengths_fit harts before [] all = tt
+lengths_fit harts before (run ∷ runs) all = (let few = all.0.few in omega (arith, few), lengths_fit harts (run ∷ before) runs all.1)
 
 pub AreRuns-from_follow : (harts : ℕ) (before runs : List Run) → AllFollow harts before runs → AreRuns harts runs
 AreRuns-from_follow harts before [] all = tt

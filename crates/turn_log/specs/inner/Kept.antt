@@ -1,7 +1,7 @@
 -- How a log keeps its turns: as runs, each with the number of turns up to its end.
 -- This project's own.
 use Rattle.std.specs.Prelude.{◌≡◌, ℕ, ◌-◌, ◌<◌, ◌==◌, Bool, false, Option, Some, None, if◌then◌else◌, List, [], ◌∷◌, length, slice_index}
-use Rattle.turn_log.specs.TurnLog.{IsLog, count_of}
+use Rattle.turn_log.specs.TurnLog.{LogState, IsLog, count_of}
 use Rattle.turn_log.specs.LogSpelling.{begins_with, expanded}
 use Rattle.turn_log.specs.declared.runs.Run.{Run}
 use Rattle.turn_log.specs.inner.Stretches.{Stretch}

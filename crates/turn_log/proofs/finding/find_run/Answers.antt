@@ -1,4 +1,4 @@
-use Rattle.std.proofs.Common.{◌≡◌, ℕ, ◌-◌, slice_get, Some, ap, sym, ◌∙◌, ltb-false, ltb-true, arith}
+use Rattle.std.proofs.Common.{◌≡◌, ℕ, ◌-◌, true, slice_get, Some, None, ap, sym, ◌∙◌, get_or, ltb-false, ltb-true, arith}
 use Rattle.std.proofs.lemmas.Option.{slice_get_past, slice_get-get_or}
 use Rattle.turn_log.specs.inner.Stretches.{Stretch}
 use Rattle.turn_log.proofs.KeptLaws.{ends_rise, run_at-found, from}

@@ -1,11 +1,11 @@
-use Rattle.std.proofs.Common.{◌≡◌, ℕ, ◌+◌, ◌≤◌, List, [], ◌∷◌, ◌++◌, drop, replicate, Ok, Err, sym, ap, subst, ◌∙◌}
+use Rattle.std.proofs.Common.{◌≡◌, ℕ, ◌+◌, ◌<◌, ◌≤◌, List, [], ◌∷◌, ◌++◌, drop, replicate, Ok, Err, refl, sym, ap, subst, ◌∙◌, arith}
 use Rattle.std.proofs.lemmas.Result.{err_from_is_err_and}
 use Rattle.turn_log.specs.TurnLog.{LogState, count_of, most_turns}
 use Rattle.turn_log.specs.LogSpelling.{log_of, front_runs, judged}
 use Rattle.turn_log.specs.declared.log_faults.LogFault.TheVariants.{Truncated}
 use Rattle.turn_log.proofs.LogFields.{judged_takes}
 use Rattle.turn_log.proofs.LogLaws.{refused, header_refused, runs_refused, trailing_refused, whole_log}
-use Rattle.turn_log.proofs.Judging.{behind, starts, goes_on, ends_short, ends_judged, is_done, expanded-all, total_of-before}
+use Rattle.turn_log.proofs.Judging.{behind, with_front, starts, goes_on, ends_short, ends_judged, is_done, expanded-all, total_of-before}
 use Rattle.turn_log.proofs.log_reading.read_log.Goals as goal
 
 pub returns-in_err-harts-clause-err : goal.returns-in_err-harts-clause-err

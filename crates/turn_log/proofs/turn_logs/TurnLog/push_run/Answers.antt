@@ -1,6 +1,6 @@
-use Rattle.std.proofs.Common.{◌≡◌, ◌≢◌, ℕ, ◌+◌, ◌-◌, ◌<◌, ◌≤◌, List, ◌++◌, replicate, length, slice_get, Some, Result, Ok, Err, OnErr, false, ap, sym, subst, ◌∙◌, arith}
+use Rattle.std.proofs.Common.{◌≡◌, ◌≢◌, ℕ, ◌+◌, ◌-◌, ◌<◌, ◌≤◌, List, ◌++◌, replicate, length, slice_get, Some, Result, Ok, Err, OnErr, false, ap, sym, subst, ◌∙◌, arith, rules}
 use Rattle.turn_log.specs.TurnLog.{LogState, count_of, most_turns}
-use Rattle.turn_log.specs.inner.Kept.{turns_of, is_of}
+use Rattle.turn_log.specs.inner.Kept.{turns_of, is_of, IsKept}
 use Rattle.turn_log.specs.inner.Stretches.{Stretch}
 use Rattle.turn_log.proofs.RunLaws.{few_turns_all}
 use Rattle.turn_log.proofs.KeptLaws.{grown, last_at, last_of, last_turn-other}
