@@ -27,7 +27,7 @@ use Rattle.bounds.specs.Boxes.{no_loops, lasts_of, taken_over, taken, no_spread,
 use Rattle.bounds.specs.Verdict.{inferred}
 use Rattle.bounds.specs.Views.{view_of}
 use Rattle.bounds_laws.specs.Laws.{consumer_in, IsComputed}
-use Rattle.bounds_laws.specs.Least.{IsLeast, asked_of, asked_by_updates, asked_by_func, asked_by, asked_from, wanted_of, FuncBoxesAreLeast, InputBoxesAreLeast, InputsWithoutBoxes}
+use Rattle.bounds_laws.specs.Least.{IsLeast, asked_of, asked_by_updates, asked_by_func, asked_by, asked_from, wanted_of, columns_asked, rows_asked, FuncBoxesAreLeast, InputBoxesAreLeast, InputsWithoutBoxes}
 use Rattle.bounds_laws.proofs.BoxFacts.{has_box}
 use Rattle.bounds_laws.proofs.Covering.{taken_fits}
 use Rattle.bounds_laws.proofs.Found.{are_found, in_front_is, inputs_at, got}

@@ -8,7 +8,7 @@ use Rattle.schedule.specs.declared.standings.Place.{Place}
 use Rattle.schedule.specs.declared.standings.Place.TheVariants as places
 use Rattle.schedule.specs.declared.standings.Standing.{Standing}
 use Rattle.schedule.specs.Accepted.{IsAccepted}
-use Rattle.schedule.specs.Standing.{place_calls, standings_from}
+use Rattle.schedule.specs.Standing.{place_calls, standings_from, is_within}
 use Rattle.schedule.specs.Legal.{is_inlined}
 use Rattle.schedule.specs.Standing as standing
 use Rattle.schedule.specs.Uses.{IsReached, StandsWithin, Consumer, Computed, Inlined, HasUsesWithin, HasConsumerAtRoot, IsRootReached}

@@ -10,7 +10,7 @@ use Rattle.halide_pipeline.specs.declared.expressions.Expr.{Expr}
 use Rattle.halide_pipeline.specs.declared.expressions.Source.TheVariants as sources
 use Rattle.halide_pipeline.specs.declared.expressions.Variable.{Variable}
 use Rattle.halide_pipeline.specs.declared.expressions.Variable.TheVariants as variables
-use Rattle.halide_pipeline.specs.WellFormed.{dimensions, IsWellFormed, IsUpdate, is_update_variable, is_minimum, is_width, is_box, is_height, most_extent, most_points, is_second_minimum, keeps, keeps_index, is_read}
+use Rattle.halide_pipeline.specs.WellFormed.{dimensions, IsWellFormed, IsFunc, IsUpdate, is_update_variable, is_minimum, is_width, is_box, is_height, most_extent, most_points, is_second_minimum, keeps, keeps_index, is_read}
 use Rattle.halide_pipeline.specs.Pipelines.{Pipeline}
 use Rattle.halide_pipeline.specs.WellFormed as formed
 use Rattle.halide_pipeline.specs.Words.{add}

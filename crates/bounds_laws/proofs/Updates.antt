@@ -39,6 +39,9 @@ module _ (consumer : Option ConsumerLoop) (lasts values : List ℕ) (own : Below
   after : (spread : Spread) (some more : List Asked) → Holds (from (from spread some) more) → Holds (from spread (some ++ more))
   after spread some more holds = subst (λ (s : Spread). Holds s) (sym (gathered_both consumer lasts source true true spread some more)) holds
 
+  fits_from : (spread : Spread) (asked : List Asked) → IsSpread (lasts_of consumer) spread → IsSpread (lasts_of consumer) (from spread asked)
+  fits_from spread asked fits = gathered_fits consumer lasts source true true spread asked fits
+
 module _ (pipeline : Pipeline) (flags : List Bool) (reader : ℕ) (view : SourceBox) (consumer : Option ConsumerLoop) (values : List ℕ) (own : Below values view.lasts) (inside : Below (values_for consumer values) (lasts_of consumer))
     (source : Source) (points : List Point) where
   -- one update of several

@@ -1,10 +1,10 @@
 -- A front of an algorithm with more bytes than any has decides that it is refused, and a front with its first line the fault.
-use Rattle.std.proofs.Common.{◌≡◌, ◌∙◌, ◌<◌, ◌+◌, ℕ, Bool, true, false, List, [], ◌∷◌, ◌++◌, length, Option, Some, None, Result, Ok, Err, append_assoc, arith, refl, sym, ap, cond}
+use Rattle.std.proofs.Common.{◌≡◌, ◌∙◌, ◌<◌, ◌+◌, ◌||◌, ℕ, suc, Bool, true, false, nat_lt, List, [], ◌∷◌, ◌++◌, length, Option, Some, None, Result, Ok, Err, append_assoc, arith, refl, sym, ap, cond, subst}
 use Rattle.std.specs.Prelude.{◌==◌, ◌≢◌}
 use Rattle.std.specs.declared.alloc.Global.{Global}
 use Rattle.std.proofs.lemmas.Bool.{eqb-true, lt-ltb}
 use Rattle.std.proofs.lemmas.List.{length-append}
-use Rattle.line_text.specs.Lines.{◌>>=◌, taken_from, IsLine, joined, lines_of}
+use Rattle.line_text.specs.Lines.{◌>>=◌, located, taken_from, IsLine, joined, lines_of}
 use Rattle.halide_pipeline.specs.Pipelines.{Pipeline}
 use Rattle.halide_parser_syntax.specs.declared.faults.ParseFault.{ParseFault}
 use Rattle.halide_parser_syntax.specs.declared.faults.ParseFault.TheVariants as fault
@@ -14,7 +14,7 @@ use Rattle.halide_parser_syntax.specs.Grammar.{Written}
 use Rattle.halide_parser_syntax.specs.Tokens.{tokens_of}
 use Rattle.halide_parser_syntax.specs.inner.LineReading.{line_of}
 use Rattle.halide_parser.specs.declared.readers.Reader.{Reader}
-use Rattle.halide_parser.specs.Parsing.{finished, is_oversized, most_text, parsed, parsed_by, settled_as, settled_if, start, taken_by}
+use Rattle.halide_parser.specs.Parsing.{finished, is_oversized, most_text, parsed, parsed_by, settled, settled_as, settled_if, start, taken_by}
 use Rattle.halide_parser.specs.Expressions.{exceeds, is_bad_divisor_at, scope_of}
 use Rattle.halide_parser.specs.Rules.{fault_of, has_large, is_behind_output, is_misshapen, is_over_limit, is_taken, is_unknown, is_wrong_count, line_has}
 

@@ -9,6 +9,7 @@ pub mod Numbers
 pub mod PictureFronts
 pub mod Pixels
 pub mod Printing
+pub mod Reading
 pub mod Runs
 pub mod Sources
 pub mod Splits

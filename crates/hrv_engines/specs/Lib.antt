@@ -9,6 +9,7 @@ pub mod Dis
 pub mod Drawing
 pub mod Dump
 pub mod Engine
+pub mod Faults
 pub mod Map
 pub mod Refusals
 pub mod Renew

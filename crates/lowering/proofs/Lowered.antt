@@ -33,7 +33,7 @@ use Rattle.bounds_laws.proofs.OwnReads.{output_lies}
 use Rattle.bounds_laws.proofs.PutIn.{pair_there}
 use Rattle.loop_ir.specs.declared.statements.Phase.{Phase}
 use Rattle.loop_ir.specs.Buffers.{Points}
-use Rattle.lowering.specs.Lowered.{IsStagePhase, Pure, Updating, ArePhasesOf, None_yet, IsNotAtRoot, AreLowered, No_func, Passed, Computed, tasks_of, PhasesDoPixels, PhasesLeaveOutput}
+use Rattle.lowering.specs.Lowered.{IsStagePhase, Pure, Updating, ArePhasesOf, None_yet, IsNotAtRoot, AreLowered, No_func, Passed, Computed, tasks_of, DoPixels, LeaveOutput, PhasesDoPixels, PhasesLeaveOutput}
 use Rattle.lowering.specs.Lowered as lowered
 use Rattle.lowering.specs.Order.{Tasks, DoPhases, None_left, Same, One_more, AgreeThere}
 use Rattle.lowering.specs.Phases.{DoesPhase}

@@ -1,8 +1,8 @@
 -- A consumer whose innermost loop is vectorized stores its points by the runs of that loop. Nests of Funcs at its loops store none of them.
-use Rattle.std.proofs.Common.{◌≡◌, ℕ, zero, suc, ◌^◌, inl, inr, ◌<◌, ◌≤◌, Bool, true, false, List, [], ◌∷◌, ◌++◌, Option, Some, None, refl, sym, ap, subst, ◌∙◌, arith, true≢false}
+use Rattle.std.proofs.Common.{◌≡◌, ℕ, zero, suc, ◌^◌, inl, inr, ◌<◌, ◌≤◌, Bool, true, false, cond, List, [], ◌∷◌, ◌++◌, Option, Some, None, refl, sym, ap, subst, ◌∙◌, arith, true≢false}
 use Rattle.std.specs.Prelude.{◌==◌, ◌&&◌, ◌||◌, nat_lt, not, slice_get}
 use Rattle.std.specs.List.{AllByRecursion, list_all, list_any}
-use Rattle.std.proofs.lemmas.Bool.{and_from, eq-eqb, ne_eqb, cases_eq, lt-ltb}
+use Rattle.std.proofs.lemmas.Bool.{and_from, eq-eqb, eqb-true, ne_eqb, cases_eq, lt-ltb}
 use Rattle.std.proofs.lemmas.List.Folds.{list_any-append}
 use Rattle.halide_pipeline.specs.declared.definitions.Func.{Func}
 use Rattle.halide_pipeline.specs.declared.expressions.Variable.TheVariants as variables
@@ -17,7 +17,7 @@ use Rattle.schedule.specs.declared.standings.LoopPlace.{LoopPlace}
 use Rattle.schedule.specs.Accepted.{IsAccepted}
 use Rattle.schedule_loops.specs.declared.extents.Extents.{Extents}
 use Rattle.schedule_loops.specs.Visits as loops
-use Rattle.schedule_loops.specs.Visits.{upto, nest, over_loops, visit_of, is_slice}
+use Rattle.schedule_loops.specs.Visits.{parallel, upto, nest, over_loops, visit_of, is_slice}
 use Rattle.schedule_loops.specs.Reach.{wholes}
 use Rattle.schedule_loops.specs.Runs.{AreTurns, is_vectorized_loop, innermost, outside_innermost, turns_of, run_of, are_turns, is_vectorized_first}
 use Rattle.schedule_loops.specs.Stages.{IsStageOf, KeepsRules}
@@ -33,7 +33,7 @@ use Rattle.loop_ir.proofs.Runs.{others_store_in_no_run}
 use Rattle.lowering_nests.specs.Nests.{loops_of, put_loops, AreSmall, Repeats}
 use Rattle.lowering_nests.specs.Rounds.{IsLeaf}
 use Rattle.lowering_nests.proofs.Rounds.{turns_more}
-use Rattle.lowering.specs.Consuming.{consuming, in_runs_first, IsNestAt, HasNests, None_left, One_more, HasLoops, No_loops, One_outside, HasOutermost}
+use Rattle.lowering.specs.Consuming.{consuming, in_runs_first, IsNestAt, IsNestOf, HasNests, None_left, One_more, HasLoops, No_loops, One_outside, HasOutermost}
 use Rattle.lowering.specs.PurePhases.{MissesPure, whole_at}
 use Rattle.lowering.specs.Runs.{is_in_run}
 use Rattle.lowering.proofs.Facts.{produced_before}

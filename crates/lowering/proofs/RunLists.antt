@@ -1,6 +1,6 @@
 -- The runs of a stage are those of all turns of its loops outside the innermost one.
-use Rattle.std.proofs.Common.{◌≡◌, ℕ, zero, suc, ◌<◌, Bool, true, false, cond, List, [], ◌∷◌, refl, sym, ap, subst, ◌∙◌, arith, inl, inr}
-use Rattle.std.specs.Prelude.{◌||◌, nat_lt, slice_index_or, Contains}
+use Rattle.std.proofs.Common.{◌≡◌, ℕ, zero, suc, ◌<◌, Bool, true, false, cond, List, [], ◌∷◌, ◌++◌, refl, sym, ap, subst, ◌∙◌, arith, inl, inr}
+use Rattle.std.specs.Prelude.{◌||◌, nat_lt, ◌⊎◌, slice_index_or, Contains}
 use Rattle.std.proofs.lemmas.Bool.{and_parts, ltb-true}
 use Rattle.std.proofs.lemmas.List.Elements.{Contains-append_cases}
 use mathlib.Core.Path.{fun_ext}
@@ -12,7 +12,7 @@ use Rattle.schedule_loops.specs.declared.extents.Extents.{Extents}
 use Rattle.schedule_loops.specs.Visits as loops
 use Rattle.schedule_loops.specs.Runs.{AreTurns, innermost, outside_innermost, is_among, turns_of, run_of, runs, are_turns}
 use Rattle.schedule_loops.specs.Visits.{Visit, upto, nest, over_loops, visit_of, zeros}
-use Rattle.schedule_loops.proofs.Ids.{cases_id, with_same, with_other}
+use Rattle.schedule_loops.proofs.Ids.{cases_id, same_id-true, with_same, with_other}
 use Rattle.lowering.specs.Runs.{IsRunOf, RunsAreListed}
 use Rattle.lowering.proofs.LoopTurns.{contains_upto}
 

@@ -10,7 +10,8 @@ use Rattle.halide_pipeline.specs.declared.definitions.Update.{Update}
 use Rattle.halide_pipeline.specs.Pipelines.{Pipeline}
 use Rattle.schedule_lines.specs.declared.stages.Loop.{Loop}
 use Rattle.schedule_lines.specs.declared.stages.Stage.{Stage}
-use Rattle.schedule_lines.specs.Directives.{same_id}
+use Rattle.schedule_lines.specs.declared.stages.Mark.TheVariants as marks
+use Rattle.schedule_lines.specs.Directives.{is_marked, same_id}
 use Rattle.schedule_lines.specs.Making.{total}
 use Rattle.schedule.specs.declared.plans.FuncPlan.{FuncPlan}
 use Rattle.schedule.specs.declared.schedules.Schedule.{Schedule}
@@ -31,7 +32,7 @@ use Rattle.bounds.specs.declared.boxes.SourceBox.{SourceBox}
 use Rattle.bounds.specs.declared.verdict.Boxes.{Boxes}
 use Rattle.loop_ir.specs.declared.statements.Phase.{Phase}
 use Rattle.loop_ir.specs.declared.statements.Stmt.{Stmt}
-use Rattle.loop_ir.specs.Sizes.{whole_size}
+use Rattle.loop_ir.specs.Sizes.{loop_room, whole_size}
 use Rattle.lowering.specs.ProducedFuncs.{is_computed_at, is_at_loop, is_at_loop_of}
 use Rattle.lowering.specs.Consuming.{IsNestAt, IsNestOf, HasNests, None_left, One_more, HasLoops, No_loops, One_outside, HasOutermost, IsBody, size_first}
 use Rattle.lowering.specs.PurePhases.{is_at_root, inside_of}
@@ -39,7 +40,7 @@ use Rattle.bounds.specs.Stages.{IsAtRoot}
 use Rattle.lowering.specs.Lowered as lowered
 use Rattle.lowering.specs.Sizes.{IsLight, update_share, shares, func_share, placed_share, phase_share, words_of, summed, produced_share, produced_shares}
 use Rattle.schedule.specs.Standing.{pure_loops_of}
-use Rattle.lowering.proofs.Copies.{ArePaid, times-most, times-some, loop-paid, last-copies, paid-at, copies-at}
+use Rattle.lowering.proofs.Copies.{ArePaid, Paid, times-most, times-some, copies-some, loop-paid, last-copies, paid-at, copies-at}
 use Rattle.lowering.proofs.TaskRounds.{outside_of, loops_by}
 
 -- ---- sums over places
@@ -55,6 +56,14 @@ summed-most f g most at (suc n) = omega (arith, most at, summed-most f g most (s
 pub summed-none : (at n : ℕ) → summed (λ k. 0) at n ≡ 0
 summed-none at zero = refl
 summed-none at (suc n) = omega (arith, summed-none (suc at) n)
+
+pub summed-one : (f : ℕ → ℕ) (at n k : ℕ) → at ≤ k → k < at + n → f k ≤ summed f at n
+summed-one f at zero k low high = absurd (omega (arith, low, high))
+summed-one f at (suc n) k low high = here (at == k) refl (λ apart. summed-one f (suc at) n k apart (omega (arith, high)))
+  where
+    here : (t : Bool) → (at == k) ≡ t → (suc at ≤ k → f k ≤ summed f (suc at) n) → f k ≤ f at + summed f (suc at) n
+    here true e later = let same : at ≡ k = grind (arith, nat_tests, e) in let i : f at ≡ f k = ap f same in omega (arith, i)
+    here false e later = let apart : suc at ≤ k = grind (arith, nat_tests, e, low) in let l = later apart in omega (arith, l)
 
 pub last-summed : (f : ℕ → ℕ) (at n : ℕ) → summed f at (suc n) ≡ summed f at n + f (at + n)
 last-summed f at zero = let e : f at ≡ f (at + 0) = ap f (omega arith) in omega (arith, e)
@@ -144,6 +153,14 @@ module _ (pipeline : Pipeline) (schedule : Schedule) (boxes : Boxes) where
   around-append : (consumer : ℕ) (inside outside : List Loop) (place : ℕ) → around consumer (inside ++ outside) place ≡ around consumer inside place + around consumer outside place
   around-append consumer [] outside place = omega arith
   around-append consumer (own ∷ inside) outside place = omega (arith, around-append consumer inside outside place)
+
+  around-summed : (consumer : ℕ) (inside : List Loop) (own : Loop) (n : ℕ)
+      → summed (around consumer (inside ++ own ∷ [])) 0 n ≤ summed (around consumer inside) 0 n + summed (share_at (record { func = consumer; inside = own.id })) 0 n
+  around-summed consumer inside own n =
+      let l = summed-most (around consumer (inside ++ own ∷ [])) (λ k. around consumer inside k + share_at (record { func = consumer; inside = own.id }) k)
+      (λ k. let e = around-append consumer inside (own ∷ []) k in omega (arith, e)) 0 n in
+      let m = summed-more (around consumer inside) (share_at (record { func = consumer; inside = own.id })) 0 n in
+      omega (arith, l, m)
 
   summed-around : (consumer : ℕ) (inside : List Loop) (own : Loop) (n : ℕ)
       → summed (around consumer inside) 0 n + summed (share_at (record { func = consumer; inside = own.id })) 0 n ≤ summed (around consumer (inside ++ own ∷ [])) 0 n

@@ -9,7 +9,7 @@ use Rattle.halide_pipeline.specs.declared.definitions.Reduction.{Reduction}
 use Rattle.halide_pipeline.specs.declared.definitions.Update.{Update}
 use Rattle.halide_pipeline.specs.declared.expressions.Expr.{Expr}
 use Rattle.halide_pipeline.specs.declared.expressions.Variable.TheVariants as variables
-use Rattle.halide_pipeline.specs.WellFormed.{dimensions, is_first_in_place, is_second, is_second_in_place, IsUpdate, is_width, is_height, is_box, keeps_index, is_read, is_update_variable, most_points}
+use Rattle.halide_pipeline.specs.WellFormed.{dimensions, is_first_in_place, is_second, is_second_in_place, IsWellFormed, IsUpdate, is_width, is_height, is_box, keeps_index, is_read, is_update_variable, most_points}
 use Rattle.halide_pipeline.specs.WellFormed as formed
 use Rattle.halide_pipeline.specs.Pixel.{points, second_extent}
 use Rattle.schedule_lines.specs.declared.stages.Loop.{Loop}

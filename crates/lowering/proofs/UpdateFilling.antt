@@ -38,7 +38,7 @@ use Rattle.lowering.specs.Corners.{first_of, turns_for, IsCorner, AreCorners}
 use Rattle.lowering.specs.Consuming.{consuming, Leaves, DoesFirst, DoesNest, DoesNests, IsSoundNest}
 use Rattle.lowering.specs.Planes.{box_points}
 use Rattle.bounds.specs.Stages.{IsComputedAt}
-use Rattle.lowering.specs.Updates.{IsComputedIn, IsCornerAt, IsBegin, ReadsPixels, LoadsOthers, DoesUpdate, AreSoundLoops, produced_turns, consumer_at}
+use Rattle.lowering.specs.Updates.{IsComputedIn, IsUpdateAt, IsCornerAt, IsBegin, ReadsPixels, LoadsOthers, DoesUpdate, AreSoundLoops, produced_turns, consumer_at}
 use Rattle.lowering.specs.Updates as updates
 use Rattle.lowering.proofs.Facts as facts
 use Rattle.lowering.proofs.Facts.{is_box, produced_before}

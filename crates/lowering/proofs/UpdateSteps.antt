@@ -31,7 +31,7 @@ use Rattle.bounds.specs.declared.verdict.Boxes.{Boxes}
 use Rattle.bounds.specs.Boxes.{lasts_of, same_source}
 use Rattle.bounds.specs.Extents.{box_in, extent, update_extents, BoxCorner}
 use Rattle.bounds.specs.Verdict.{inferred}
-use Rattle.bounds_laws.specs.ConsumerLaws.{IsInPlace}
+use Rattle.bounds_laws.specs.ConsumerLaws.{IsProduced, IsInPlace}
 use Rattle.bounds_laws.specs.Laws.{LiesIn, AreBoxed, IsNear, IsComputed, update_points}
 use Rattle.bounds_laws.proofs.OwnPoints.{own_points_lie}
 use Rattle.bounds_laws.proofs.PutIn.{flags}
@@ -87,6 +87,12 @@ module _ (pipeline : Pipeline) (schedule : Schedule) (boxes : Boxes) (rules : Is
 
   abbrev answers : ℕ → Reads
   answers = wanted pipeline schedule rules accepted place func func_is standing there computed at update update_is inputs begun
+
+  produced : IsProduced (consumer_at schedule boxes standing) own
+  produced = visiting.produced pipeline schedule boxes rules is place func own func_is box_is standing there computed at update update_is turns below begin begins before corner corner_is
+
+  below_own : Below values own.lasts
+  below_own = visiting.below_own pipeline schedule boxes rules is place func own func_is box_is standing there computed at update update_is turns below begin begins before corner corner_is
 
   points_own : (i j : ℕ) → boxed place i j ≡ has_point (Some own) i j
   points_own i j = ap (λ (o : Option (Option SourceBox)). has_point (box_in o) i j) box_is

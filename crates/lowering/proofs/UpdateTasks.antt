@@ -10,7 +10,7 @@ use Rattle.halide_pipeline.specs.declared.expressions.Variable.TheVariants as va
 use Rattle.halide_pipeline.specs.WellFormed.{is_first_in_place, is_second_in_place, IsWellFormed}
 use Rattle.halide_pipeline.specs.Pipelines.{Pipeline}
 use Rattle.halide_pipeline.specs.Words as word
-use Rattle.halide_pipeline.specs.Pixel.{Planes, Reads, reads_of, pixels, points, second_extent}
+use Rattle.halide_pipeline.specs.Pixel.{Plane, Planes, Reads, reads_of, with_plane, pixels, points, second_extent}
 use Rattle.halide_pipeline.specs.Points.{Point}
 use Rattle.halide_pipeline.specs.Pixel as meaning
 use Rattle.schedule_lines.specs.declared.stages.Loop.{Loop}

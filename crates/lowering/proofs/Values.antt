@@ -106,6 +106,12 @@ module _ (pipeline : Pipeline) (schedule : Schedule) (boxes : Boxes) (rules : Is
       let p = pair_there IsPlan pipeline.funcs schedule.funcs k f.value accepted.plans f.is in
       (pair_at IsLegal schedule.funcs schedule.standings k p.value standing accepted.legal p.is there.standing there.reached).somewhere
 
+  computed_by : (k : ℕ) (standing : Standing) → IsReached schedule.standings k standing → (p : Place) → standing.place ≡ p → is_inlined p ≡ false → is_nowhere p ≡ false → IsComputed k p
+  computed_by k standing there places.Root e plain some = tt
+  computed_by k standing there (places.At consumer) e plain some = produced_before pipeline schedule accepted k standing there consumer e
+  computed_by k standing there places.Inlined e plain some = absurd (true≢false plain)
+  computed_by k standing there places.Nowhere e plain some = absurd (true≢false some)
+
   module _ (begun : AnswerWords pipeline.inputs (reads_of inputs (pixels pipeline.funcs inputs 0)))
       (consumer : ℕ) (consumer_func : Func) (consumer_plan : FuncPlan) (consuming : SourceBox) (consumer_at : IsAtRoot pipeline schedule boxes consumer consumer_func consumer_plan consuming) (turned : loops.Values)
       (funcs : Planes)

@@ -110,6 +110,9 @@ module _ (extents : Extents) (is_update : Bool) (start : List Loop) where
         same_total (flaw (strides more) (counted more) start) (flaw (strides splits) (counted splits) start) (before ++ own ∷ after) (λ other there. old_flaw other (fine.is_sound.old other.id there))
         ∙ fine.flawless
 
+    own_there : 1 ≤ total (has_id own.id) (before ++ own ∷ after)
+    own_there = omega (arith, total-append (has_id own.id) before (own ∷ after), has_same own)
+
     own_fine : is_fine (strides splits) (counted splits) start own ≡ true
     own_fine = by_test (is_fine (strides splits) (counted splits) start own) refl
       where

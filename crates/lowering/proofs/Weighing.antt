@@ -4,12 +4,27 @@ use Rattle.std.specs.Prelude.{if◌then◌else◌, slice_get}
 use Rattle.halide_pipeline.specs.declared.definitions.Func.{Func}
 use Rattle.halide_pipeline.specs.declared.definitions.Update.{Update}
 use Rattle.halide_pipeline.specs.Pipelines.{Pipeline}
+use Rattle.schedule_lines.specs.declared.stages.Loop.{Loop}
+use Rattle.schedule_lines.specs.declared.stages.LoopId.{LoopId}
+use Rattle.schedule_lines.specs.declared.stages.Mark.TheVariants as marks
+use Rattle.schedule_lines.specs.declared.stages.Split.{Split}
 use Rattle.schedule_lines.specs.declared.stages.Stage.{Stage}
+use Rattle.schedule_lines.specs.Directives.{is_marked, same_id}
+use Rattle.schedule_lines.specs.Making.{IsStage, total}
 use Rattle.schedule.specs.declared.plans.FuncPlan.{FuncPlan}
 use Rattle.schedule.specs.declared.schedules.Schedule.{Schedule}
+use Rattle.schedule.specs.declared.standings.Place.{Place}
+use Rattle.schedule.specs.declared.standings.Place.TheVariants as places
 use Rattle.schedule.specs.declared.standings.Standing.{Standing}
 use Rattle.schedule.specs.Accepted.{IsAccepted, IsPlan, IsUpdateStage, Pairwise}
-use Rattle.bounds_weights.specs.Weight.{consumer_copies, flags_of, is_computed, nodes_in, stage_weight, updates_weight, func_weight, computed_weight, funcs_weight, weight}
+use Rattle.schedule.specs.Plans.{pure_loops, update_loops, with_loop, with_second, with_reduction}
+use Rattle.halide_pipeline.specs.WellFormed.{is_first_in_place, is_second_in_place}
+use Rattle.halide_pipeline.specs.declared.definitions.Reduction.{Reduction}
+use Rattle.halide_pipeline.specs.declared.expressions.Variable.{Variable}
+use Rattle.halide_pipeline.specs.declared.expressions.Variable.TheVariants as variables
+use Rattle.schedule.specs.Standing.{pure_loops_of}
+use Rattle.schedule_loops.proofs.Making.{Stays, by_making, total_parts, bare_total}
+use Rattle.bounds_weights.specs.Weight.{copies, all_copies, copies_from, consumer_copies, factor_of, flags_of, is_computed, nodes_in, update_nodes, stage_weight, updates_weight, func_weight, computed_weight, funcs_weight, weight}
 use Rattle.bounds.specs.declared.verdict.Boxes.{Boxes}
 use Rattle.loop_ir.specs.declared.statements.Phase.{Phase}
 use Rattle.lowering.specs.Lowered.{AreLowered}
@@ -70,6 +85,13 @@ module _ (pipeline : Pipeline) (schedule : Schedule) (boxes : Boxes) (accepted :
   none-listed : (f : ℕ → ℕ) → ((k : ℕ) → f k ≡ 0) → (at n : ℕ) → summed f at n ≡ 0
   none-listed f none at zero = refl
   none-listed f none at (suc n) = let z = none at in let r = none-listed f none (suc at) n in omega (arith, z, r)
+
+  no-func : (plan : Option FuncPlan) (own : Option Standing) → share None plan own ≡ 0
+  no-func plan own = refl
+
+  no-plan : (func : Option Func) (own : Option Standing) → share func None own ≡ 0
+  no-plan None own = refl
+  no-plan (Some func) own = refl
 
   no-standing : (func : Option Func) (plan : Option FuncPlan) → share func plan None ≡ 0
   no-standing None plan = refl

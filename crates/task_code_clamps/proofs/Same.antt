@@ -1,9 +1,10 @@
 -- Expressions without clamps that cut nothing off come to the same.
-use Rattle.std.proofs.Common.{◌≡◌, ℕ, List, [], ◌++◌, refl, ap, ◌∙◌, sym, subst, ◌^◌, ◌<◌, Bool, true}
-use Rattle.std.specs.Prelude.{◌&&◌}
-use Rattle.std.proofs.lemmas.Bool.{and_parts}
+use Rattle.std.proofs.Common.{◌≡◌, ℕ, List, [], ◌∷◌, ◌++◌, refl, ap, ◌∙◌, sym, subst, ◌^◌, ◌<◌, Bool, true, false, arith}
+use Rattle.std.specs.Prelude.{◌==◌, ◌&&◌, if◌then◌else◌}
+use Rattle.std.proofs.lemmas.Bool.{and_parts, true≢false}
 use Rattle.std.proofs.lemmas.List.{append-nil}
 use Rattle.halide_pipeline.specs.declared.expressions.Operation.{Operation}
+use Rattle.halide_pipeline.specs.declared.expressions.Source.{Source}
 use Rattle.halide_pipeline.specs.Pixel.{Reads}
 use Rattle.halide_pipeline.specs.Points.{Point, Seen}
 use Rattle.halide_pipeline.specs.Words as word
@@ -12,18 +13,19 @@ use Rattle.loop_ir.specs.declared.expressions.Expr.{Expr}
 use Rattle.loop_ir.specs.declared.expressions.Expr.TheVariants as e
 use Rattle.loop_ir.specs.declared.expressions.Linear.{Linear}
 use Rattle.loop_ir.specs.Counters.{Values}
-use Rattle.loop_ir.specs.Expressions.{value, loads, seen, seen_at}
+use Rattle.loop_ir.specs.Expressions.{linear_value, value, loads, seen, seen_at}
 use Rattle.loop_ir.proofs.Folds.{at_number, at_linear}
 use Rattle.task_code_scalar.specs.declared.places.Places.{Places}
 use Rattle.task_code_loops.specs.declared.bounds.Bound.{Bound}
 use Rattle.task_code_loops.specs.Bounds.{AreBelow}
-use Rattle.task_code_values.proofs.Evaluating.{value_binary}
-use Rattle.task_code_values.proofs.Evaluating.{loads_binary}
+use Rattle.task_code_values.proofs.Evaluating.{value_number, value_linear, value_binary, value_divide, value_remainder, value_select, value_load}
+use Rattle.task_code_values.proofs.Evaluating.{loads_binary, loads_divide, loads_remainder, loads_select, loads_load}
 use Rattle.task_code_clamps.specs.declared.clamps.Ranged.{Ranged}
 use Rattle.task_code_clamps.specs.declared.ranges.Range.{Range}
-use Rattle.task_code_clamps.specs.Clamps.{AreBytesAt, IsRanged}
+use Rattle.task_code_clamps.specs.Clamps.{AreBytesAt, IsSame, IsRanged}
 use Rattle.task_code_clamps.specs.Ranges.{IsByte, LiesIn}
 use Rattle.task_code_clamps.specs.Steps.{IsTested}
+use Rattle.task_code_clamps.proofs.Lying.{sum-word}
 
 -- a number and a sum load nothing
 no-loads-number : (reads : Reads) (values : Values) (n : ℕ) → loads reads values (e.Number n) ≡ []
@@ -41,6 +43,33 @@ pub leaf-linear : (own : Expr) (sum : Linear) → own ≡ e.Linear sum → (read
 leaf-linear own sum is reads values = ap (λ x. loads reads values x) is ∙ no-loads-linear reads values sum
 
 module _ (places : Places) (bounds : List Bound) where
+  -- ---- leaves
+
+  pub same-itself : (own made : Expr) → own ≡ made → IsSame places bounds own made
+  same-itself own made is = record {
+    value_is = λ reads values below bytes. ap (λ x. value reads values x) (sym is);
+    loads_are = λ reads values below bytes. ap (λ x. loads reads values x) (sym is);
+  }
+
+  pub ranged-number : (own : Expr) (n : ℕ) (range : Range) → own ≡ e.Number n → n < 2 ^ 32 → LiesIn range n
+      → IsRanged places bounds own (record { e = e.Number n; range = range; is_word = true })
+  ranged-number own n range is small l = record {
+    same = same-itself own (e.Number n) is;
+    lies = λ reads values below bytes. subst (λ k. LiesIn range k) (sym (ap (λ x. value reads values x) is ∙ value_number reads values n)) l;
+    word = λ reads values below bytes w. subst (λ k. k < 2 ^ 32) (sym (ap (λ x. value reads values x) is ∙ value_number reads values n)) small;
+  }
+
+  pub ranged-linear : (own : Expr) (sum made : Linear) (range : Range) → own ≡ e.Linear sum → made ≡ sum
+      → ((values : Values) → AreBelow bounds values → LiesIn range (linear_value values sum))
+      → IsRanged places bounds own (record { e = e.Linear made; range = range; is_word = true })
+  ranged-linear own sum made range is same l = record {
+    same = same-itself own (e.Linear made) (is ∙ ap e.Linear (sym same));
+    lies = λ reads values below bytes.
+        subst (λ k. LiesIn range k) (sym (ap (λ x. value reads values x) is ∙ value_linear reads values sum)) (l values below);
+    word = λ reads values below bytes w.
+        subst (λ k. k < 2 ^ 32) (sym (ap (λ x. value reads values x) is ∙ value_linear reads values sum)) (sum-word values sum);
+  }
+
   -- ---- operations
 
   module _ (o : Operation) (x y : Expr) (a b : Ranged) (rx : IsRanged places bounds x a) (ry : IsRanged places bounds y b) (reads : Reads) (values : Values)
@@ -174,4 +203,156 @@ module _ (places : Places) (bounds : List Bound) where
           lies = both.lies;
           word = both.word;
         }
-    -- ---- other expressions
+
+  pub ranged-binary : (own x y gx gy : Expr) (o : Operation) (a b made : Ranged) → own ≡ e.Binary o x y → gx ≡ x → gy ≡ y → IsRanged places bounds gx a
+      → IsRanged places bounds gy b
+      → ((ps : Places) (bs : List Bound) (p q : Expr) → IsRanged ps bs p a → IsRanged ps bs q b → IsRanged ps bs (e.Binary o p q) made)
+      → IsRanged places bounds own made
+  ranged-binary own x y gx gy o a b made is ex ey ra rb all =
+      subst (λ t. IsRanged places bounds t made) (sym (is ∙ ap (λ t. e.Binary o t y) (sym ex) ∙ ap (e.Binary o gx) (sym ey)))
+      (all places bounds gx gy ra rb)
+
+  -- ---- other expressions
+
+  pub ranged-anywhere : (own x : Expr) (made : Ranged) → made.e ≡ x → made.is_word ≡ false
+      → IsRanged places bounds own (record { e = x; range = made.range; is_word = false }) → IsRanged places bounds own made
+  ranged-anywhere own x made is none all = record {
+    same = subst (λ t. IsSame places bounds own t) (sym is) all.same;
+    lies = all.lies;
+    word = λ reads values below bytes w. absurd (true≢false (sym w ∙ none));
+  }
+
+  pub ranged-divide : (own x gx made : Expr) (c : ℕ) (range : Range) → own ≡ e.Divide x c → gx ≡ x → IsSame places bounds gx made
+      → ((v : ℕ) → LiesIn range v) → IsRanged places bounds own (record { e = e.Divide made c; range = range; is_word = false })
+  ranged-divide own x gx made c range is ex same l =
+      subst (λ t. IsRanged places bounds t (record { e = e.Divide made c; range = range; is_word = false })) (sym (is ∙ ap (λ t. e.Divide t c) (sym ex))) (record {
+        same = record {
+          value_is = λ reads values below bytes.
+              let inner = subst (λ k. AreBytesAt places reads k) (loads_divide reads values gx c) bytes in
+              value_divide reads values made c ∙ ap (λ n. word.divide n c) (same.value_is reads values below inner) ∙ sym (value_divide reads values gx c);
+          loads_are = λ reads values below bytes.
+              let inner = subst (λ k. AreBytesAt places reads k) (loads_divide reads values gx c) bytes in
+              loads_divide reads values made c ∙ same.loads_are reads values below inner ∙ sym (loads_divide reads values gx c);
+        };
+        lies = λ reads values below bytes. l (value reads values (e.Divide gx c));
+        word = λ reads values below bytes w. absurd (true≢false (sym w));
+      })
+
+  pub ranged-remainder : (own x gx made : Expr) (c : ℕ) (range : Range) → own ≡ e.Remainder x c → gx ≡ x → IsSame places bounds gx made
+      → ((v : ℕ) → LiesIn range v) → IsRanged places bounds own (record { e = e.Remainder made c; range = range; is_word = false })
+  ranged-remainder own x gx made c range is ex same l =
+      subst (λ t. IsRanged places bounds t (record { e = e.Remainder made c; range = range; is_word = false })) (sym (is ∙ ap (λ t. e.Remainder t c) (sym ex))) (record {
+        same = record {
+          value_is = λ reads values below bytes.
+              let inner = subst (λ k. AreBytesAt places reads k) (loads_remainder reads values gx c) bytes in
+              value_remainder reads values made c ∙ ap (λ n. word.remainder n c) (same.value_is reads values below inner)
+              ∙ sym (value_remainder reads values gx c);
+          loads_are = λ reads values below bytes.
+              let inner = subst (λ k. AreBytesAt places reads k) (loads_remainder reads values gx c) bytes in
+              loads_remainder reads values made c ∙ same.loads_are reads values below inner ∙ sym (loads_remainder reads values gx c);
+        };
+        lies = λ reads values below bytes. l (value reads values (e.Remainder gx c));
+        word = λ reads values below bytes w. absurd (true≢false (sym w));
+      })
+
+  abbrev is-byte : Reads → Point → Type 0
+  is-byte reads point = IsByte places point.source (reads point.source point.x point.y)
+
+  module _ (c x y mc mx my : Expr) (sc : IsSame places bounds c mc) (sx : IsSame places bounds x mx) (sy : IsSame places bounds y my) (reads : Reads)
+      (values : Values) (below : AreBelow bounds values) (bytes : AreBytesAt places reads (loads reads values (e.Select c x y))) where
+    abbrev lc : List Point
+    lc = loads reads values c
+
+    abbrev lx : List Point
+    lx = loads reads values x
+
+    abbrev ly : List Point
+    ly = loads reads values y
+
+    three : AreBytesAt places reads lc × (AreBytesAt places reads lx × AreBytesAt places reads ly)
+    three =
+        let first = all_parts (is-byte reads) lc (lx ++ ly) (subst (λ k. AreBytesAt places reads k) (loads_select reads values c x y) bytes) in
+        (first.0, all_parts (is-byte reads) lx ly first.1)
+
+    select-value : value reads values (e.Select mc mx my) ≡ value reads values (e.Select c x y)
+    select-value =
+        value_select reads values mc mx my
+        ∙ ap (λ n. if n == 0 then value reads values my else value reads values mx) (sc.value_is reads values below three.0)
+        ∙ ap (λ n. if value reads values c == 0 then value reads values my else n) (sx.value_is reads values below three.1.0)
+        ∙ ap (λ n. if value reads values c == 0 then n else value reads values x) (sy.value_is reads values below three.1.1)
+        ∙ sym (value_select reads values c x y)
+
+    select-loads : loads reads values (e.Select mc mx my) ≡ loads reads values (e.Select c x y)
+    select-loads =
+        loads_select reads values mc mx my
+        ∙ ap (λ l. l ++ (loads reads values mx ++ loads reads values my)) (sc.loads_are reads values below three.0)
+        ∙ ap (λ l. lc ++ (l ++ loads reads values my)) (sx.loads_are reads values below three.1.0)
+        ∙ ap (λ l. lc ++ (lx ++ l)) (sy.loads_are reads values below three.1.1) ∙ sym (loads_select reads values c x y)
+
+  pub ranged-select : (own c x y gc gx gy mc mx my : Expr) (range : Range) → own ≡ e.Select c x y → gc ≡ c → gx ≡ x → gy ≡ y
+      → IsSame places bounds gc mc → IsSame places bounds gx mx → IsSame places bounds gy my → ((v : ℕ) → LiesIn range v)
+      → IsRanged places bounds own (record { e = e.Select mc mx my; range = range; is_word = false })
+  ranged-select own c x y gc gx gy mc mx my range is ec ex ey sc sx sy l =
+      subst (λ t. IsRanged places bounds t (record { e = e.Select mc mx my; range = range; is_word = false }))
+      (sym (is ∙ ap (λ t. e.Select t x y) (sym ec) ∙ ap (λ t. e.Select gc t y) (sym ex) ∙ ap (e.Select gc gx) (sym ey))) (record {
+        same = record {
+          value_is = λ reads values below bytes. select-value gc gx gy mc mx my sc sx sy reads values below bytes;
+          loads_are = λ reads values below bytes. select-loads gc gx gy mc mx my sc sx sy reads values below bytes;
+        };
+        lies = λ reads values below bytes. l (value reads values (e.Select gc gx gy));
+        word = λ reads values below bytes w. absurd (true≢false (sym w));
+      })
+
+  module _ (source : Source) (x y mx my : Expr) (sx : IsSame places bounds x mx) (sy : IsSame places bounds y my) (reads : Reads)
+      (values : Values) (below : AreBelow bounds values) (bytes : AreBytesAt places reads (loads reads values (e.Load source x y))) where
+    abbrev ox : List Point
+    ox = loads reads values x
+
+    abbrev oy : List Point
+    oy = loads reads values y
+
+    abbrev px : ℕ
+    px = value reads values x
+
+    abbrev py : ℕ
+    py = value reads values y
+
+    abbrev here : ℕ → ℕ → List Point
+    here n k = record { source = source; x = n; y = k } ∷ []
+
+    two : (AreBytesAt places reads ox × AreBytesAt places reads oy) × AreBytesAt places reads (here px py)
+    two =
+        let first = all_parts (is-byte reads) (ox ++ oy) (here px py) (subst (λ k. AreBytesAt places reads k) (loads_load reads values source x y) bytes) in
+        (all_parts (is-byte reads) ox oy first.0, first.1)
+
+    load-value : value reads values (e.Load source mx my) ≡ value reads values (e.Load source x y)
+    load-value =
+        value_load reads values source mx my ∙ ap (λ n. reads source n (value reads values my)) (sx.value_is reads values below two.0.0)
+        ∙ ap (λ n. reads source px n) (sy.value_is reads values below two.0.1) ∙ sym (value_load reads values source x y)
+
+    load-loads : loads reads values (e.Load source mx my) ≡ loads reads values (e.Load source x y)
+    load-loads =
+        loads_load reads values source mx my
+        ∙ ap (λ l. (l ++ loads reads values my) ++ here (value reads values mx) (value reads values my)) (sx.loads_are reads values below two.0.0)
+        ∙ ap (λ l. (ox ++ l) ++ here (value reads values mx) (value reads values my)) (sy.loads_are reads values below two.0.1)
+        ∙ ap (λ n. (ox ++ oy) ++ here n (value reads values my)) (sx.value_is reads values below two.0.0)
+        ∙ ap (λ n. (ox ++ oy) ++ here px n) (sy.value_is reads values below two.0.1) ∙ sym (loads_load reads values source x y)
+
+    load-byte : IsByte places source (value reads values (e.Load source x y))
+    load-byte = subst (λ n. IsByte places source n) (sym (value_load reads values source x y)) two.1.0
+
+  pub ranged-load : (own x y gx gy mx my : Expr) (source : Source) (range : Range) (is_word : Bool) → own ≡ e.Load source x y → gx ≡ x → gy ≡ y
+      → IsSame places bounds gx mx → IsSame places bounds gy my → ((v : ℕ) → IsByte places source v → LiesIn range v)
+      → (is_word ≡ true → (v : ℕ) → IsByte places source v → v < 256)
+      → IsRanged places bounds own (record { e = e.Load source mx my; range = range; is_word = is_word })
+  ranged-load own x y gx gy mx my source range is_word is ex ey sx sy l small =
+      subst (λ t. IsRanged places bounds t (record { e = e.Load source mx my; range = range; is_word = is_word }))
+      (sym (is ∙ ap (λ t. e.Load source t y) (sym ex) ∙ ap (e.Load source gx) (sym ey))) (record {
+        same = record {
+          value_is = λ reads values below bytes. load-value source gx gy mx my sx sy reads values below bytes;
+          loads_are = λ reads values below bytes. load-loads source gx gy mx my sx sy reads values below bytes;
+        };
+        lies = λ reads values below bytes. l (value reads values (e.Load source gx gy)) (load-byte source gx gy mx my sx sy reads values below bytes);
+        word = λ reads values below bytes w.
+            let b = small w (value reads values (e.Load source gx gy)) (load-byte source gx gy mx my sx sy reads values below bytes) in omega (arith, b);
+      })

@@ -1,15 +1,17 @@
 -- Sums with a test are clamps.
-use Rattle.std.proofs.Common.{◌≡◌, ℕ, ◌+◌, ◌%◌, ◌^◌, ◌<◌, ◌≤◌, ◌++◌, refl, ap, ◌∙◌, sym, subst, arith, inl, inr}
+use Rattle.std.proofs.Common.{◌≡◌, ℕ, ◌+◌, ◌%◌, ◌^◌, ◌<◌, ◌≤◌, List, [], ◌++◌, refl, ap, ◌∙◌, sym, subst, arith, inl, inr}
 use Rattle.std.specs.Prelude.{Option, Some, None, IfSome}
 use Rattle.std.proofs.lemmas.Bool.{lt-ltb, le-ltb, cases_lt}
 use Rattle.halide_pipeline.specs.declared.expressions.Operation.{Operation}
 use Rattle.halide_pipeline.specs.declared.expressions.Operation.TheVariants as op
+use Rattle.halide_pipeline.specs.Pixel.{Reads}
 use Rattle.halide_pipeline.specs.Words as word
 use Rattle.halide_pipeline.specs.Words.{add, less, minimum, maximum, subtract, truth}
 use Rattle.loop_ir.specs.declared.expressions.Expr.{Expr}
 use Rattle.loop_ir.specs.declared.expressions.Expr.TheVariants as e
 use Rattle.loop_ir.specs.declared.expressions.Linear.{Linear}
-use Rattle.loop_ir.specs.Expressions.{linear_value, value, loads}
+use Rattle.loop_ir.specs.Counters.{Values}
+use Rattle.loop_ir.specs.Expressions.{linear_value, value, loads, sum_of}
 use Rattle.task_code_values.proofs.Evaluating.{value_number, value_linear, value_binary, loads_binary}
 use Rattle.task_code_clamps.specs.declared.clamps.Ranged.{Ranged}
 use Rattle.task_code_clamps.specs.declared.ranges.Range.{Range}
@@ -60,6 +62,16 @@ up-minimum v n sv sn l low =
       | inl k ↦ rw (lt-ltb (level ((v + 4294967295) % 2 ^ 32)) (level n) k) (rw (le-ltb (level n) (level v) (omega (arith, g, k))) (omega (arith, sv)))
       | inr k ↦ rw (le-ltb (level ((v + 4294967295) % 2 ^ 32)) (level n) k) (rw (lt-ltb (level n) (level v) (omega (arith, g, k))) (omega (arith, sv, sn, l, g, k)))
     ]
+
+-- ---- sums
+
+pub more-is : (own copied : Linear) (more number : ℕ) → copied ≡ own → number ≡ add copied.number more
+    → IsMore own more (record { number = number; terms = copied.terms })
+unfolding linear_value add
+more-is own copied more number es en values =
+    let s = sum_of values copied.terms in
+    let g : (number + s) % 2 ^ 32 ≡ ((copied.number + s) % 2 ^ 32 + more) % 2 ^ 32 = omega (arith, en) in
+    g ∙ ap (λ c. (linear_value values c + more) % 2 ^ 32) es
 
 -- ---- expressions
 

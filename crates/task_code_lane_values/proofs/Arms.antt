@@ -296,10 +296,24 @@ module _ (places : Places) (scope : List Held) (own : Lanes) (k : ℕ) (in-stack
       } ∷ [])
       (subst (AllByRecursion (Loads w places m reads)) (loads_load reads (at i values) source a b) all)
 
+  pub load-first : (source : Source) (a b : Expr) (w : World) (m : List ℕ) (reads : Reads) (values : Values) (i : ℕ) → May
+      (e.Load source a b) w m reads values i → May a w m reads values i
+  load-first source a b w m reads values i all =
+      (all_parts (Loads w places m reads) (loads reads (at i values) a) (loads reads (at i values) b) (parts-of-load source a b w m reads values i all).0).0
+
+  pub load-second : (source : Source) (a b : Expr) (w : World) (m : List ℕ) (reads : Reads) (values : Values) (i : ℕ) → May
+      (e.Load source a b) w m reads values i → May b w m reads values i
+  load-second source a b w m reads values i all =
+      (all_parts (Loads w places m reads) (loads reads (at i values) a) (loads reads (at i values) b) (parts-of-load source a b w m reads values i all).0).1
+
   pub load-has : (source : Source) (a b : Expr) (w : World) (m : List ℕ) (reads : Reads) (values : Values) (i : ℕ) → May (e.Load source a b) w m reads values i
       → LoadsAt w (place_of places source) m (value reads (at i values) a) (value reads (at i values) b) (reads source (value reads (at i values) a)
       (value reads (at i values) b))
   load-has source a b w m reads values i all = (parts-of-load source a b w m reads values i all).1.0
+
+  pub load-value : (source : Source) (a b : Expr) (reads : Reads) (values : Values) (i : ℕ)
+      → value reads (at i values) (e.Load source a b) ≡ reads source (value reads (at i values) a) (value reads (at i values) b)
+  load-value source a b reads values i = value_load reads (at i values) source a b
 
   pub point-arm : (x a b p q : Expr) (source : Source) (column row : Linear) (c0 c1 : List ℕ) → x ≡ e.Load source a b → p ≡ a → q ≡ b → IsSum p column
       → IsSum q row

@@ -49,7 +49,7 @@ use Rattle.task_code_lanes.proofs.Slots.{slot-lies}
 use Rattle.task_code_lanes.proofs.Rows as rows
 use Rattle.task_code_lane_values.specs.declared.vectorized.Lanes.{Lanes}
 use Rattle.task_code_lane_values.specs.Leaving.{MakesDistances, MakesLanes, distance}
-use Rattle.task_code_lane_values.specs.inner.Parts.{IsSteady, LoadsAlong, LoadsFrom, MakesScalar, MakesSteady}
+use Rattle.task_code_lane_values.specs.inner.Parts.{IsSteady, LoadsAlong, LoadsFrom, MakesEach, MakesScalar, MakesSteady}
 use Rattle.task_code_lane_values.specs.inner.Parts.{Nothing, AnyWord, TurnsOne, TurnsBy, TurnsTwo, MakesRowPointer}
 use Rattle.task_code_lane_values.proofs.Arms.{May, each-of, lanes-of, load-has, load-first, load-second, load-value}
 use Rattle.task_code_lane_values.proofs.Composing.{each-one, each-by, each-two, left-of, scalar-as}
@@ -74,10 +74,30 @@ row-number place b x y hart p eb =
     ∙ ap (λ k. ((s + c) % 2 ^ 32 + k) % 2 ^ 32) (e1 ∙ ap (λ n. n % 2 ^ 32) e2) ∙ g ∙ ap (λ k. (s + k) % 2 ^ 32) (sym e3)
     ∙ ap (λ k. (s + k * (y * w + x)) % 2 ^ 32) (sym eb)
 
+column-number : (t : Pixels) (s q x : ℕ) → s + pixel_bytes t * (q + x) < 2 ^ 32
+    → ((s + pixel_bytes t * (q + 0)) % 2 ^ 32 + (x * pixel_bytes t) % 2 ^ 32) % 2 ^ 32 ≡ s + pixel_bytes t * (q + x)
+column-number pixels.Words s q x low = omega (arith, low)
+column-number pixels.Bytes s q x low = omega (arith, low)
+
+row-number-goes : (t : Pixels) (s q x c i : ℕ) → c ≡ (x + i) % 2 ^ 32 → s + pixel_bytes t * (q + c) < 2 ^ 32
+    → ((s + pixel_bytes t * (q + x)) % 2 ^ 32 + i * pixel_bytes t) % 2 ^ 32 ≡ s + pixel_bytes t * (q + c)
+row-number-goes pixels.Words s q x c i ec low = omega (arith, ec, low)
+row-number-goes pixels.Bytes s q x c i ec low = omega (arith, ec, low)
+
 all-number : (t : Pixels) (s q x : ℕ) → s + pixel_bytes t * (q + x) < 2 ^ 32
     → ((s + pixel_bytes t * 0) % 2 ^ 32 + ((x + q % 2 ^ 32) % 2 ^ 32 * pixel_bytes t) % 2 ^ 32) % 2 ^ 32 ≡ s + pixel_bytes t * (q + x)
 all-number pixels.Words s q x low = omega (arith, low)
 all-number pixels.Bytes s q x low = omega (arith, low)
+
+-- a pixel's distance from the beginning of its row
+pub column-reaches : (p : Place) (hart x y : ℕ) → address p hart x y < 2 ^ 32
+    → (address p hart 0 y % 2 ^ 32 + (x * pixel_bytes p.pixels) % 2 ^ 32) % 2 ^ 32 ≡ address p hart x y
+column-reaches p hart x y low = column-number p.pixels (p.start + p.distance * hart) (y * p.width) x low
+
+-- and where it goes on from pixel to pixel
+pub row-reaches : (p : Place) (hart x c y i : ℕ) → c ≡ (x + i) % 2 ^ 32 → address p hart c y < 2 ^ 32
+    → (address p hart x y % 2 ^ 32 + i * pixel_bytes p.pixels) % 2 ^ 32 ≡ address p hart c y
+row-reaches p hart x c y i ec low = row-number-goes p.pixels (p.start + p.distance * hart) (y * p.width) x c i ec low
 
 -- from numbers of pixels
 pub number-reaches : (p : Place) (hart x y : ℕ) → address p hart x y < 2 ^ 32
@@ -91,6 +111,9 @@ number-reaches p hart x y low =
 -- ---- pointers to a column of the first iteration and a row
 
 module _ (places : Places) (scope : List Held) (own : Lanes) (place : Place) (x : Linear) (y : Expr) where
+  abbrev MayRow : World → List ℕ → Reads → Values → Type 0
+  MayRow w m reads values = AllByRecursion (Loads w places m reads) (loads reads (with own.counter 0 values) y)
+
   abbrev spot : ℕ → Reads → Values → ℕ
   spot hart reads values = address place hart (linear_value (with own.counter 0 values) x) (value reads (with own.counter 0 values) y) % 2 ^ 32
 
@@ -192,6 +215,19 @@ offsets-bytes group k own c is = subst (λ p. TurnsOne c c group k (λ x. (x * p
 -- ---- how far points lie from the first one
 
 module _ (places : Places) (scope : List Held) (own : Lanes) (k : ℕ) (place : Place) (x y : Expr) where
+  -- distances are numbers in lanes
+  pub distances-each : (c0 c1 : List ℕ) → MakesDistances c0 c1 places scope own k place x y
+      → MakesEach c0 c1 places scope own k
+      (λ w m reads values i. AllByRecursion (Loads w places m reads) (loads reads (with own.counter i values) x)
+      × AllByRecursion (Loads w places m reads) (loads reads (with own.counter i values) y))
+      (λ reads values i. distance place (value reads (with own.counter i values) x) (value reads (with own.counter i values) y))
+  distances-each c0 c1 a = record {
+    insns = a.insns;
+    emits = a.emits;
+    does = λ w m values reads n f l are holders knows has some few may.
+        a.does w m values reads n f l are holders knows has some few (λ i lt. (may i lt).0) (λ i lt. (may i lt).1);
+  }
+
   -- from columns and rows in lanes
   pub distances-made : (s : ℕ) (c0 c1 c2 c3 c4 c5 c6 : List ℕ) → k + 1 < slots own.group
       → MakesScalar c2 c3 scope own s Nothing (λ hart reads values. place.width)

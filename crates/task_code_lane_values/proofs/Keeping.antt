@@ -21,11 +21,13 @@ use Rattle.loop_ir.specs.Expressions.{value, loads}
 use Rattle.multi_hart_logic.specs.Alone.{World}
 use Rattle.multi_hart_logic.specs.Paths.{lane}
 use Rattle.multi_hart_logic.proofs.Paths.{line-then, stay}
+use Rattle.task_code_scalar.specs.declared.places.Places.{Places}
 use Rattle.task_code_scalar.specs.Evaluation.{Loads}
 use Rattle.task_code_scalar.specs.Words.{Emits}
 use Rattle.task_code_scalar.proofs.Evaluation.{applied-below}
 use Rattle.task_code_scalar.proofs.Numbers.{less-is}
 use Rattle.task_code_scalar.proofs.Spelling.{emits_then, emits-none}
+use Rattle.task_code_registers.specs.declared.scopes.Held.{Held}
 use Rattle.task_code_registers.proofs.Knowing.{knows-still}
 use Rattle.task_code_values.proofs.Evaluating.{value_binary, loads_binary}
 use Rattle.task_code_lanes.specs.declared.groups.Group.{Group}

@@ -13,7 +13,7 @@ use Rattle.loop_ir.specs.declared.statements.Store.{Store}
 use Rattle.loop_ir.specs.Counters.{Values}
 use Rattle.loop_ir.specs.Expressions.{linear_value, value, loads, seen, seen_at}
 use Rattle.loop_ir.proofs.Folds.{at_number, at_linear}
-use Rattle.task_code_values.proofs.Evaluating.{value_linear, value_binary, value_divide, value_remainder, value_select, value_load}
+use Rattle.task_code_values.proofs.Evaluating.{value_number, value_linear, value_binary, value_divide, value_remainder, value_select, value_load}
 use Rattle.task_code_values.proofs.Evaluating.{loads_binary, loads_divide, loads_remainder, loads_select, loads_load}
 use Rattle.task_code_names.specs.Alike.{IsAlike, IsAlikeStore}
 

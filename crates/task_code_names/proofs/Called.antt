@@ -1,18 +1,32 @@
 -- A name in place of an expression comes to the same.
-use Rattle.std.proofs.Common.{◌≡◌, ◌+◌, ◌*◌, ◌%◌, ◌^◌, ◌<◌, List, ap, ◌∙◌, sym, subst, arith}
-use Rattle.std.specs.Prelude.{Option, Some, IfSome}
+use Rattle.std.proofs.Common.{◌≡◌, ℕ, ◌+◌, ◌*◌, ◌%◌, ◌^◌, ◌<◌, List, [], ◌∷◌, ap, ◌∙◌, sym, subst, arith}
+use Rattle.std.specs.Prelude.{Option, Some, None, IfSome}
 use Rattle.loop_ir.specs.declared.expressions.Counter.{Counter}
 use Rattle.loop_ir.specs.declared.expressions.Expr.{Expr}
 use Rattle.loop_ir.specs.declared.expressions.Expr.TheVariants as e
 use Rattle.loop_ir.specs.declared.expressions.Linear.{Linear}
 use Rattle.loop_ir.specs.Counters.{Values}
-use Rattle.loop_ir.specs.Expressions.{linear_value}
+use Rattle.loop_ir.specs.Expressions.{linear_value, value, loads}
 use Rattle.task_code_registers.specs.declared.scopes.Form.{Form}
 use Rattle.task_code_loops.specs.Beginning.{variable}
 use Rattle.task_code_values.proofs.Evaluating.{value_linear}
 use Rattle.task_code_names.specs.declared.names.Named.{Named}
 use Rattle.task_code_names.specs.Names.{IsNameOf, IsNamedExpr}
 use Rattle.task_code_names.proofs.Alike.{loads_linear}
+
+pub first-is : (others : List Named) (first : Named) (own : Expr) → first.e ≡ own → IsNameOf (first ∷ others) own first.counter
+first-is others first own same values are =
+    let k = are.0 in
+    record {
+      value_is = λ reads. sym (ap (λ x. value reads values x) same) ∙ k.value_is reads;
+      none = λ reads. sym (ap (λ x. loads reads values x) same) ∙ k.none reads;
+      small = k.small;
+    }
+
+pub later-is : (others : List Named) (first : Named) (own : Expr) (found : Option Counter) → IfSome found (IsNameOf others own)
+    → IfSome found (IsNameOf (first ∷ others) own)
+later-is others first own None all = tt
+later-is others first own (Some counter) all = λ values are. all values are.1
 
 variable-is : (values : Values) (counter : Counter) → values counter < 2 ^ 32 → linear_value values (variable counter).sum ≡ values counter
 unfolding linear_value

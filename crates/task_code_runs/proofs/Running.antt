@@ -1,6 +1,6 @@
 -- What a vectorized loop's code does is what its iterations do in turn.
-use Rattle.std.proofs.Common.{◌≡◌, ℕ, ◌+◌, ◌^◌, ◌<◌, ◌≤◌, ◌-◌, List, [], ◌∷◌, ◌++◌, length, Bool, true, refl, ap, ◌∙◌, sym, subst, arith, inl, inr, length-append}
-use Rattle.std.specs.Prelude.{◌⊎◌, ◌&&◌, Option, Some, None}
+use Rattle.std.proofs.Common.{◌≡◌, ℕ, ◌+◌, ◌*◌, ◌%◌, ◌^◌, ◌<◌, ◌≤◌, ◌-◌, List, [], ◌∷◌, ◌++◌, length, Bool, true, refl, ap, ◌∙◌, sym, subst, arith, inl, inr, length-append}
+use Rattle.std.specs.Prelude.{◌≢◌, ◌⊎◌, ◌&&◌, Option, Some, None}
 use Rattle.std.specs.List.{AllByRecursion, list_all}
 use Rattle.std.proofs.lemmas.Bool.{and_parts}
 use Rattle.std.proofs.lemmas.List.Folds.{list_all-append}
@@ -18,7 +18,7 @@ use Rattle.loop_ir.specs.declared.statements.Stmt.{Stmt}
 use Rattle.loop_ir.specs.declared.statements.Stmt.TheVariants as s
 use Rattle.loop_ir.specs.AtOnce.{Effect, effect}
 use Rattle.loop_ir.specs.Counters.{Values, with}
-use Rattle.loop_ir.specs.Expressions.{value, loads}
+use Rattle.loop_ir.specs.Expressions.{value, loads, linear_value}
 use Rattle.loop_ir.specs.Rounds.{is_round_count, are_apart, all_step_up, rounds, Rounds}
 use Rattle.loop_ir.specs.Running.{run}
 use Rattle.loop_ir.specs.Soundness.{is_sound, store_loads}
@@ -26,7 +26,7 @@ use Rattle.loop_ir.proofs.AtOnce.{effect_store, in_turn}
 use Rattle.loop_ir.proofs.Rounds.{rounds_for}
 use Rattle.loop_ir.proofs.Sound.{sound_for, sound_store}
 use Rattle.loop_ir.proofs.Trees.{run_for}
-use Rattle.multi_hart_logic.specs.Paths.{end, lane}
+use Rattle.multi_hart_logic.specs.Paths.{end, lane, vl_number, vtype_number}
 use Rattle.multi_hart_logic.proofs.Paths.{stand-front, stand-back, end-append}
 use Rattle.task_code_scalar.specs.declared.places.Place.{Place}
 use Rattle.task_code_scalar.specs.declared.places.Places.{Places}
@@ -38,24 +38,31 @@ use Rattle.task_code_scalar.proofs.Looping.{each-turn}
 use Rattle.task_code_scalar.proofs.Spelling.{emits_then}
 use Rattle.task_code_scalar.proofs.Spilling.{all-loaded}
 use Rattle.task_code_scalar.proofs.Tracing.{hit-for}
+use Rattle.task_code_registers.specs.declared.scopes.Form.{Form}
 use Rattle.task_code_registers.specs.declared.scopes.Held.{Held}
 use Rattle.task_code_registers.specs.Doing.{Did}
-use Rattle.task_code_registers.specs.Scopes.{IsKept}
+use Rattle.task_code_registers.specs.Points.{IsPoint}
+use Rattle.task_code_registers.specs.Registers.{address_register, first_value, scratch}
+use Rattle.task_code_registers.specs.Scopes.{AreHolders, IsHolder, IsKept}
+use Rattle.task_code_registers.specs.Strides.{strides}
 use Rattle.task_code_registers.proofs.Going.{Hits, no_hits, Went, Does, within, went-then, went-hits, went-is, still}
-use Rattle.task_code_registers.proofs.Knowing.{knows-still}
+use Rattle.task_code_registers.proofs.Knowing.{may-hold, kept-apart, knows-still}
 use Rattle.task_code_registers.proofs.Looping.{did-went}
+use Rattle.task_code_values.specs.Operands.{IsSum}
+use Rattle.task_code_values.proofs.Pointing.{own-word}
 use Rattle.task_code_lanes.specs.declared.groups.Group.{Group}
 use Rattle.task_code_lanes.specs.declared.groups.Group.TheVariants as groups
 use Rattle.task_code_lanes.specs.Groups.{slot, slots}
+use Rattle.task_code_lanes.proofs.Rows as rows
 use Rattle.task_code_lane_values.specs.declared.vectorized.Lanes.{Lanes}
-use Rattle.task_code_lane_values.specs.Leaving.{MakesLanes}
+use Rattle.task_code_lane_values.specs.Leaving.{IsUnder, MakesLanes}
 use Rattle.task_code_lanes.proofs.Effects.{HitBy, laid, laid-same, laid-cut}
 use Rattle.task_code_lanes.proofs.Configured.{few-lanes}
 use Rattle.task_code_lanes.proofs.Runs.{same-runs, pixels-are-run, loop-runs}
 use Rattle.task_code_lanes.proofs.Storing.{hits-at-once}
 use Rattle.task_code_runs.specs.AtOnce.{MayRun}
 use Rattle.task_code_runs.specs.Runs.{all_lanes, run_of, StoresAs, EmitsRun}
-use Rattle.task_code_runs.specs.inner.Making.{Configures, StoresLanes}
+use Rattle.task_code_runs.specs.inner.Making.{Configures, MakesPointer, StoresLanes}
 use Rattle.task_code_lane_values.proofs.Composing.{kept-under, lanes-under, slot-under}
 use Rattle.task_code_runs.proofs.Aiming.{MakesAims}
 use Rattle.task_code_runs.proofs.Storing.{row-saved}

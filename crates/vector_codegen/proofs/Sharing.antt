@@ -75,6 +75,9 @@ module _ (text : List ℕ) (size harts : ℕ) (parts : List Part) (matter : ℕ 
 
   -- ---- control words
 
+  control-byte : (k a : ℕ) → data_start ≤ a → a < data_start + 8 * suc k → IsControlByte k a
+  control-byte k a l h = (l, h)
+
   room-for : (k : ℕ) → k ≤ last → data_start + 8 * suc k ≤ data_start + size
   room-for k l = let r = s.room in omega (arith, r, l)
 

@@ -32,7 +32,7 @@ use Rattle.bounds_laws.specs.Reached.{is_computed_there}
 use Rattle.bounds_laws.proofs.BoxFacts.{has_box}
 use Rattle.bounds_laws.proofs.PutIn.{pair_there}
 use Rattle.bounds_laws.proofs.Reached.{boxes_are_of_reached_funcs}
-use Rattle.bounds.specs.Stages.{IsAtRoot, StagePlace, stages_to, stages_where, stages_at, stages_below, iterations, iterations_in, iterations_of, writes_in}
+use Rattle.bounds.specs.Stages.{IsAtRoot, StagePlace, stages_to, stages_where, stages_at, stages_below, iterations, iterations_in, iterations_of, update_iterations, writes, writes_in, writes_of}
 use Rattle.lowering.specs.Updates.{IsUpdateAt}
 use Rattle.lowering.proofs.Covered as covered
 use Rattle.lowering.proofs.Facts.{fits, is_box, staged}

@@ -62,6 +62,10 @@ no-task-write (Task t) k (Private l) o w = o
 
 -- ---- which roles write a gate word
 
+abbrev pub Adds : Role → Type 0
+Adds Adding = Unit {0}
+Adds _ = ⊥
+
 pub added-grows : (p : Phase) (top shut : ℕ) (r r1 : Role) (top1 : ℕ) → Becomes p top shut r r1 top1 → has_added r ≤ has_added r1
 added-grows p top shut Looking r1 top1 b = let q : has_added r1 ≡ 1 = ap has_added b.1 in omega (arith, q)
 added-grows p top shut (Looked g) r1 top1 b = let q : has_added r1 ≡ 1 = ap has_added b.1 in omega (arith, q)

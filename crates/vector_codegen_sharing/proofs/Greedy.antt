@@ -1,14 +1,14 @@
 -- Who draws first does all tasks: how far both harts are, and who drew first, decides the state and who wrote each word.
-use Rattle.std.proofs.Common.{◌≡◌, ℕ, zero, suc, List, [], ◌∷◌, Option, Some, None, refl, ap, ◌∙◌, sym}
+use Rattle.std.proofs.Common.{◌≡◌, ℕ, zero, suc, List, [], ◌∷◌, Option, Some, None, true, refl, ap, ◌∙◌, sym}
 use Rattle.std.specs.Prelude.{if◌then◌else◌}
 use Rattle.rv_encoding.specs.Decoding.{decoded}
 use Rattle.rv_encoding.specs.Decoding as decode
 use Rattle.rv_encoding.specs.Operations.{key_in}
 use Rattle.rv_insn.specs.Table.{scalar_table, r_type, i_type, s_type, b_type, u_type, j_type, amo_type, whole_word}
 use Rattle.rv_insn.specs.Encoding.{fixed, span}
-use Rattle.multi_hart.specs.Run.{State, run, turn, is_in}
+use Rattle.multi_hart.specs.Run.{State, all_finished, run, turn, is_in}
 use Rattle.vector_codegen_sharing.specs.Turns.{last_writer, written_next}
-use Rattle.vector_codegen_sharing.specs.Refutations.{greedy, DoesBoth, FirstDoesAll}
+use Rattle.vector_codegen_sharing.specs.Refutations.{greedy, DoesBoth, NeverApart, FirstDoesAll}
 
 -- ---- how far the harts are
 

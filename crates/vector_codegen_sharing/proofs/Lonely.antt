@@ -1,5 +1,5 @@
 -- All harts but the first finish at once: the states that two harts can reach, each known by turns that lead to it.
-use Rattle.std.proofs.Common.{◌≡◌, ℕ, zero, suc, List, [], ◌∷◌, Option, Some, None, Bool, true, false, refl, ap, ◌∙◌, sym, subst, true≢false}
+use Rattle.std.proofs.Common.{◌≡◌, ℕ, zero, suc, List, [], ◌∷◌, Option, Some, None, Bool, true, false, refl, ap, ◌∙◌, sym, subst, true≢false, inl, inr}
 use Rattle.std.specs.Prelude.{if◌then◌else◌}
 use Rattle.rv_encoding.specs.Decoding.{decoded}
 use Rattle.rv_encoding.specs.Decoding as decode

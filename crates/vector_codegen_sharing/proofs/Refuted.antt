@@ -1,6 +1,6 @@
 -- Harts that race behind a gate, that wait at a lock, and that jump for ever.
-use Rattle.std.proofs.Common.{◌≡◌, ℕ, zero, suc, List, [], ◌∷◌, ◌++◌, Some, false, refl, ap, ◌∙◌, sym, subst, arith, inl, inr}
-use Rattle.std.specs.Prelude.{slice_get}
+use Rattle.std.proofs.Common.{◌≡◌, ℕ, zero, suc, List, [], ◌∷◌, ◌++◌, Some, true, false, refl, ap, ◌∙◌, sym, subst, arith, inl, inr}
+use Rattle.std.specs.Prelude.{◌⊎◌, slice_get}
 use Rattle.rv_encoding.specs.Decoding.{decoded}
 use Rattle.rv_encoding.specs.Decoding as decode
 use Rattle.rv_encoding.specs.Operations.{key_in}
@@ -10,7 +10,7 @@ use Rattle.hart_core.specs.declared.harts.Status.TheVariants.{Running, Finished}
 use Rattle.hart_core.specs.HartState.{HartState}
 use Rattle.multi_hart.specs.Run.{State, all_finished, hart_at, run, turn}
 use Rattle.multi_hart.proofs.Resting.{run-append}
-use Rattle.vector_codegen_sharing.specs.Turns.{OnlyBy, Race, control_words}
+use Rattle.vector_codegen_sharing.specs.Turns.{OnlyBy, Race, Waits, control_words}
 use Rattle.vector_codegen_sharing.specs.Refutations.{hasty, HastyHartsRace, locking, LockedHartsStay, jumping, JumpsNeverEnd}
 
 -- ---- a race

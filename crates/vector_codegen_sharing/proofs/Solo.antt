@@ -1,21 +1,21 @@
 -- Rules for the run of one job alone: one more instruction in front, and a counted loop.
 use Rattle.multi_hart_logic.specs.Alone.{Covers, Says, Keeps}
 use Rattle.multi_hart.specs.Run.{Within, is_in, writes}
-use Rattle.std.proofs.Common.{◌≡◌, ℕ, suc, ◌+◌, ◌%◌, ◌^◌, ◌≤◌, List, length, set, None, Bool, true, false, refl, ap, ◌∙◌, sym, subst, arith, inl, inr, get_or-set_other, []}
-use Rattle.std.specs.Prelude.{◌≢◌, ◌==◌, ◌||◌, not, slice_index, nat_lt, ℤ}
+use Rattle.std.proofs.Common.{◌≡◌, ℕ, zero, suc, ◌+◌, ◌*◌, ◌%◌, ◌^◌, ◌≤◌, List, length, set, None, Bool, true, false, refl, ap, ◌∙◌, sym, subst, arith, inl, inr, get_or-set_other, [], ◌∷◌, length-set}
+use Rattle.std.specs.Prelude.{◌≢◌, ◌⊎◌, ◌==◌, ◌||◌, not, slice_index, slice_get, nat_lt, Some, ℤ}
 use Rattle.std.proofs.lemmas.Bool.{ltb-true}
 use Rattle.std.proofs.lemmas.Bool.Decides.{nat_tests}
 use Rattle.std.proofs.lemmas.List.{get_or-set_same}
 use Rattle.rv_insn.specs.declared.instructions.Insn.{Insn}
 use Rattle.rv_insn.specs.declared.instructions.Insn.TheVariants.{Load}
 use Rattle.rv_insn.specs.declared.operations.LoadOp.TheVariants.{Lw}
-use Rattle.memory.specs.Access.{data_start, Word, Reads, word_at, put_number, first_fault, touched, read_by, written_by, or_else, Writes}
+use Rattle.memory.specs.Access.{data_start, AreBytes, Word, Reads, word_at, put_number, first_fault, touched, read_by, written_by, or_else, Writes}
 use Rattle.hart_core.specs.declared.harts.Status.TheVariants.{Running}
 use Rattle.hart_core.specs.HartState.{HartState, advanced, register, given}
 use Rattle.hart_core.specs.Scalar.{one_access, kind_of, accesses, plus}
 use Rattle.hart_core.specs.Turn.{Does, done, numbers_read, applied, step, fault}
 use Rattle.multi_hart_logic.specs.Uses.{Owned, Job, Task, Setup, MayRead, MayWrite}
-use Rattle.vector_codegen_sharing.specs.Phases.{Phase, Stands}
+use Rattle.vector_codegen_sharing.specs.Phases.{Phase, Kept, Stands}
 use Rattle.vector_codegen_sharing.specs.Solo.{world, SoonDone}
 use Rattle.rv_insn.specs.declared.instructions.Insn.TheVariants.{Store}
 use Rattle.rv_insn.specs.declared.operations.StoreOp.TheVariants.{Sw}
@@ -92,6 +92,27 @@ now p k at h r v st l = get_or-set_same h.registers r v 0 (let s = st.kept.size 
 pub kept-other : (h : HartState) (r q v w : ℕ) → (q == r) ≡ false → slice_index h.registers q ≡ w → slice_index (set h.registers r v) q ≡ w
 kept-other h r q v w n e = get_or-set_other h.registers r q v 0 (λ y. let x : (q == r) ≡ true = grind (arith, nat_tests) in let z : true ≡ false = sym x ∙ n in cc z) ∙ e
 
+-- a vector register gets 16 other bytes
+set-either : {X : Type 0} (xs : List X) (i j : ℕ) (y x : X) → slice_get (set xs i y) j ≡ Some x → (x ≡ y) ⊎ (slice_get xs j ≡ Some x)
+set-either [] i j y x e = inr e
+set-either (z ∷ xs) zero zero y x e = inl (cc e)
+set-either (z ∷ xs) zero (suc j) y x e = inr e
+set-either (z ∷ xs) (suc i) zero y x e = inr e
+set-either (z ∷ xs) (suc i) (suc j) y x e = set-either xs i j y x e
+
+pub kept-vector : (p : Phase) (k : ℕ) (xs : List ℕ) (vs : List (List ℕ)) (v : ℕ) (bytes : List ℕ) → length bytes ≡ 16 → AreBytes bytes → Kept p k xs vs → Kept p k xs (set vs v bytes)
+kept-vector p k xs vs v bytes l u o = record {
+  size = o.size;
+  vector_count = length-set vs v bytes ∙ o.vector_count;
+  vector_bytes = λ i b e. elim (set-either vs v i bytes b e) [ inl q ↦ (ap length q ∙ l, subst AreBytes (sym q) u) | inr q ↦ o.vector_bytes i b q ];
+  number = o.number;
+  harts = o.harts;
+  ticket = o.ticket;
+  gate = o.gate;
+  one = o.one;
+  tasks = o.tasks;
+}
+
 -- ---- words
 
 pub store-ok : (w n a : ℕ) → a % 4 ≡ 0 → data_start ≤ a → a + 4 ≤ data_start + n → or_else (first_fault w n Writes (one_access Word a)) None ≡ None
@@ -140,3 +161,8 @@ wp-load p x k n at rd rs1 imm h m a v l st w ea ev al lo hi rd1 s =
     (ap (λ b. or_else (first_fault (length p.text) p.size Reads (one_access Word b)) None) ea ∙ load-ok (length p.text) p.size a al lo hi)
     (subst (λ b. Within (λ b1. MayRead x k (p.uses b1)) (touched (one_access Word b))) (sym ea) rd1, tt, keeps-none p x k)
     (subst (λ y. All p x k n (given h rd y) m) (sym (ap (word_at p.text m) ea ∙ ev)) s)
+
+-- a counted loop: P i holds with i rounds to go, and a round takes c turns
+pub rounds : (p : Phase) (x : Job) (k c n : ℕ) (P : ℕ → HartState → List ℕ → Type 0) → ((i r : ℕ) (h : HartState) (m : List ℕ) → P (suc i) h m → ((h1 : HartState) (m1 : List ℕ) → P i h1 m1 → SoonDone p x k r h1 m1) → SoonDone p x k (c + r) h m) → ((h : HartState) (m : List ℕ) → P 0 h m → SoonDone p x k n h m) → (i : ℕ) (h : HartState) (m : List ℕ) → P i h m → SoonDone p x k (i * c + n) h m
+rounds p x k c n P body rest zero h m o = subst (λ y. SoonDone p x k y h m) (let e : n ≡ 0 * c + n = omega arith in e) (rest h m o)
+rounds p x k c n P body rest (suc i) h m o = subst (λ y. SoonDone p x k y h m) (let e : c + (i * c + n) ≡ suc i * c + n = omega arith in e) (body i (i * c + n) h m o (λ h1 m1 o1. rounds p x k c n P body rest i h1 m1 o1))

@@ -13,8 +13,10 @@ use Rattle.loop_ir.specs.Counters.{Values, with}
 use Rattle.loop_ir.specs.Expressions.{value, loads}
 use Rattle.multi_hart_logic.specs.Alone.{World}
 use Rattle.multi_hart_logic.specs.Paths.{Line, lane}
+use Rattle.task_code_scalar.specs.declared.places.Places.{Places}
 use Rattle.task_code_scalar.specs.Evaluation.{ArePlaces, Loads}
 use Rattle.task_code_scalar.specs.Words.{Emits}
+use Rattle.task_code_registers.specs.declared.scopes.Held.{Held}
 use Rattle.task_code_registers.specs.Scopes.{Knows, AreHolders}
 use Rattle.task_code_lanes.specs.Groups.{registers, slot}
 use Rattle.task_code_lanes.specs.Leaving.{HasLanes}

@@ -1,4 +1,4 @@
-use Rattle.std.proofs.Common.{◌∙◌, ◌++◌, ap, refl, subst}
+use Rattle.std.proofs.Common.{◌∙◌, ◌++◌, List, ap, refl, subst}
 use Rattle.hrv_refusals.specs.Explanations.{explanation}
 use Rattle.hrv_engines.specs.Devices.{sink_of}
 use Rattle.hrv_engines.specs.Engine.{Writes}

@@ -1,4 +1,4 @@
-use Rattle.std.proofs.Common.{arith, ◌<◌}
+use Rattle.std.proofs.Common.{arith, ◌<◌, ◌+◌}
 use Rattle.task_code_lanes.specs.Groups.{slots}
 use Rattle.task_code_lane_values.proofs.Gathering.{scattered-made}
 use Rattle.task_code_lane_values.proofs.points.emit_scattered.Goals as goal
