@@ -1,6 +1,6 @@
 -- What a run of an image answers: a log of turns, and the dump after them. An image has many logs: which one comes out hangs on the
 -- threads. This project's own.
-use Rattle.std.specs.Prelude.{◌≡◌, ◌⊎◌, ℕ, List, [], take, Result, Ok, Err}
+use Rattle.std.specs.Prelude.{◌≡◌, ◌≤◌, ◌⊎◌, ℕ, List, [], take, Result, Ok, Err}
 use Rattle.std.specs.String.{string_bytes}
 use Rattle.turn_log.specs.TurnLog.{LogState}
 use Rattle.turn_log.specs.LogSpelling.{log_of, spelled}
@@ -68,6 +68,14 @@ abbrev pub Runs : {I X : Type 0} → (I → List ℕ → List ℕ → Type 0) �
 Runs leaves refuses sources log out (Ok done) =
     Ran leaves sources.gave (λ bytes text. log.took bytes × out.took text) × sources.well × log.well × out.well
 Runs leaves refuses sources log out (Err fault) = RunGaveUp leaves refuses sources log out fault
+
+-- the bytes spell a log of several harts, and so has each run that goes on from it
+abbrev pub IsOfSeveral : List ℕ → Type 0
+IsOfSeveral bytes = (old : LogState) × (log_of bytes ≡ Ok old) × (2 ≤ old.harts)
+
+-- a source gave such bytes
+abbrev pub GaveSeveral : Sources (List ℕ) → Type 0
+GaveSeveral source = (bytes : List ℕ) × source.gave bytes × IsOfSeveral bytes
 
 -- ---- its steps
 

@@ -1,12 +1,14 @@
 //! Running an image by threads, with a log of the turns that were made.
 
-ghost use Rattle.std.specs.Prelude.{◌≡◌, ℕ, ◌+◌, ◌<◌, ◌≤◌, ◌^◌, List, Ok, IfOk, IfErr};
+ghost use Rattle.std.specs.Prelude.{◌≡◌, ℕ, ◌+◌, ◌<◌, ◌≤◌, ◌^◌, List, Ok, Err, IfOk, IfErr};
 ghost use Rattle.std.specs.String.{string_bytes};
 ghost use Rattle.loader.specs.Spelling.{image_of};
 ghost use Rattle.hrv_engines.specs.Devices.{both, bytes_of, image_bytes_of, sink_of};
 ghost use Rattle.hrv_engines.specs.Dis.{IsRefusedImage};
 ghost use Rattle.hrv_engines.specs.Replay.{IsRefusedReplay};
-ghost use Rattle.hrv_engines.specs.Run.{IsResumedRun, IsRun, IsRunFrom, IsWant, Runs, Unrun, WritesBoth};
+ghost use Rattle.hrv_engines.specs.Run.{GaveSeveral, IsOfSeveral, IsResumedRun, IsRun, IsRunFrom, IsWant, Runs, Unrun};
+ghost use Rattle.hrv_engines.specs.Run.{WritesBoth};
+ghost use Rattle.hrv_engines.specs.declared.faults.Fault.TheVariants.{Thread};
 
 use crate::devices::{Sink, Source, read_all, read_image_bytes, write_each};
 use crate::dumps::dump;
@@ -26,7 +28,8 @@ pub struct Resources<'a, R> {
 
 /// Reads an image, runs it by a thread for each of 1 to 8 harts until each has stopped or has made so many turns, and
 /// writes the log of the turns and then the dump. The whole image is read before the first turn, the whole log is
-/// written before the dump, and nothing is written where memory or threads are wanting.
+/// written before the dump, and nothing is written where memory or threads are wanting. One hart is never refused a
+/// thread.
 pub fn run_bytes<I: Source, L: Sink, O: Sink, R: Threads + Wait + Sync>(
     resources: &Resources<'_, R>,
     image: &mut I,
@@ -40,10 +43,11 @@ pub fn run_bytes<I: Source, L: Sink, O: Sink, R: Threads + Wait + Sync>(
     requires image { I.failed image.old + 1 < 2 ^ 64 }
     requires log { L.failed log.old + 1 < 2 ^ 64 }
     requires out { O.failed out.old + 1 < 2 ^ 64 }
-    ensures { Runs (IsRun harts limit) IsRefusedImage
+    ensures runs { Runs (IsRun harts limit) IsRefusedImage
         (image_bytes_of I.place I.failed I.gave I.ended image.old image.new)
         (sink_of L.place L.failed L.took log.old log.new)
         (sink_of O.place O.failed O.took out.old out.new) result }
+    ensures threads { result ≡ Err Thread → 2 ≤ harts }
 {
     let (threads, alloc) = (resources.threads, resources.alloc);
     let image_bytes = read_image_bytes(alloc, image)?;
@@ -66,11 +70,13 @@ pub fn resume_bytes<I: Source, P: Source, L: Sink, O: Sink, R: Threads + Wait + 
     requires old { P.failed old.old + 1 < 2 ^ 64 }
     requires log { L.failed log.old + 1 < 2 ^ 64 }
     requires out { O.failed out.old + 1 < 2 ^ 64 }
-    ensures { Runs (IsResumedRun limit) IsRefusedReplay
+    ensures runs { Runs (IsResumedRun limit) IsRefusedReplay
         (both (image_bytes_of I.place I.failed I.gave I.ended image.old image.new)
         (bytes_of P.place P.failed P.gave P.ended old.old old.new))
         (sink_of L.place L.failed L.took log.old log.new)
         (sink_of O.place O.failed O.took out.old out.new) result }
+    ensures threads { result ≡ Err Thread
+        → GaveSeveral (bytes_of P.place P.failed P.gave P.ended old.old old.new) }
 {
     let (threads, alloc) = (resources.threads, resources.alloc);
     let image_bytes = read_image_bytes(alloc, image)?;
@@ -92,6 +98,7 @@ fn run_image<R: Threads + Wait + Sync>(
     requires few { harts ≤ 8 }
     ensures ok { IfOk result (λ made. IsRun harts limit image.items made.0.items (string_bytes made.1)) }
     ensures err { IfErr result (Unrun IsRefusedImage image.items) }
+    ensures threads { result ≡ Err Thread → 2 ≤ harts }
 {
     let read = read_image(alloc, &image)?;
     drop(image);
@@ -109,6 +116,7 @@ fn resume_image<R: Threads + Wait + Sync>(
 ) -> Result<(Vec<u8>, String), Fault>
     ensures ok { IfOk result (λ made. IsResumedRun limit (image.items, old.items) made.0.items (string_bytes made.1)) }
     ensures err { IfErr result (Unrun IsRefusedReplay (image.items, old.items)) }
+    ensures threads { result ≡ Err Thread → IsOfSeveral old.items }
 {
     let read = read_image(alloc, &image)?;
     drop(image);
@@ -128,6 +136,7 @@ fn run_from<R: Threads + Wait + Sync>(
     ensures ok { IfOk result (λ made. (image_bytes : List ℕ) → image_of image_bytes ≡ Ok image
         → IsRunFrom image image_bytes old limit made.0.items (string_bytes made.1)) }
     ensures err { IfErr result IsWant }
+    ensures threads { result ≡ Err Thread → 2 ≤ old.harts }
 {
     let output = image.output();
     let (machine, log) = shared_machine::run(rt, alloc, image, old, limit)?;

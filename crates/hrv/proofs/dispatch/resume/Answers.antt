@@ -13,7 +13,7 @@ returns g c = (
       c.written-log.result,
       c.resume_bytes.new.log,
       c.written-log.ensures.place,
-      (c.printed.result, c.resume_bytes.new.out, c.printed.ensures.place, c.resume_bytes.ensures),
+      (c.printed.result, c.resume_bytes.new.out, c.printed.ensures.place, c.resume_bytes.ensures.runs),
     ),
   ),
 )

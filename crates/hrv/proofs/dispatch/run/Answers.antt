@@ -9,6 +9,6 @@ returns g c = (
     c.written.result,
     c.run_bytes.new.log,
     c.written.ensures.place,
-    (c.printed.result, c.run_bytes.new.out, c.printed.ensures.place, c.run_bytes.ensures),
+    (c.printed.result, c.run_bytes.new.out, c.printed.ensures.place, c.run_bytes.ensures.runs),
   ),
 )

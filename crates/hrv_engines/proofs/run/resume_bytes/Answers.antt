@@ -5,8 +5,8 @@ use Rattle.hrv_engines.specs.Run.{IsResumedRun}
 use Rattle.hrv_engines.proofs.Runs.{unrun}
 use Rattle.hrv_engines.proofs.run.resume_bytes.Goals as goal
 
-pub returns-in_err-log_bytes : goal.returns-in_err-log_bytes
-returns-in_err-log_bytes g c =
+pub returns-in_err-log_bytes-clause-runs : goal.returns-in_err-log_bytes-clause-runs
+returns-in_err-log_bytes-clause-runs g c =
     let image = image_bytes_of g.I.Source.place g.I.Source.failed g.I.Source.gave g.I.Source.ended c.args.image.now c.read_image_bytes.new.source in
     let old = bytes_of g.P.Source.place g.P.Source.failed g.P.Source.gave g.P.Source.ended c.args.old.now c.read_all.new.source in
     let log = sink_of g.L.Sink.place g.L.Sink.failed g.L.Sink.took c.args.log.now c.args.log.now in
