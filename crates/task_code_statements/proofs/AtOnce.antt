@@ -104,7 +104,7 @@ module _ (counter : Counter) (made : Store) (lacks : StoreLacks counter made) (v
   abbrev entered : Values
   entered = with counter v values
 
-  effect-left : (reads : Reads) → effect reads (s.Store made) entered ≡ effect reads (s.Store made) values
+  pub effect-left : (reads : Reads) → effect reads (s.Store made) entered ≡ effect reads (s.Store made) values
   effect-left reads =
       effect_store reads made entered
       ∙ ap (λ k. Some (record { func = made.func; x = k; y = value reads entered made.y; pixel = value reads entered made.value })) (lacks.column.value_is
@@ -115,7 +115,7 @@ module _ (counter : Counter) (made : Store) (lacks : StoreLacks counter made) (v
       reads values v)
       ∙ sym (effect_store reads made values)
 
-  sound-left : (reads : Reads) (written : Points) (loaded : Point → Bool)
+  pub sound-left : (reads : Reads) (written : Points) (loaded : Point → Bool)
       → is_sound reads written loaded (s.Store made) entered ≡ is_sound reads written loaded (s.Store made) values
   sound-left reads written loaded =
       let x = value reads values made.x in

@@ -8,6 +8,7 @@ pub mod Plainness
 pub mod Laying
 pub mod Same
 pub mod Splitting
+pub mod Standing
 pub mod Starting
 pub mod Storing
 pub mod Tasking

@@ -42,7 +42,7 @@ use Rattle.task_code_statements.proofs.Same.{form-sum}
 -- ---- values
 
 -- no name is in a split loop
-whole-plain : (whole : Whole) → is_name whole.outer ≡ false → is_name whole.inner ≡ false → (values named : Values) → AreNamed values named
+pub whole-plain : (whole : Whole) → is_name whole.outer ≡ false → is_name whole.inner ≡ false → (values named : Values) → AreNamed values named
     → whole_value whole named ≡ whole_value whole values
 whole-plain whole outer inner values named are =
     ap (λ n. word.add (at_most whole.last (word.multiply n whole.factor)) (named whole.inner)) (are whole.outer outer)
@@ -71,7 +71,7 @@ none-there : {A : Type 0} (l : List A) → length l ≡ 0 → l ≡ []
 none-there [] e = refl
 none-there (first ∷ others) e = absurd (omega (arith, e))
 
-number-value : (sum : Linear) (values : Values) → length sum.terms ≡ 0 → sum.number < 2 ^ 32 → linear_value values sum ≡ sum.number
+pub number-value : (sum : Linear) (values : Values) → length sum.terms ≡ 0 → sum.number < 2 ^ 32 → linear_value values sum ≡ sum.number
 unfolding linear_value
 number-value sum values none small =
     let g : (sum.number + 0) % 2 ^ 32 ≡ sum.number = omega (arith, small) in

@@ -13,6 +13,7 @@ use Rattle.loop_ir.specs.declared.expressions.Linear.{Linear}
 use Rattle.loop_ir.specs.declared.statements.Whole.{Whole}
 use Rattle.loop_ir.specs.Counters.{Values, with}
 use Rattle.loop_ir.specs.Expressions.{linear_value, value}
+use Rattle.loop_ir.specs.Running.{at_most}
 use Rattle.task_code_values.proofs.Evaluating.{value_binary, value_linear, value_number}
 use Rattle.task_code_registers.specs.declared.scopes.Form.{Form}
 use Rattle.task_code_loops.specs.declared.bounds.Bound.{Bound}
@@ -25,7 +26,7 @@ use Rattle.task_code_statements.specs.declared.contexts.Context.{Context}
 use Rattle.task_code_statements.specs.Contexts.{MeetsName}
 use Rattle.task_code_statements.specs.Lessers.{IsLesser, StaysBelow}
 use Rattle.task_code_statements.specs.Rewriting.{IsLeafSum}
-use Rattle.task_code_statements.specs.Splits.{HasLesser, IsProduct, IsStart, signed_start}
+use Rattle.task_code_statements.specs.Splits.{BeginsAt, HasLesser, IsProduct, IsStart, product, signed_start}
 use Rattle.task_code_statements.proofs.Same.{first-form}
 
 below-so : (a b : ℕ) → nat_lt a b ≡ true → a < b
@@ -78,6 +79,15 @@ lesser-has context names bounds sum last own counter en eb small below lesser is
     let low = sum-below bounds (record { sum = sum; per_hart = 0 }) below values (subst (λ b. AreBelow b values) (sym eb) meets.below) in
     let has = is values (subst (λ l. AreNames l values) (sym en) meets.named) in
     sym (has.value_is no_reads) ∙ lesser.value_is no_reads values ∙ least-is (linear_value values sum) last low small
+
+-- and where a run begins, which needs no name
+pub lesser-begins : (context : Context) (whole : Whole) (bounds : List Bound) (sum : Linear) (last : ℕ) (own : Expr) → whole.last ≡ Some last
+    → bounds ≡ context.bounds.items → last < 2 ^ 31 → IsBelow bounds (record { sum = sum; per_hart = 0 }) (2 ^ 31) → IsProduct context whole sum
+    → IsLesser sum last own → BeginsAt context whole own
+lesser-begins context whole bounds sum last own el eb small below is lesser reads values meets =
+    let low = sum-below bounds (record { sum = sum; per_hart = 0 }) below values (subst (λ b. AreBelow b values) (sym eb) meets.below) in
+    lesser.value_is reads values ∙ least-is (linear_value values sum) last low small
+    ∙ ap (λ n. min n last) (is.value_is values meets.known) ∙ sym (ap (λ o. at_most o (product whole values)) el)
 
 -- where it has a name
 pub has-if : (context : Context) (names : List Named) (bounds : List Bound) (sum : Linear) (last : ℕ) (own : Expr) (found : Option Counter)

@@ -5,6 +5,7 @@ pub mod Lessers
 pub mod Making
 pub mod Naming
 pub mod Plain
+pub mod Replacing
 pub mod Rewriting
 pub mod Splits
 pub mod Statements

@@ -1,5 +1,5 @@
 -- Values of split loops as sums. This project's own.
-use Rattle.std.specs.Prelude.{◌≡◌, ℕ, min, Option, None, Some}
+use Rattle.std.specs.Prelude.{◌≡◌, ◌<◌, ℕ, ◌%◌, ◌^◌, min, [], Option, None, Some}
 use Rattle.halide_pipeline.specs.Pixel.{Reads}
 use Rattle.halide_pipeline.specs.Words as word
 use Rattle.loop_ir.specs.declared.expressions.Counter.{Counter}
@@ -7,7 +7,7 @@ use Rattle.loop_ir.specs.declared.expressions.Expr.{Expr}
 use Rattle.loop_ir.specs.declared.expressions.Linear.{Linear}
 use Rattle.loop_ir.specs.declared.statements.Whole.{Whole}
 use Rattle.loop_ir.specs.Counters.{Values}
-use Rattle.loop_ir.specs.Expressions.{linear_value, value}
+use Rattle.loop_ir.specs.Expressions.{linear_value, loads, value}
 use Rattle.loop_ir.specs.Running.{at_most, whole_value}
 use Rattle.task_code_loops.specs.Known.{AreKnown}
 use Rattle.task_code_runs.specs.Naming.{AreNamed}
@@ -69,3 +69,32 @@ BeginsRun context whole start =
 abbrev pub AddsInner : Whole → Start → Linear → Type 0
 AddsInner whole start sum =
     (other : ℕ) (values : Values) → linear_value values sum ≡ word.add (start_value whole other start values) (values whole.inner)
+
+-- ---- values that are no sums
+
+-- An expression that loads nothing has a split loop's value wherever the context holds. The value hangs on no name, and stays below an extent.
+pub record IsSplitValue (context : Context) (whole : Whole) (extent : ℕ) (e : Expr) : Type 0 where
+  pub value_is : (reads : Reads) (values : Values) → Meets context values → value reads values e ≡ whole_value whole values
+  pub none : (reads : Reads) (values : Values) → loads reads values e ≡ []
+  pub plain : (values named : Values) → AreNamed values named → whole_value whole named ≡ whole_value whole values
+  pub below : (values : Values) → Meets context values → whole_value whole values < extent
+
+-- a run begins at an expression's value
+abbrev pub BeginsAt : Context → Whole → Expr → Type 0
+BeginsAt context whole e =
+    (reads : Reads) (values : Values) → Meets context values → value reads values e ≡ at_most whole.last (product whole values)
+
+-- a sum is the inner variable, and stays below a number
+pub record IsInner (context : Context) (whole : Whole) (count : ℕ) (sum : Linear) : Type 0 where
+  pub value_is : (values : Values) → Meets context values → linear_value values sum ≡ values whole.inner % 2 ^ 32
+  pub below : (values : Values) → Meets context values → linear_value values sum < count
+
+-- an expression is the sum of another one and a sum
+abbrev pub IsPlus : Expr → Linear → Expr → Type 0
+IsPlus e sum made = (reads : Reads) (values : Values) → value reads values made ≡ word.add (value reads values e) (linear_value values sum)
+
+-- so it is with the value of a split loop, but for what it loads
+pub record IsValueOf (context : Context) (whole : Whole) (extent : ℕ) (e : Expr) : Type 0 where
+  pub value_is : (reads : Reads) (values : Values) → Meets context values → value reads values e ≡ whole_value whole values
+  pub none : (reads : Reads) (values : Values) → loads reads values e ≡ []
+  pub below : (values : Values) → Meets context values → whole_value whole values < extent

@@ -30,10 +30,12 @@ use Rattle.task_code_statements.specs.declared.contexts.Context.{Context}
 use Rattle.task_code_statements.specs.declared.guards.Guard.{Guard}
 use Rattle.task_code_statements.specs.declared.guards.Parted.{Parted}
 use Rattle.task_code_statements.specs.declared.guards.Tests.{Tests}
+use Rattle.task_code_statements.specs.declared.replacing.Standing.{Standing}
 use Rattle.task_code_statements.specs.declared.vectorizing.Guarded.{Guarded}
 use Rattle.task_code_statements.specs.declared.vectorizing.Run.{Run}
 use Rattle.task_code_statements.specs.Contexts.{Meets}
-use Rattle.task_code_statements.specs.Lacking.{StoreLacks}
+use Rattle.task_code_statements.specs.Lacking.{Lacks, StoreLacks}
+use Rattle.task_code_statements.specs.Replacing.{IsReplacedStore}
 
 -- whether a sum is below its extent
 abbrev pub is_passed : Guard → Values → Bool
@@ -52,6 +54,13 @@ GuardsLack counter guards = (values : Values) (v : ℕ) → passes guards (with 
 pub record GuardedLacks (counter : Counter) (own : Guarded) : Type 0 where
   pub store : StoreLacks counter own.store
   pub guards : GuardsLack counter own.guards.items
+
+-- An expression stands for a variable in a store, and neither the expression nor what is left has it.
+pub record ReplacesIn (old : Guarded) (own : Standing) (made : Guarded) : Type 0 where
+  pub store : IsReplacedStore own old.store made.store
+  pub guards_are : made.guards ≡ old.guards
+  pub lacks : GuardedLacks own.counter made
+  pub own_lacks : Lacks own.counter own.e
 
 -- one more test
 abbrev pub OneMore : List Guard → Guard → List Guard → Type 0

@@ -16,6 +16,7 @@ mod lessers;
 mod mentions;
 mod names;
 mod plain;
+mod replacing;
 pub mod rewriting;
 mod room;
 mod splits;

@@ -1,18 +1,20 @@
 //! Split loops: their values as sums.
 
 ghost use Rattle.std.specs.Prelude.{◌≡◌, ◌-◌, ◌<◌, ◌^◌, ◌≤◌, IfOk, IfSome, Some, min, true};
-ghost use Rattle.task_code_statements.specs.Splits.{AddsInner, BeginsRun, EntersSplit, HasLesser};
-ghost use Rattle.task_code_statements.specs.Splits.{IsProduct, IsSplitSum, IsStart};
+ghost use Rattle.task_code_statements.specs.Splits.{AddsInner, BeginsAt, BeginsRun, EntersSplit, HasLesser, IsInner};
+ghost use Rattle.task_code_statements.specs.Splits.{IsPlus, IsProduct, IsSplitSum, IsSplitValue, IsStart, IsValueOf};
 
 use crate::contexts::{Context, with_sum};
 use crate::lessers::{NEGATIVE, lesser_of};
 use crate::plain::is_name;
 use crate::rewriting::sum_by_others;
+use halide_pipeline::Operation;
 use loop_ir::expressions::{Counter, Expr, Linear, Term, same_counter};
 use loop_ir::statements::{Stmt, Whole};
-use sqlite_items::Items;
+use sqlite_items::{Boxed, Items};
 use std::alloc::{AllocError, Global};
 use task_code_loops::bounds::{Bound, is_below};
+use task_code_names::copies::is_still;
 use task_code_names::names::name_for;
 use task_code_registers::scopes::Form;
 use task_code_scalar::CodeFault;
@@ -186,6 +188,113 @@ fn split_sum(alloc: Global, context: &Context, whole: &Whole) -> Result<Option<L
     };
     let sum = sum_by_others(alloc, &own, context.known.as_slice())?;
     Ok(Some(sum))
+}
+
+/// Where a run of a split loop's inner loop begins, as an expression: at the lesser of the product and the last start,
+/// neither of which is negative.
+fn start_as_lesser(
+    alloc: Global,
+    context: &Context,
+    whole: &Whole,
+    last: u32,
+) -> Result<Option<Expr>, AllocError>
+    requires { whole.now.last ≡ Some last }
+    ensures { IfOk result (λ found. IfSome found (BeginsAt context.now whole.now)) }
+{
+    let sum = product_of(alloc, context, whole)?;
+    let form = Form { sum, per_hart: 0 };
+    if last >= NEGATIVE || !is_below(&form, context.bounds.as_slice(), NEGATIVE) {
+        return Ok(None);
+    }
+    let e = lesser_of(alloc, form.sum, last)?;
+    Ok(Some(e))
+}
+
+/// The variable of a split loop's inner loop, by the loop variables that aren't known, if it stays below a number.
+fn inner_below(
+    alloc: Global,
+    context: &Context,
+    whole: &Whole,
+    count: u32,
+) -> Result<Option<Linear>, AllocError>
+    ensures { IfOk result (λ found. IfSome found (IsInner context.now whole.now count)) }
+{
+    let own = Linear::of_counter(alloc, whole.inner)?;
+    let sum = sum_by_others(alloc, &own, context.known.as_slice())?;
+    let form = Form { sum, per_hart: 0 };
+    if is_below(&form, context.bounds.as_slice(), count) {
+        Ok(Some(form.sum))
+    } else {
+        Ok(None)
+    }
+}
+
+/// An expression and a sum.
+fn added(alloc: Global, e: Expr, sum: Linear) -> Result<Expr, AllocError>
+    ensures { IfOk result (IsPlus e sum) }
+{
+    let first = Boxed::new(alloc, e)?;
+    let second = Boxed::new(alloc, Expr::Linear(sum))?;
+    Ok(Expr::Binary(Operation::Add, first, second))
+}
+
+/// The value of a split loop whose last run begins here, as an expression, if it stays below an extent.
+fn value_up_to(
+    alloc: Global,
+    context: &Context,
+    whole: &Whole,
+    last: u32,
+    extent: u32,
+) -> Result<Option<Expr>, AllocError>
+    requires { whole.now.last ≡ Some last }
+    ensures { IfOk result (λ found. IfSome found (IsValueOf context.now whole.now extent)) }
+{
+    if last >= extent {
+        return Ok(None);
+    }
+    let Some(inner) = inner_below(alloc, context, whole, extent - last)? else {
+        return Ok(None);
+    };
+    let Some(start) = start_as_lesser(alloc, context, whole, last)? else {
+        return Ok(None);
+    };
+    let e = added(alloc, start, inner)?;
+    if is_still(&e) { Ok(Some(e)) } else { Ok(None) }
+}
+
+/// Whether a split loop's runs begin where no sum is known to.
+fn is_unknown(alloc: Global, context: &Context, whole: &Whole) -> Result<bool, AllocError> {
+    match start_of(alloc, context, whole)? {
+        Start::Unknown => Ok(true),
+        _ => Ok(false),
+    }
+}
+
+/// The value of a split loop as an expression that loads nothing, where it is no sum that is known, and stays below the
+/// loop's extent.
+///
+/// # Errors
+///
+/// Memory ran out.
+pub(crate) fn split_value(
+    alloc: Global,
+    context: &Context,
+    whole: &Whole,
+    extent: u32,
+) -> Result<Option<Expr>, AllocError>
+    ensures { IfOk result (λ found. IfSome found (IsSplitValue context.now whole.now extent)) }
+{
+    if is_name(whole.outer) || is_name(whole.inner) {
+        return Ok(None);
+    }
+    let Some(last) = whole.last else {
+        return Ok(None);
+    };
+    if !is_unknown(alloc, context, whole)? {
+        return Ok(None);
+    }
+    let found = value_up_to(alloc, context, whole, last, extent)?;
+    Ok(found)
 }
 
 /// What is known where a split loop's body runs, and the loop's value.

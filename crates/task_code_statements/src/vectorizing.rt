@@ -5,14 +5,15 @@ ghost use Rattle.loop_ir.specs.declared.statements.LoopKind.TheVariants.{Vectori
 ghost use Rattle.loop_ir.specs.declared.statements.Stmt.TheVariants as stmts;
 ghost use Rattle.task_code_statements.specs.Contexts.{Meets};
 ghost use Rattle.task_code_statements.specs.Statements.{EmitsStatement};
-ghost use Rattle.task_code_statements.specs.Vectorizing.{AreLanes, GuardedLacks, IsRunOf, IsStoreOf};
+ghost use Rattle.task_code_statements.specs.Vectorizing.{AreLanes, GuardedLacks, IsRunOf, IsStoreOf, ReplacesIn};
 
 use crate::contexts::{Context, in_loop};
 use crate::guards::{Guard, Tests, add_test, emit_behind, guards_lack, tests_of};
-use crate::lacking::store_lacks;
+use crate::lacking::{lacks, store_lacks};
 use crate::plain::is_plain_store;
+use crate::replacing::{Standing, store_with};
 use crate::rewriting::store_by_others;
-use crate::splits::enter_split;
+use crate::splits::{enter_split, split_value};
 use crate::starts::emit_starts;
 use crate::statements::mentions;
 use loop_ir::expressions::Counter;
@@ -51,6 +52,15 @@ impl Guarded {
         let Guarded { store, guards: _ } = self;
         store
     }
+
+    /// The tests alone.
+    fn into_guards(self) -> Vec<Guard>
+        ensures { result ≡ self.guards }
+    {
+        let Guarded { store, guards } = self;
+        drop(store);
+        guards
+    }
 }
 
 /// Whether a loop's iterations may be done at once.
@@ -88,6 +98,24 @@ fn guarded_lacks(own: &Guarded, counter: Counter) -> bool
     store_lacks(&own.store, counter) && guards_lack(own.guards.as_slice(), counter)
 }
 
+/// A store and its tests with an expression for a loop variable that none of the tests has.
+fn guarded_with(alloc: Global, made: Guarded, own: Standing) -> Result<Guarded, CodeFault>
+    ensures { IfOk result (ReplacesIn made own) }
+{
+    if !lacks(&own.e, own.counter) {
+        return Err(CodeFault::TooDeep);
+    }
+    let store = store_with(alloc, &made.store, &own)?;
+    let guarded = Guarded {
+        store,
+        guards: made.into_guards(),
+    };
+    if !guarded_lacks(&guarded, own.counter) {
+        return Err(CodeFault::TooDeep);
+    }
+    Ok(guarded)
+}
+
 /// The store that a vectorized loop's body is, by the loop variables that aren't known.
 fn stored_by(alloc: Global, context: &Context, body: &Stmt) -> Result<Guarded, CodeFault>
     ensures { IfOk result (IsStoreOf context.now body.now) }
@@ -98,6 +126,23 @@ fn stored_by(alloc: Global, context: &Context, body: &Stmt) -> Result<Guarded, C
             Ok(made)
         }
         Stmt::Bind(counter, whole, extent, inside) => {
+            if let Some(e) = split_value(alloc, context, whole, *extent)? {
+                let bound = Bound {
+                    counter: *counter,
+                    count: *extent,
+                };
+                let inner = in_loop(alloc, context, bound)?;
+                let made = stored_by(alloc, &inner, inside.get())?;
+                let own = guarded_with(
+                    alloc,
+                    made,
+                    Standing {
+                        counter: *counter,
+                        e,
+                    },
+                )?;
+                return Ok(own);
+            }
             let entered = enter_split(alloc, context, *counter, whole)?;
             let mut made = stored_by(alloc, &entered.inner, inside.get())?;
             if !guarded_lacks(&made, *counter) {
