@@ -28,16 +28,6 @@ LONGEST = (
     45, 97, 106, 370, 399, 421, 442, 503, 520, 525, 550, 630, 636, 734
 )
 
-# The cases with vectorized loops that forms don't suffice for: those of a shift split's outer loop, whose last lane lies elsewhere than its stride
-# says.
-COLLECTED = {
-    "random 47": "0 of 4 vector code, 4 collected",
-    "random 584": "0 of 1 vector code, 1 collected",
-    "random 597": "64 of 67 vector code, 3 collected",
-    "random 605": "0 of 1 vector code, 1 collected",
-    "random 694": "0 of 1 vector code, 1 collected",
-}
-
 ORDERS = ("rising", "falling", "from both ends")
 RUNS = ((1, "in turn"), (2, "drawn"), (3, "in turn"), (3, "the first ahead"), (3, "the last behind"), (8, "in turn"), (8, "the first ahead"))
 
@@ -100,7 +90,7 @@ class Accepted:
         self.pixels = width * (height or 1)
         # The answer has a line for each Func that is computed.
         computed = [func for number, func in enumerate(func_names(algorithm)) if any(line.startswith(f"func {number} ") for line in says)]
-        self.vectors = vectors(schedule, computed, COLLECTED.get(name, "all vector code"))
+        self.vectors = vectors(schedule, computed)
 
     def pictures(self, chance):
         """A random picture for each input."""
