@@ -150,7 +150,7 @@ CASES = [
     ("one whose rows weigh six registers and take seven groups", *update_by_table(f"clamp(in(clamp(x,0,19),r)+({nested(4, 'lut(b(r))')}),0,3)", "in(x,r)")),
     ("one whose rows need six registers, and whose values weigh six and take seven groups", *update_by_table(nested(4, ROW), nested(4, "lut(b(x))"))),
     ("a split of the outer loop of three shift splits by three", "input in 61\nfunc f(x) = in(x)\noutput f 61",
-     "f split x a xi 3 shift\nf split a c ci 3 shift\nf split c e ei 3 shift\nf split e g h 4 guard\nf reorder h xi ci ei g\nf vectorize h", Facts((61,), code="0 of 1 vector code, 1 collected")),
+     "f split x a xi 3 shift\nf split a c ci 3 shift\nf split c e ei 3 shift\nf split e g h 4 guard\nf reorder h xi ci ei g\nf vectorize h", Facts((61,))),
     ("choices in what others leave, by sixteen", *one(chosen(7, "select(in(x+{0}) < {0}, in(36-x), {1})"), 29, 16)[:2], Facts((29,), frames=True)),
     ("choices in what others take, by sixteen", *one(chosen(7, "select(in(x+{0}) < {0}, {1}, in(36-x))"), 29, 16)[:2], Facts((29,), frames=True)),
     ("a shift split of a shift split's outer loop, in whose runs pixels come one after the other", "input in 130\nfunc f(x) = in(x) * 5 - in(129-x)\noutput f 130",
