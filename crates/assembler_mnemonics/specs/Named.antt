@@ -25,7 +25,8 @@ vector_forms =
     ++ (map v.CompareVv all_compare_vvs ++ (map v.CompareVx all_compare_vxs ++ (map v.CompareVi all_compare_vis
     ++ (map v.MultiplyVv all_multiplies ++ (map v.MultiplyVx all_multiplies ++ (map v.Reduce all_reductions
     ++ (flat_map (λ mode. map (v.LoadElements mode) all_widths) all_modes ++ (flat_map (λ mode. map (v.StoreElements mode) all_widths) all_modes
-    ++ (v.MergeVv ∷ v.MergeVx ∷ v.MergeVi ∷ v.MoveVv ∷ v.MoveVx ∷ v.MoveVi ∷ v.MoveToScalar ∷ v.MoveFromScalar ∷ v.ElementNumbers ∷ v.ExtendBytes ∷ v.Vsetvli ∷ v.Vsetivli ∷ v.Vsetvl ∷ []))))))))))))
+    ++ (v.MergeVv ∷ v.MergeVx ∷ v.MergeVi ∷ v.MoveVv ∷ v.MoveVx ∷ v.MoveVi ∷ v.MoveToScalar ∷ v.MoveFromScalar ∷ v.ElementNumbers ∷ v.ExtendBytes
+    ∷ v.Vsetvli ∷ v.Vsetivli ∷ v.Vsetvl ∷ []))))))))))))
 
 unfoldable pub forms : List Form
 forms =

@@ -62,17 +62,21 @@ AnswerPixels reads is_inlined inputs funcs planes count = (s : Source) (n x y : 
 -- Inlining changes no value: where inputs and computed Funcs answer by their pixels, an expression's value through
 -- inlined Funcs is its value where all Funcs answer so.
 abbrev pub InliningKeepsValues : Type 0
-InliningKeepsValues = (reads : Reads) (is_inlined : ℕ → Bool) (inputs : List Input) (funcs : List Func) (planes : Planes) → AreFuncs inputs funcs → AreSimple is_inlined funcs
+InliningKeepsValues = (reads : Reads) (is_inlined : ℕ → Bool) (inputs : List Input) (funcs : List Func) (planes : Planes) → AreFuncs inputs funcs
+    → AreSimple is_inlined funcs
     → (count : ℕ) → AnswerPixels reads is_inlined inputs funcs planes count
     → (has : Variable → Bool) (environment : Environment) (e : Expr) → keeps (is_read inputs funcs count) has e ≡ true
     → inlined (values reads) is_inlined funcs count (variable environment) e ≡ value (reads_of planes (pixels funcs planes count)) environment e
 
 -- So it is in an update, whose Func answers by what stands.
 abbrev pub InliningKeepsUpdates : Type 0
-InliningKeepsUpdates = (reads : Reads) (is_inlined : ℕ → Bool) (inputs : List Input) (funcs : List Func) (planes : Planes) → AreFuncs inputs funcs → AreSimple is_inlined funcs
-    → (own : ℕ) (plane : Plane) → is_inlined own ≡ false → AnswerPixels reads is_inlined inputs funcs planes own → ((x y : ℕ) → reads (sources.Func own) x y ≡ plane x y)
+InliningKeepsUpdates = (reads : Reads) (is_inlined : ℕ → Bool) (inputs : List Input) (funcs : List Func) (planes : Planes) → AreFuncs inputs funcs
+    → AreSimple is_inlined funcs
+    → (own : ℕ) (plane : Plane) → is_inlined own ≡ false → AnswerPixels reads is_inlined inputs funcs planes own
+    → ((x y : ℕ) → reads (sources.Func own) x y ≡ plane x y)
     → (has : Variable → Bool) (environment : Environment) (e : Expr) → keeps (is_read inputs funcs (suc own)) has e ≡ true
-    → inlined (values reads) is_inlined funcs (suc own) (variable environment) e ≡ value (reads_of planes (with_plane own plane (pixels funcs planes own))) environment e
+    → inlined (values reads) is_inlined funcs (suc own) (variable environment) e
+    ≡ value (reads_of planes (with_plane own plane (pixels funcs planes own))) environment e
 
 -- ---- reads
 
@@ -88,4 +92,5 @@ InlinedValuesDependOnReads = (reads other : Reads) (is_inlined : ℕ → Bool) (
 -- The value that is seen through inlined Funcs is the expression's.
 abbrev pub SeesInlinedValues : Type 0
 SeesInlinedValues = (reads : Reads) (is_inlined : ℕ → Bool) (funcs : List Func) (count : ℕ) (environment : Environment) (e : Expr)
-    → (inlined (seeing reads) is_inlined funcs count (seen_variable environment) e).value ≡ inlined (values reads) is_inlined funcs count (variable environment) e
+    → (inlined (seeing reads) is_inlined funcs count (seen_variable environment) e).value
+    ≡ inlined (values reads) is_inlined funcs count (variable environment) e

@@ -44,7 +44,8 @@ ComputedPointsAreTested = (test : Point → Bool) (is_inlined : ℕ → Bool) (f
 -- A test that holds of all points of inputs and computed Funcs that an expression reads through inlined Funcs is passed
 -- by each point that it reads in its text.
 abbrev pub SeenPointsPass : Type 0
-SeenPointsPass = (test : Point → Bool) (reads : Reads) (is_inlined : ℕ → Bool) (inputs : List Input) (funcs : List Func) (planes : Planes) → AreFuncs inputs funcs → AreSimple is_inlined funcs
+SeenPointsPass = (test : Point → Bool) (reads : Reads) (is_inlined : ℕ → Bool) (inputs : List Input) (funcs : List Func) (planes : Planes)
+    → AreFuncs inputs funcs → AreSimple is_inlined funcs
     → (count : ℕ) → AnswerPixels reads is_inlined inputs funcs planes count
     → (has : Variable → Bool) (environment : Environment) (e : Expr) → keeps (is_read inputs funcs count) has e ≡ true
     → Hold test (inlined (seeing reads) is_inlined funcs count (seen_variable environment) e).points
@@ -52,15 +53,19 @@ SeenPointsPass = (test : Point → Bool) (reads : Reads) (is_inlined : ℕ → B
 
 -- So it is in an update, whose Func answers by what stands.
 abbrev pub SeenPointsPassInUpdates : Type 0
-SeenPointsPassInUpdates = (test : Point → Bool) (reads : Reads) (is_inlined : ℕ → Bool) (inputs : List Input) (funcs : List Func) (planes : Planes) → AreFuncs inputs funcs → AreSimple is_inlined funcs
-    → (own : ℕ) (plane : Plane) → is_inlined own ≡ false → AnswerPixels reads is_inlined inputs funcs planes own → ((x y : ℕ) → reads (sources.Func own) x y ≡ plane x y)
+SeenPointsPassInUpdates = (test : Point → Bool) (reads : Reads) (is_inlined : ℕ → Bool) (inputs : List Input) (funcs : List Func) (planes : Planes)
+    → AreFuncs inputs funcs → AreSimple is_inlined funcs
+    → (own : ℕ) (plane : Plane) → is_inlined own ≡ false → AnswerPixels reads is_inlined inputs funcs planes own
+    → ((x y : ℕ) → reads (sources.Func own) x y ≡ plane x y)
     → (has : Variable → Bool) (environment : Environment) (e : Expr) → keeps (is_read inputs funcs (suc own)) has e ≡ true
     → Hold test (inlined (seeing reads) is_inlined funcs (suc own) (seen_variable environment) e).points
-    → (more : ℕ) → own < more → Hold (passes test is_inlined funcs planes more) (points_read (reads_of planes (with_plane own plane (pixels funcs planes own))) environment e)
+    → (more : ℕ) → own < more
+    → Hold (passes test is_inlined funcs planes more) (points_read (reads_of planes (with_plane own plane (pixels funcs planes own))) environment e)
 
 -- Where a point of an inlined Func passes, all that its pixel reads itself does.
 abbrev pub PassingIsClosed : Type 0
-PassingIsClosed = (test : Point → Bool) (is_inlined : ℕ → Bool) (inputs : List Input) (funcs : List Func) (planes : Planes) → AreFuncs inputs funcs → AreSimple is_inlined funcs
+PassingIsClosed = (test : Point → Bool) (is_inlined : ℕ → Bool) (inputs : List Input) (funcs : List Func) (planes : Planes) → AreFuncs inputs funcs
+    → AreSimple is_inlined funcs
     → (more place x y : ℕ) → place < more → is_inlined place ≡ true
     → passes test is_inlined funcs planes more (record { source = sources.Func place; x = x; y = y }) ≡ true
     → Hold (passes test is_inlined funcs planes more) (direct_trace funcs planes place x y)

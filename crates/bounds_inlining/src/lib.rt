@@ -1,7 +1,7 @@
 //! Expressions with their inlined Funcs put in place.
 //!
-//! - `specs/Inlining.antt`: **one fold of expressions through inlined Funcs**, over any algebra; `specs/Values.antt`
-//!   and `specs/Inlining.antt` have its instances: values, points read, nodes and need.
+//! - `specs/Inlining.antt`: **one fold of expressions through inlined Funcs**, over any algebra, and its instances for
+//!   points read, nodes and need; `specs/Values.antt` that for values.
 //! - [`counts`], [`needs`]: an expression's nodes and need, in time that is linear in the texts of the Funcs.
 //! - [`funcs`]: which Funcs are inlined.
 //! - [`laws`]: what inlining keeps (`specs/Laws.antt`), that what is read in the text is seen through inlined Funcs

@@ -85,7 +85,8 @@ UpdateRangesCover = (lasts values : List ℕ) → Below values lasts → (reads 
 
 -- Where the inputs answer words, so do all pixels.
 abbrev pub PixelsAreWords : Type 0
-PixelsAreWords = (inputs : List Input) (funcs : List Func) (planes : Planes) → AreFuncs inputs funcs → AnswerWords inputs (reads_of planes (pixels funcs planes 0))
+PixelsAreWords = (inputs : List Input) (funcs : List Func) (planes : Planes) → AreFuncs inputs funcs
+    → AnswerWords inputs (reads_of planes (pixels funcs planes 0))
     → (count : ℕ) → AnswerWords inputs (reads_of planes (pixels funcs planes count))
 
 -- And what stands after some points of an update are words.

@@ -1,4 +1,4 @@
--- How much code a schedule asks for.
+-- How much code a schedule asks for, and how many registers its expressions need.
 --
 -- A stage weighs the nodes of its expressions, with their inlined Funcs put in place, and one for each of its loops, in each copy of its
 -- code. Of an update the indexes on the left count beside the right side.
@@ -121,7 +121,7 @@ Judges weight (Ok passed) = weight ≤ most_weight
 Judges weight (Err errors.TooHeavy) = most_weight < weight
 Judges weight (Err errors.OutOfMemory) = Unit {0}
 
--- ---- a stage: its right side and, of an update, its left indexes
+-- ---- the need of a stage: of its right side and, of an update, its left indexes
 
 abbrev pub need_in : List Bool → List Func → Expr → ℕ
 need_in flags funcs e = inlined needing (flagged flags) funcs (length funcs) (λ v. 1) e

@@ -84,7 +84,7 @@ variable scope name =
     else if is_named scope.second_reduction name then Some variables.SecondReduction
     else None
 
--- ---- the variables of a line
+-- ---- where names may stand
 
 abbrev pub bounds_name : Option Bounds → Option (List ℕ)
 bounds_name None = None

@@ -45,7 +45,8 @@ with_input reader extents is_bytes = record {
   alloc = reader.alloc;
   is_oversized = reader.is_oversized;
   names = reader.names ++ (extents.name, sources.Input (length reader.inputs)) ∷ [];
-  inputs = reader.inputs ++ record { width = extents.width; height = height_of extents.height; dimensions = count_with extents.height; is_bytes = is_bytes } ∷ [];
+  inputs = reader.inputs ++ record { width = extents.width; height = height_of extents.height; dimensions = count_with extents.height; is_bytes = is_bytes }
+      ∷ [];
   funcs = reader.funcs;
   output = reader.output;
   last_func = None;
@@ -57,7 +58,8 @@ with_func tree reader definition = record {
   is_oversized = reader.is_oversized;
   names = reader.names ++ (definition.name, sources.Func (length reader.funcs)) ∷ [];
   inputs = reader.inputs;
-  funcs = reader.funcs ++ record { first_argument = definition.first_argument; second_argument = definition.second_argument; pure = tree definition.right; updates = [] } ∷ [];
+  funcs = reader.funcs
+      ++ record { first_argument = definition.first_argument; second_argument = definition.second_argument; pure = tree definition.right; updates = [] } ∷ [];
   output = reader.output;
   last_func = Some (length reader.funcs);
 }
@@ -65,7 +67,13 @@ with_func tree reader definition = record {
 -- an update of the last Func
 unfoldable pub with_update : List Func → Update → List Func
 with_update [] update = []
-with_update (f ∷ []) update = record { first_argument = f.first_argument; second_argument = f.second_argument; pure = f.pure; updates = f.updates ++ update ∷ [] } ∷ []
+with_update (f ∷ []) update = record {
+  first_argument = f.first_argument;
+  second_argument = f.second_argument;
+  pure = f.pure;
+  updates = f.updates ++ update
+      ∷ [];
+} ∷ []
 with_update (f ∷ g ∷ funcs) update = f ∷ with_update (g ∷ funcs) update
 
 abbrev pub place_or : Option ℕ → ℕ

@@ -144,7 +144,8 @@ same_place _ _ = false
 
 -- an update stands below its Func's own lines
 abbrev pub is_misshapen : Reader → Line Written → Bool
-is_misshapen reader (line.Update change) = not (same_place reader.last_func (func_place reader change.name)) || is_moved reader (scope_of reader (line.Update change)) change
+is_misshapen reader (line.Update change) = not (same_place reader.last_func (func_place reader change.name))
+    || is_moved reader (scope_of reader (line.Update change)) change
 is_misshapen reader _ = false
 
 -- ---- limits

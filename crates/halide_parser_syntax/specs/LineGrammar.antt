@@ -49,7 +49,8 @@ spell_line line.Blank = []
 spell_line (line.Input e is_bytes) = t.Input ∷ spell_extents e (spell_kind is_bytes)
 spell_line (line.Func d) = t.Func ∷ t.Name d.name ∷ t.Open ∷ t.Name d.first_argument ∷ spell_argument d.second_argument (t.Close ∷ t.Assign ∷ spell d.right [])
 spell_line (line.Update u) =
-    t.Update ∷ t.Name u.name ∷ t.Open ∷ spell u.left_x (spell_index u.left_y (t.Close ∷ t.Assign ∷ spell u.right (t.Over ∷ spell_bounds u.first (spell_second_bounds u.second))))
+    t.Update ∷ t.Name u.name ∷ t.Open
+    ∷ spell u.left_x (spell_index u.left_y (t.Close ∷ t.Assign ∷ spell u.right (t.Over ∷ spell_bounds u.first (spell_second_bounds u.second))))
 spell_line (line.Output e) = t.Output ∷ spell_extents e []
 
 abbrev pub IsRightIndex : Option Written → Type 0

@@ -170,7 +170,8 @@ abbrev pub Hold : (Point → Bool) → List Point → Type 0
 Hold test points = AllByRecursion (λ point. test point ≡ true) points
 
 abbrev pub IsClosed : List Func → Planes → (Point → Bool) → Type 0
-IsClosed funcs inputs test = (place x y : ℕ) → test (record { source = sources.Func place; x = x; y = y }) ≡ true → Hold test (direct_trace funcs inputs place x y)
+IsClosed funcs inputs test = (place x y : ℕ) → test (record { source = sources.Func place; x = x; y = y }) ≡ true
+    → Hold test (direct_trace funcs inputs place x y)
 
 abbrev pub ClosedPointsHoldReads : Type 0
 ClosedPointsHoldReads = (funcs : List Func) (inputs : Planes) (test : Point → Bool) → IsClosed funcs inputs test → (count place x y : ℕ)
@@ -180,9 +181,11 @@ ClosedPointsHoldReads = (funcs : List Func) (inputs : Planes) (test : Point → 
 -- definition, the left sides of updates at each point of their reduction boxes, and their right sides where the left
 -- side is the point.
 pub record ReadsHold (test : Point → Bool) (place : ℕ) (func : Func) (inputs earlier : Planes) : Type 0 where
-  pub pure : (x y : ℕ) → test (record { source = sources.Func place; x = x; y = y }) ≡ true → Hold test (points_read (reads_of inputs earlier) (at_point x y) func.pure)
+  pub pure : (x y : ℕ) → test (record { source = sources.Func place; x = x; y = y }) ≡ true
+      → Hold test (points_read (reads_of inputs earlier) (at_point x y) func.pure)
   pub left : (at : ℕ) (update : Update) → slice_get func.updates at ≡ Some update → (number x y : ℕ) → number < points update
-      → test (record { source = sources.Func place; x = x; y = y }) ≡ true → Hold test (left_points (reads_of inputs earlier) (at_reduction update number x y) update)
+      → test (record { source = sources.Func place; x = x; y = y }) ≡ true
+      → Hold test (left_points (reads_of inputs earlier) (at_reduction update number x y) update)
   pub right : (at : ℕ) (update : Update) → slice_get func.updates at ≡ Some update → (number x y : ℕ) → number < points update
       → test (record { source = sources.Func place; x = x; y = y }) ≡ true → is_hit (reads_of inputs earlier) update (at_reduction update number x y) ≡ true
       → Hold test (points_read (reads_of inputs (with_plane place (after place update inputs earlier (stage place func inputs earlier at) number) earlier)) (at_reduction update number x y) update.right)

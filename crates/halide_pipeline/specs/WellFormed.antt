@@ -265,7 +265,8 @@ pub record IsFunc (inputs : List Input) (funcs : List Func) (place : ℕ) (func 
   pub arguments : IsTrue (are_arguments func.first_argument func.second_argument)
   pub few_updates : IsTrue (nat_le (length func.updates) 4)
   pub updates : (at : ℕ) (update : Update) → slice_get func.updates at ≡ Some update → IsUpdate inputs funcs place (dimensions func) update
-  pub reductions : (at : ℕ) (update : Update) → slice_get func.updates at ≡ Some update → IsTrue (are_reductions func.first_argument func.second_argument update)
+  pub reductions : (at : ℕ) (update : Update) → slice_get func.updates at ≡ Some update
+      → IsTrue (are_reductions func.first_argument func.second_argument update)
 
 -- ---- the whole
 

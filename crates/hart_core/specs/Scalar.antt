@@ -119,7 +119,7 @@ kept stores.Sb n = n % 2 ^ 8
 kept stores.Sh n = n % 2 ^ 16
 kept stores.Sw n = n
 
--- ---- scalar
+-- ---- what scalar instructions touch, and where they lead
 
 -- offsets are kept in half-words
 abbrev pub offset_from : ℕ → ℤ → ℕ

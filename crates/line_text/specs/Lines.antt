@@ -1,4 +1,4 @@
--- The lines of a text. A line feed ends a line; a final one opens none.
+-- Texts: bytes, numbers, lines and the first faulty line. A line feed ends a line; a final one opens none.
 -- This project's own.
 use Rattle.std.specs.Prelude.{◌≢◌, ℕ, Bool, not, ◌==◌, if◌then◌else◌, List, [], ◌∷◌, ◌++◌, take, drop, true, ◌||◌, ◌&&◌, nat_le, ◌≡◌, Result, Ok, Err, ◌+◌, length, ◌-◌, ◌*◌, fold}
 use Rattle.std.specs.List.{AllByRecursion, flat_map, prefix_len}

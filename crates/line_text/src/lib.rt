@@ -1,15 +1,14 @@
-//! What readers of texts stand on: spans of bytes, numbers without a bound on their digits, lines,
-//! and the first faulty line.
+//! What readers of texts stand on: spans of bytes, numbers without a bound on their digits, lines, and the first faulty
+//! line. `specs/Lines.antt` defines all of it.
 //!
-//! - [`spans`]: how many bytes at the front are blanks, digits or parts of a name; where the text of
-//!   a line ends and a comment begins (`specs/Lines.antt`).
-//! - [`numbers`]: the number that digits spell, cut off at a bound (`specs/Lines.antt`).
-//! - [`lines`]: the first line of a text, and how many lines there are (`specs/Lines.antt`).
-//! - [`line_readers`]: a reader that takes a text line by line ([`LineReader`]), and the loop up to
-//!   the first line that it refuses (`specs/Lines.antt`).
-//! - [`read_errors`]: a fault of the text, or memory that ran out ([`ReadError`]), and the same with
-//!   the number of the line ([`LocatedError`]). `specs/Lines.antt` has the words for contracts of
-//!   functions that return them.
+//! - [`spans`]: how many bytes at the front are blanks, digits or parts of a name; where the text of a line ends and a
+//!   comment begins.
+//! - [`numbers`]: the number that digits spell, cut off at a bound.
+//! - [`lines`]: the first line of a text, and how many lines there are.
+//! - [`line_readers`]: a reader that takes a text line by line ([`LineReader`]), and the loop up to the first line that
+//!   it refuses.
+//! - [`read_errors`]: a fault of the text, or memory that ran out ([`ReadError`]), and the same with the number of the
+//!   line ([`LocatedError`]).
 //! - [`laws`]: what the definitions of lines and of the first faulty line come to.
 #![tactic(auto)]
 

@@ -64,4 +64,5 @@ SeesValues = (reads : Reads) (values : Values) (e : Expr) → (seen reads values
 
 -- and it depends on what is loaded alone
 abbrev pub ValuesDependOnLoads : Type 0
-ValuesDependOnLoads = (reads other : Reads) (values : Values) (e : Expr) → Agree reads other (loads reads values e) → value other values e ≡ value reads values e
+ValuesDependOnLoads = (reads other : Reads) (values : Values) (e : Expr) → Agree reads other (loads reads values e) → value other values e
+    ≡ value reads values e

@@ -79,7 +79,8 @@ steps_up_at (layer.Store store) now next = true
 steps_up_at (layer.Sequence first second) now next = first.steps_up now next && second.steps_up now next
 steps_up_at (layer.For counter count kind body) now next = true
 steps_up_at (layer.Bind counter whole extent body) now next =
-    if nat_lt (whole_value whole next) extent then nat_le (whole_value whole now) (whole_value whole next) && body.steps_up (with counter (whole_value whole now) now) (with counter (whole_value whole next) next) else true
+    if nat_lt (whole_value whole next) extent then nat_le (whole_value whole now) (whole_value whole next)
+    && body.steps_up (with counter (whole_value whole now) now) (with counter (whole_value whole next) next) else true
 
 abbrev pub at_once_at : Stmt-F Rounds → Values → Bool
 at_once_at (layer.Store store) values = true

@@ -63,11 +63,11 @@ are_copies is_laid count = is_laid && nat_lt 0 count
 abbrev pub loop_size : Bool → ℕ → ℕ → ℕ
 loop_size is_laid count body = if are_copies is_laid count then count * (body + 1) + 1 else body + 7
 
--- and with what stands around its rounds where they are done at once
+-- and with room for what held registers want: their values before the first round, and their steps
 abbrev pub loop_room : Bool → ℕ → ℕ → ℕ
 loop_room is_laid count body = loop_size is_laid count body + 31
 
--- A split loop's value takes 14 words with the test on it, and 11 more where they count how many rounds are left behind it.
+-- A split loop's value takes 14 words with the test on it, and there is room for 11 more.
 abbrev pub whole_at : Stmt-F ℕ → ℕ
 whole_at (parts.Store store) = store_size store
 whole_at (parts.Sequence first second) = first + second

@@ -21,7 +21,8 @@ pub record Trace : Type 0 where
 abbrev pub trace_at : Points → Planes → ℕ → ℕ → ℕ → Stmt-F (Values → Trace → Trace) → Values → Trace → Trace
 trace_at points inputs func x y (layer.Store store) values so_far = record {
   funcs = stored points (reads_of inputs so_far.funcs) store values so_far.funcs;
-  is_stored = so_far.is_stored || (store.func == func && (value (reads_of inputs so_far.funcs) values store.x == x && value (reads_of inputs so_far.funcs) values store.y == y));
+  is_stored = so_far.is_stored
+      || (store.func == func && (value (reads_of inputs so_far.funcs) values store.x == x && value (reads_of inputs so_far.funcs) values store.y == y));
 }
 trace_at points inputs func x y (layer.Sequence first second) values so_far = second values (first values so_far)
 trace_at points inputs func x y (layer.For counter count kind body) values so_far = turns count (λ turn. body (with counter turn values)) so_far

@@ -20,4 +20,5 @@ AreShort corners = AllByRecursion IsShort corners
 -- and what stands for a variable a loop of its own beside them.
 abbrev pub AreShortArguments : Arguments → Type 0
 AreShortArguments own =
-    (length own.first_argument.terms ≤ 6) × ((length own.second_argument.terms ≤ 6) × ((length own.first_reduction.terms ≤ 6) × (length own.second_reduction.terms ≤ 6)))
+    (length own.first_argument.terms ≤ 6)
+    × ((length own.second_argument.terms ≤ 6) × ((length own.first_reduction.terms ≤ 6) × (length own.second_reduction.terms ≤ 6)))

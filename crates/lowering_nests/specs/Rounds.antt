@@ -52,7 +52,8 @@ pub record MayBeVectorized (func : ℕ) (counts : loops.Values) (own : Loop) (ou
   pub count : is_round_count (counts own.id) ≡ true
   pub once : (reads : Reads) → (rounds reads body).is_one_store ≡ true
   pub steps_up : StepsUp body
-  pub apart : (reads : Reads) (values : Values) → AllAreSmall values → AreTurns counts outside (loops_of func values) → (earlier later : ℕ) → earlier < later → later < counts own.id
+  pub apart : (reads : Reads) (values : Values) → AllAreSmall values → AreTurns counts outside (loops_of func values) → (earlier later : ℕ)
+      → earlier < later → later < counts own.id
       → LoadsNoneOf reads body (with (record { func = func; id = own.id }) earlier values) (with (record { func = func; id = own.id }) later values)
 
 -- a loop around a body, while others stand outside

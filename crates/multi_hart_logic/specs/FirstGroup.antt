@@ -36,7 +36,8 @@ pub record IsAnyGroup (registers v : ℕ) : Type 0 where
 -- A row that writes a group's lanes, unmasked, wherever the group begins: the first ones below vl become the new numbers, all else stays.
 abbrev pub AnyLanesGiven : Type 0
 AnyLanesGiven =
-    (at d registers : ℕ) (f : ℕ → ℕ) (hart : HartState) (numbers : List ℕ) → at + 4 < 2 ^ 32 → At at f hart → LanesConfigured f registers → 1 ≤ registers → d + registers ≤ 32
+    (at d registers : ℕ) (f : ℕ → ℕ) (hart : HartState) (numbers : List ℕ) → at + 4 < 2 ^ 32 → At at f hart → LanesConfigured f registers → 1 ≤ registers
+    → d + registers ≤ 32
     → length numbers ≡ 4 * registers → ((i : ℕ) → i < f vl_number → slice_index numbers i < 2 ^ 32)
     → At (at + 4) (write_group f d (f vl_number) (slice_index numbers)) (advanced (with_vectors hart (with_elements (vectors_of hart) d true numbers)))
 

@@ -26,6 +26,7 @@ SizeStays = (state : Vectors) (v registers : ℕ) (numbers : List ℕ) → lengt
 -- begins at v0, `FirstGroup.antt` tells.)
 abbrev pub LanesGiven : Type 0
 LanesGiven =
-    (at d registers : ℕ) (f : ℕ → ℕ) (hart : HartState) (numbers : List ℕ) → at + 4 < 2 ^ 32 → At at f hart → LanesConfigured f registers → 1 ≤ d → d + registers ≤ 32
+    (at d registers : ℕ) (f : ℕ → ℕ) (hart : HartState) (numbers : List ℕ) → at + 4 < 2 ^ 32 → At at f hart → LanesConfigured f registers → 1 ≤ d → d
+    + registers ≤ 32
     → length numbers ≡ 4 * registers → ((i : ℕ) → i < f vl_number → slice_index numbers i < 2 ^ 32)
     → At (at + 4) (write_lanes f d (f vl_number) (slice_index numbers)) (advanced (with_vectors hart (with_elements (vectors_of hart) d true numbers)))

@@ -79,7 +79,8 @@ move_shape funct3 = v_row [] ((0, 7, 0b1010111) ∷ (12, 3, funct3) ∷ (26, 6, 
 
 -- the rows of loads and stores with an offset in a register
 abbrev pub offset_shape : ℕ → ℕ → ℕ → Row
-offset_shape opcode width mode = v_row [] ((0, 7, opcode) ∷ (12, 3, width) ∷ (28, 4, 0b0000) ∷ (26, 2, mode) ∷ []) (fields.vd ∷ fields.vs1 ∷ fields.vs2 ∷ fields.vm ∷ [])
+offset_shape opcode width mode = v_row [] ((0, 7, opcode) ∷ (12, 3, width) ∷ (28, 4, 0b0000) ∷ (26, 2, mode) ∷ []) (fields.vd ∷ fields.vs1 ∷ fields.vs2
+    ∷ fields.vm ∷ [])
 
 -- an instruction's row but for the name, which plays no part in which words fit
 abbrev pub shape_of : Insn → Row

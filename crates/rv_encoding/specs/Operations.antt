@@ -1,5 +1,5 @@
--- The keys that tell the operations of a group apart, which are those of the table, and the operation that has given keys.
--- A reader need not believe this file: the public clauses speak of rv_insn's `Means` alone.
+-- The keys that tell the operations of a group apart, which are those of the table, and the operation that has given keys. Words
+-- are decoded by them; that this is the literal table read backwards is a theorem (`decoded_is_meant`).
 use Rattle.std.specs.Prelude.{ℕ, ◌==◌, ◌&&◌, Option, find, zero, suc, ◌+◌, ◌*◌, List, Some, None}
 use Rattle.std.specs.Str.{bytes_eq}
 use Rattle.rv_insn.specs.Table.{scalar_table, branch_name, load_name, store_name, alu_imm_name, shift_name, alu_name, all_branches, all_loads, all_stores, all_alu_imms, all_shifts, all_alus}
@@ -23,8 +23,7 @@ use Rattle.rv_insn.specs.declared.vector_operations.ReductionOp.{ReductionOp}
 use Rattle.rv_insn.specs.declared.vector_operations.ElementWidth.{ElementWidth}
 use Rattle.rv_insn.specs.Encoding.{Row}
 
--- ---- The numbers that a row of the instruction table fixes, by the row's name.
--- A reader need not believe this file: the public clauses speak of rv_insn's `Means` alone.
+-- ---- the numbers that a row of the instruction table fixes, by the row's name
 
 -- the row of a name among some
 abbrev pub row_named : List Row → List ℕ → Option Row

@@ -242,7 +242,8 @@ abbrev pub all_shifts : List ShiftOp
 all_shifts = shifts.Slli ∷ shifts.Srli ∷ shifts.Srai ∷ []
 
 abbrev pub all_alus : List AluOp
-all_alus = alus.Add ∷ alus.Sub ∷ alus.Sll ∷ alus.Slt ∷ alus.Sltu ∷ alus.Xor ∷ alus.Srl ∷ alus.Sra ∷ alus.Or ∷ alus.And ∷ alus.Mul ∷ alus.Mulh ∷ alus.Mulhsu ∷ alus.Mulhu ∷ alus.Div ∷ alus.Divu ∷ alus.Rem ∷ alus.Remu ∷ []
+all_alus = alus.Add ∷ alus.Sub ∷ alus.Sll ∷ alus.Slt ∷ alus.Sltu ∷ alus.Xor ∷ alus.Srl ∷ alus.Sra ∷ alus.Or ∷ alus.And ∷ alus.Mul ∷ alus.Mulh ∷ alus.Mulhsu
+    ∷ alus.Mulhu ∷ alus.Div ∷ alus.Divu ∷ alus.Rem ∷ alus.Remu ∷ []
 
 -- ---- the name and the fields of an instruction
 

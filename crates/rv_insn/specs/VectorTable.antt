@@ -372,10 +372,13 @@ store_elements_name modes.Indexed widths.Bits32 = codes "vsuxei32.v"
 -- ---- all operations of each group, and all widths
 
 abbrev pub all_arithmetic_vvs : List ArithmeticVvOp
-all_arithmetic_vvs = arithmetic_vvs.Vadd ∷ arithmetic_vvs.Vsub ∷ arithmetic_vvs.Vminu ∷ arithmetic_vvs.Vmin ∷ arithmetic_vvs.Vmaxu ∷ arithmetic_vvs.Vmax ∷ arithmetic_vvs.Vand ∷ arithmetic_vvs.Vor ∷ arithmetic_vvs.Vxor ∷ arithmetic_vvs.Vsll ∷ arithmetic_vvs.Vsrl ∷ arithmetic_vvs.Vsra ∷ []
+all_arithmetic_vvs = arithmetic_vvs.Vadd ∷ arithmetic_vvs.Vsub ∷ arithmetic_vvs.Vminu ∷ arithmetic_vvs.Vmin ∷ arithmetic_vvs.Vmaxu ∷ arithmetic_vvs.Vmax
+    ∷ arithmetic_vvs.Vand ∷ arithmetic_vvs.Vor ∷ arithmetic_vvs.Vxor ∷ arithmetic_vvs.Vsll ∷ arithmetic_vvs.Vsrl ∷ arithmetic_vvs.Vsra ∷ []
 
 abbrev pub all_arithmetic_vxs : List ArithmeticVxOp
-all_arithmetic_vxs = arithmetic_vxs.Vadd ∷ arithmetic_vxs.Vsub ∷ arithmetic_vxs.Vrsub ∷ arithmetic_vxs.Vminu ∷ arithmetic_vxs.Vmin ∷ arithmetic_vxs.Vmaxu ∷ arithmetic_vxs.Vmax ∷ arithmetic_vxs.Vand ∷ arithmetic_vxs.Vor ∷ arithmetic_vxs.Vxor ∷ arithmetic_vxs.Vsll ∷ arithmetic_vxs.Vsrl ∷ arithmetic_vxs.Vsra ∷ []
+all_arithmetic_vxs = arithmetic_vxs.Vadd ∷ arithmetic_vxs.Vsub ∷ arithmetic_vxs.Vrsub ∷ arithmetic_vxs.Vminu ∷ arithmetic_vxs.Vmin ∷ arithmetic_vxs.Vmaxu
+    ∷ arithmetic_vxs.Vmax ∷ arithmetic_vxs.Vand ∷ arithmetic_vxs.Vor ∷ arithmetic_vxs.Vxor ∷ arithmetic_vxs.Vsll ∷ arithmetic_vxs.Vsrl ∷ arithmetic_vxs.Vsra
+    ∷ []
 
 abbrev pub all_arithmetic_vis : List ArithmeticViOp
 all_arithmetic_vis = arithmetic_vis.Vadd ∷ arithmetic_vis.Vrsub ∷ arithmetic_vis.Vand ∷ arithmetic_vis.Vor ∷ arithmetic_vis.Vxor ∷ []
@@ -387,13 +390,15 @@ abbrev pub all_compare_vvs : List CompareVvOp
 all_compare_vvs = compare_vvs.Vmseq ∷ compare_vvs.Vmsne ∷ compare_vvs.Vmsltu ∷ compare_vvs.Vmslt ∷ compare_vvs.Vmsleu ∷ compare_vvs.Vmsle ∷ []
 
 abbrev pub all_compare_vxs : List CompareVxOp
-all_compare_vxs = compare_vxs.Vmseq ∷ compare_vxs.Vmsne ∷ compare_vxs.Vmsltu ∷ compare_vxs.Vmslt ∷ compare_vxs.Vmsleu ∷ compare_vxs.Vmsle ∷ compare_vxs.Vmsgtu ∷ compare_vxs.Vmsgt ∷ []
+all_compare_vxs = compare_vxs.Vmseq ∷ compare_vxs.Vmsne ∷ compare_vxs.Vmsltu ∷ compare_vxs.Vmslt ∷ compare_vxs.Vmsleu ∷ compare_vxs.Vmsle
+    ∷ compare_vxs.Vmsgtu ∷ compare_vxs.Vmsgt ∷ []
 
 abbrev pub all_compare_vis : List CompareViOp
 all_compare_vis = compare_vis.Vmseq ∷ compare_vis.Vmsne ∷ compare_vis.Vmsleu ∷ compare_vis.Vmsle ∷ compare_vis.Vmsgtu ∷ compare_vis.Vmsgt ∷ []
 
 abbrev pub all_multiplies : List MultiplyOp
-all_multiplies = multiplies.Vdivu ∷ multiplies.Vdiv ∷ multiplies.Vremu ∷ multiplies.Vrem ∷ multiplies.Vmulhu ∷ multiplies.Vmul ∷ multiplies.Vmulhsu ∷ multiplies.Vmulh ∷ []
+all_multiplies = multiplies.Vdivu ∷ multiplies.Vdiv ∷ multiplies.Vremu ∷ multiplies.Vrem ∷ multiplies.Vmulhu ∷ multiplies.Vmul ∷ multiplies.Vmulhsu
+    ∷ multiplies.Vmulh ∷ []
 
 abbrev pub all_reductions : List ReductionOp
 all_reductions = reductions.Vredsum ∷ reductions.Vredminu ∷ reductions.Vredmin ∷ reductions.Vredmaxu ∷ reductions.Vredmax ∷ []

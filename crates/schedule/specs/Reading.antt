@@ -1,4 +1,4 @@
--- One line after the other: what each says of the Funcs, or its least fault.
+-- A schedule's text, one line after the other: what each says of the Funcs, or its least fault; and the text as a whole.
 -- This project's own.
 use Rattle.std.specs.Prelude.{ℕ, ◌+◌, ◌-◌, ◌==◌, nat_le, nat_lt, if◌then◌else◌, List, [], ◌∷◌, length, map, slice_get, slice_set, Option, Some, None, is_some, Result, Ok, Err, Bool, false}
 use Rattle.line_text.specs.Lines.{is_digit, ◌>>=◌, taken_from, lines_of}
@@ -138,7 +138,7 @@ finished pipeline reader = judged reader (standings pipeline reader.plans)
 unfoldable pub read : Pipeline → List ℕ → Result Schedule (ℕ × ScheduleFault)
 read pipeline text = taken_from (taken pipeline) 1 (start pipeline) (lines_of text) >>= λ reader. finished pipeline reader
 
--- ---- readers
+-- ---- what contracts of readers say
 
 abbrev pub stage_of : Option ℕ → Option FuncPlan → Option Stage
 stage_of update None = None

@@ -14,26 +14,7 @@ use Rattle.shared_machine.proofs.Batches.{begins-more, begins-whole, count-more-
 use Rattle.shared_machine.proofs.Stopping.{stops-behind}
 
 module _ (image : ImageContents) (log : LogState) (limit : ℕ) (one : log.harts ≡ 1) (is_log : IsLog log) where
-  -- no turn is made, where none is to be made, or as many were made before as there may be
-  module _ (why : (hart : ℕ) → hart < log.harts → count_of log.turns hart < count_of log.turns hart + limit → count_of log.turns hart < most_turns → ⊥) where
-    unturned : IsRunOf image log.harts log.turns limit log
-    unturned = record {
-      is_log = is_log;
-      same = refl;
-      begins = begins-whole log.turns log.turns refl;
-      few = λ hart below. omega (arith);
-      ends = λ hart below fewer most. absurd (why hart below fewer most);
-    }
-
-  pub none-asked : limit ≡ 0 → IsRunOf image log.harts log.turns limit log
-  none-asked none = unturned (λ hart below fewer most. omega (arith, none, fewer))
-
-  pub all-spent : most_turns ≤ count_of log.turns 0 → IsRunOf image log.harts log.turns limit log
-  all-spent spent = unturned (λ hart below fewer most.
-      let first : hart ≡ 0 = omega (arith, below, one) in
-      let here = subst (λ k. count_of log.turns k < most_turns) first most in omega (arith, spent, here))
-
-  -- some are made: all that are to be, or until one isn't a step
+  -- turns are made: all that are to be, or until one isn't a step
   module _ (machine : State) (made : ℕ) (last : Outcome) (replays : machine ≡ state_after image log.harts log.turns) (all : length machine.harts ≡ log.harts)
       (some : 1 ≤ made) (few : made ≤ limit) (is_last : last ≡ outcome (after_turns machine 0 (made - 1)) 0)
       (whole : last ≡ Stepped → made < limit → most_turns ≤ count_of log.turns 0 + made) (is_new : IsLog (with_turns log 0 made)) where

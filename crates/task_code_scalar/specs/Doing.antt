@@ -48,7 +48,8 @@ pub record AreRun (own : Setting) (n func : ℕ) (x y : ℕ → ℕ) : Type 0 wh
 
 -- One turn may write several points, if each may be written, and where their Func is stored in runs, they are a run.
 abbrev pub MayBeWrittenAtOnce : Setting → Type 0
-MayBeWrittenAtOnce own = (n func : ℕ) (x y : ℕ → ℕ) → ((k : ℕ) → k < n → own.written func (x k) (y k) ≡ true) → (own.in_runs func ≡ true → AreRun own n func x y)
+MayBeWrittenAtOnce own = (n func : ℕ) (x y : ℕ → ℕ) → ((k : ℕ) → k < n → own.written func (x k) (y k) ≡ true)
+    → (own.in_runs func ≡ true → AreRun own n func x y)
     → Keeps own.world (touched (accesses_to Word n (λ k. address_of own.world own.places (func_point func (x k) (y k)))))
 
 pub record IsSetting (own : Setting) : Type 0 where
@@ -76,7 +77,8 @@ pub record HoldsFuncs (own : Setting) (memory : List ℕ) (funcs : Planes) : Typ
   pub holds : Holds own.world own.places own.loaded memory (reads_of own.inputs funcs)
 
 -- the code comes to its end in so many turns; memory then holds these buffers, and each point of `stored` was written on the way
-pub record Done (own : Setting) (code : List Insn) (turns : ℕ) (scope : List Counter) (values : Values) (f : ℕ → ℕ) (memory : List ℕ) (funcs : Planes) (stored : Points) : Type 0 where
+pub record Done (own : Setting) (code : List Insn) (turns : ℕ) (scope : List Counter) (values : Values) (f : ℕ
+    → ℕ) (memory : List ℕ) (funcs : Planes) (stored : Points) : Type 0 where
   pub after : ℕ → ℕ
   pub left : List ℕ
   pub block : Block own.world code turns f memory after left
@@ -84,7 +86,8 @@ pub record Done (own : Setting) (code : List Insn) (turns : ℕ) (scope : List C
   pub holds : HoldsFuncs own left funcs
   pub elsewhere : (byte : ℕ) → IsElsewhere own.world own.places own.written byte → byte_at own.world.text left byte ≡ byte_at own.world.text memory byte
   pub are_bytes : AreBytes memory → AreBytes left
-  pub writes : (func x y byte at : ℕ) → stored func x y ≡ true → IsOf own.world own.places func x y byte → Stand own.world.text at code → Writes own.world at turns f memory byte
+  pub writes : (func x y byte at : ℕ) → stored func x y ≡ true → IsOf own.world own.places func x y byte → Stand own.world.text at code
+      → Writes own.world at turns f memory byte
 
 -- the points of Funcs at which a statement's run stores
 abbrev pub stored_points : Setting → Stmt → Values → Planes → Points

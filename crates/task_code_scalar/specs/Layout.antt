@@ -71,7 +71,8 @@ pub record IsFrame (world : World) (places : Places) (loaded : Point → Bool) :
   pub may_write : (word : ℕ) → word < frame_words places.frames → Writable world Word (frame_word world places word)
   pub may_read : (word : ℕ) → word < frame_words places.frames → Readable world Word (frame_word world places word)
   pub apart : (word : ℕ) (point : Point) → word < frame_words places.frames → loaded point ≡ true
-      → (address_of world places point + bytes_of places point ≤ frame_word world places word) ⊎ (frame_word world places word + 4 ≤ address_of world places point)
+      → (address_of world places point + bytes_of places point ≤ frame_word world places word)
+      ⊎ (frame_word world places word + 4 ≤ address_of world places point)
   pub unowned : (word byte task : ℕ) → word < frame_words places.frames → frame_word world places word ≤ byte → byte < frame_word world places word + 4
       → world.uses byte ≡ Owned task → ⊥
 
@@ -93,7 +94,8 @@ pub record OwnsFrame (world : World) (places : Places) (loaded : Point → Bool)
 
 -- Where there are frames and the hart has such a one, it lies so.
 abbrev pub FramesLie : Type 0
-FramesLie = (world : World) (places : Places) (loaded : Point → Bool) → (0 < frame_words places.frames → OwnsFrame world places loaded) → IsFrame world places loaded
+FramesLie = (world : World) (places : Places) (loaded : Point → Bool) → (0 < frame_words places.frames → OwnsFrame world places loaded)
+    → IsFrame world places loaded
 
 -- The points that may be written lie so, and those that may be loaded. Where bytes of one that is written and one that is loaded meet,
 -- both are one point.
@@ -108,7 +110,8 @@ pub record Laid (world : World) (places : Places) (written : Points) (loaded : P
 -- memory holds, at each point that may be loaded, what reads of it answer
 abbrev pub Holds : World → Places → (Point → Bool) → List ℕ → Reads → Type 0
 Holds world places loaded memory reads =
-    (point : Point) → loaded point ≡ true → number_in world.text memory (size_of places point) (address_of world places point) ≡ reads point.source point.x point.y
+    (point : Point) → loaded point ≡ true → number_in world.text memory (size_of places point) (address_of world places point)
+    ≡ reads point.source point.x point.y
 
 -- the byte belongs to no word of the frame from this one on
 abbrev pub IsBefore : World → Places → ℕ → ℕ → Type 0

@@ -143,6 +143,20 @@ sum-made own sum rest stride part made es times left adds = record {
   loads_are = λ reads values stands. adds.loads_are reads values ∙ times.none reads values stands ∙ sym (loads_linear reads values sum);
 }
 
+-- a sum in which the variable counts for nothing
+pub rest-made : (own : Standing) (sum rest : Linear) (stride : ℕ) → stride ≡ strides own.counter sum.terms % 2 ^ 32 → stride ≡ 0 → IsRest own.counter sum rest
+    → IsReplaced own (e.Linear sum) (e.Linear rest)
+rest-made own sum rest stride es none left = record {
+  value_is = λ reads values stands.
+      let v = stands.at in
+      let before = stands.before in
+      let same : v * stride ≡ 0 * stride = ap (λ k. v * k) none ∙ omega arith ∙ sym (ap (λ k. 0 * k) none) in
+      value_linear reads values rest ∙ ap (λ k. linear_value k rest) stands.is ∙ left before v ∙ linear-with own.counter 0 stride before sum es
+      ∙ ap (λ k. ((sum.number + sum_of before (others_of own.counter sum.terms)) + k) % 2 ^ 32) (sym same)
+      ∙ sym (linear-with own.counter v stride before sum es) ∙ sym (ap (λ k. linear_value k sum) stands.is) ∙ sym (value_linear reads values sum);
+  loads_are = λ reads values stands. loads_linear reads values rest ∙ sym (loads_linear reads values sum);
+}
+
 -- ---- values of split loops
 
 pub inner-is : (context : Context) (whole : Whole) (known : List Known) (bounds : List Bound) (count : ℕ) (own made : Linear) → known ≡ context.known.items

@@ -71,12 +71,11 @@ fn sum_with(alloc: Global, sum: &Linear, own: &Standing) -> Result<Expr, AllocEr
     ensures { IfOk result (IsReplaced own.now (expressions.Linear sum.now)) }
 {
     let stride = stride_of(sum.terms.as_slice(), own.counter);
+    let rest = without_term(alloc, sum, own.counter)?;
     if stride == 0 {
-        let same = sum.copy(alloc)?;
-        return Ok(Expr::Linear(same));
+        return Ok(Expr::Linear(rest));
     }
     let product = times(alloc, own, stride)?;
-    let rest = without_term(alloc, sum, own.counter)?;
     let made = plus(alloc, product, rest)?;
     Ok(made)
 }

@@ -216,7 +216,7 @@ fn lanes_for(scope: &[Held], own: Bound) -> Result<Lanes, CodeFault>
     }
 }
 
-/// Appends a vectorized loop, where all runs inside are known to begin at a number, a product or a name.
+/// Appends a vectorized loop, where starts of runs inside have names, if they stay the same in all iterations.
 fn emit_at_once(
     alloc: Global,
     code: &mut Vec<u32>,

@@ -28,9 +28,6 @@ LONGEST = (
     45, 97, 106, 370, 399, 421, 442, 503, 520, 525, 550, 630, 636, 734
 )
 
-# The case with vectorized loops that forms don't suffice for: along a shift split's outer loop, of a sum with the split's value times 0.
-COLLECTED = {"random 523": "0 of 2 vector code, 2 collected"}
-
 ORDERS = ("rising", "falling", "from both ends")
 RUNS = ((1, "in turn"), (2, "drawn"), (3, "in turn"), (3, "the first ahead"), (3, "the last behind"), (8, "in turn"), (8, "the first ahead"))
 
@@ -93,7 +90,7 @@ class Accepted:
         self.pixels = width * (height or 1)
         # The answer has a line for each Func that is computed.
         computed = [func for number, func in enumerate(func_names(algorithm)) if any(line.startswith(f"func {number} ") for line in says)]
-        self.vectors = vectors(schedule, computed, COLLECTED.get(name, "all vector code"))
+        self.vectors = vectors(schedule, computed)
 
     def pictures(self, chance):
         """A random picture for each input."""

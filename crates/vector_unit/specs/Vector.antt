@@ -160,7 +160,7 @@ with_first state vd number =
 abbrev pub merged_by_mask : Vectors → List ℕ → List ℕ → List ℕ
 merged_by_mask state other of_vs2 = merged (mask_bits 0 (count state) (register state 0)) other of_vs2
 
--- ---- configuration
+-- ---- what a configuration asks for
 
 -- the vtype and the elements that are asked for, where x gives the integer registers
 abbrev pub asked_of : VectorInsn → (ℕ → ℕ) → Option (ℕ × Asked)
@@ -169,7 +169,7 @@ asked_of (v.Vsetivli rd length vtype) x = Some (vtype, AtMost length)
 asked_of (v.Vsetvl rd rs1 rs2) x = Some (x rs2, asked_by rd rs1 (x rs1))
 asked_of insn x = None
 
--- ---- the vector state afterwards; what configurations, loads and stores leave is elsewhere
+-- ---- the vector state after an instruction on registers alone
 
 abbrev pub vector_after : VectorInsn → (ℕ → ℕ) → Vectors → Vectors
 vector_after (v.ArithmeticVv o vd vs2 vs1 vm) x state = with_elements state vd vm (zip_with (op.arithmetic_vv o (width state)) (of_group state vs2) (of_group state vs1))

@@ -11,4 +11,8 @@ use Rattle.bounds_ranges.specs.Expressions.{Ranged, ranging, called, unasked}
 -- what a call comes to, of whose indexes nothing is asked
 abbrev pub answer_of : List ℕ → List Input → List Bool → List Func → ℕ → Source → Range → Range → Ranged
 answer_of lasts inputs flags funcs count source x y =
-    answered (record { range = called inputs source; asked = record { source = source; x = x; y = y } ∷ [] }) (unasked x) (Some (unasked y)) (answer (inside (ranging lasts inputs) (flagged flags) funcs count) source)
+    answered (record {
+      range = called inputs source;
+      asked = record { source = source; x = x; y = y }
+          ∷ [];
+    }) (unasked x) (Some (unasked y)) (answer (inside (ranging lasts inputs) (flagged flags) funcs count) source)

@@ -27,9 +27,11 @@ after_points scene pass number =
 abbrev pub IsSide : Update → Along → Type 0
 IsSide update alongs.Reduction = ⊥
 IsSide update alongs.Columns =
-    ((reads : Reads) (point : Environment) → value reads point update.left_x ≡ point.first_argument) × (is_second_in_place update ≡ false) × (is_forward update ≡ true)
+    ((reads : Reads) (point : Environment) → value reads point update.left_x ≡ point.first_argument) × (is_second_in_place update ≡ false)
+    × (is_forward update ≡ true)
 IsSide update alongs.Rows =
-    ((reads : Reads) (point : Environment) → index_value reads point update.left_y ≡ point.second_argument) × (is_first_in_place update ≡ false) × (is_forward update ≡ true)
+    ((reads : Reads) (point : Environment) → index_value reads point update.left_y ≡ point.second_argument) × (is_first_in_place update ≡ false)
+    × (is_forward update ≡ true)
 
 -- how many slices a box has
 abbrev pub side_length : Along → Table → ℕ
