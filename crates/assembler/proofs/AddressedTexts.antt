@@ -56,19 +56,23 @@ record Ends (survey : Survey) (line count : ℕ) (items : List Item) (start : �
   total : ℕ
   taken_is : taken_from (taken survey) line (so_far line count items) (lines_from start words) ≡ Ok (so_far last total (items ++ map item_of words))
 
-words_taken : Below → Addressed → (survey : Survey) (start : ℕ) (words : List ℕ) (line count : ℕ) (items : List Item) → AreWords words → count + length words ≤ 262144
+words_taken : Below → Addressed → (survey : Survey) (start : ℕ) (words : List ℕ) (line count : ℕ) (items : List Item) → AreWords words
+    → count + length words ≤ 262144
     → Ends survey line count items start words
 unfolding taken_from lines_from
 words_taken b a survey start [] line count items small room = record { last = line; total = count; taken_is = rw (append-nil items) refl }
 words_taken b a survey start (word ∷ words) line count items small room =
     let first = next_taken b a survey line count items word start (omega (arith, room)) (first_small word words small) in
-    let ends = words_taken b a survey (start + 4) words (line + 1) (count + 1) (items ++ item_of word ∷ []) (others_small word words small) (omega (arith, room)) in
-    let same : (items ++ item_of word ∷ []) ++ map item_of words ≡ items ++ item_of word ∷ map item_of words = append_assoc items (item_of word ∷ []) (map item_of words) in
+    let ends = words_taken b a survey (start + 4) words (line + 1) (count + 1) (items ++ item_of word ∷ []) (others_small word words small)
+    (omega (arith, room)) in
+    let same : (items ++ item_of word ∷ []) ++ map item_of words ≡ items ++ item_of word ∷ map item_of words = append_assoc items (item_of word ∷ [])
+    (map item_of words) in
     record { last = ends.last; total = ends.total; taken_is = rw first (ends.taken_is ∙ ap (λ (all : List Item). Ok (so_far ends.last ends.total all)) same) }
 
 -- ---- the object
 
-pub assembles_back_from : Below → Addressed → (start : ℕ) (words : List ℕ) → AreWords words → 1 ≤ length words → length words ≤ most_words → AssemblesBackFrom start words
+pub assembles_back_from : Below → Addressed → (start : ℕ) (words : List ℕ) → AreWords words → 1 ≤ length words → length words ≤ most_words
+    → AssemblesBackFrom start words
 unfolding assembled
 assembles_back_from b a start words small some few =
     let survey = surveyed unsurveyed (lines_of (addressed_listing start words)) in
@@ -80,5 +84,6 @@ assembles_back_from b a start words small some few =
       meaning = so_far ends.last ends.total (map item_of words);
       assembled_is = rw (all, some_items words some) refl;
       is_object = record { entry = refl; words = words_are b words small; bytes = refl; output = refl };
-      alone = λ object small' is. same_parts object.entry words object.words object.bytes object.output is.entry (same_words b words object.words small small' is.words) is.bytes is.output;
+      alone = λ object small' is. same_parts object.entry words object.words object.bytes object.output is.entry (same_words b words object.words small small'
+          is.words) is.bytes is.output;
     }

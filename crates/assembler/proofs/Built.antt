@@ -51,7 +51,8 @@ built_more old new a given words b here is_words are is_bytes is_entry is_output
 pub built_nothing : (old : Building) (a : Assembled) (given : Given) → IsBuilt old a → given ≡ nothing → IsBuilt old (grown a given)
 built_nothing old a given b is =
     subst (λ (g : Given). IsBuilt old (grown a g)) (sym is)
-    (built_more old old a nothing [] b refl (sym (append-nil old.words.items)) tt (sym (append-nil old.bytes.items)) (sym (or_none old.entry)) (sym (or_none old.output)))
+    (built_more old old a nothing [] b refl (sym (append-nil old.words.items)) tt (sym (append-nil old.bytes.items)) (sym (or_none old.entry))
+    (sym (or_none old.output)))
 
 pub built_words : (old new : Building) (a : Assembled) (given : Given) (words : List ℕ) → IsBuilt old a → GivesWords words given
     → new.here ≡ old.here → new.words.items ≡ old.words.items ++ words → new.bytes ≡ old.bytes → new.entry ≡ old.entry → new.output ≡ old.output
@@ -119,7 +120,8 @@ entry_is None = refl
 entry_is (Some at) = refl
 
 pub object_built : (building : Building) (a : Assembled) (object : ImageContents) (entry : ℕ) → IsBuilt building a
-    → object ≡ record { entry = entry; words = building.words.items; bytes = building.bytes.items; output = building.output } → entry ≡ unwrap_or building.entry text_start → IsObject object a
+    → object ≡ record { entry = entry; words = building.words.items; bytes = building.bytes.items; output = building.output }
+    → entry ≡ unwrap_or building.entry text_start → IsObject object a
 object_built building a object entry b is start =
     subst (λ (x : ImageContents). IsObject x a) (sym is)
     (record { entry = start ∙ entry_is building.entry ∙ ap entry_or_first b.entry; words = b.words; bytes = b.bytes; output = b.output })

@@ -29,13 +29,15 @@ joins (Err y) (Err x) (Err e) (Err d) old mid new f g = rw (f, g) refl
 -- ---- the three ways of a form's slots
 
 -- no operand is left
-pub nothing_left : (c : Context) (slot : Slot) (slots : List Slot) (all : List Slot) (operands : List Operand) (r : Result (Unit {0}) AsmFault) (fields : List ℤ)
+pub nothing_left : (c : Context) (slot : Slot) (slots : List Slot) (all : List Slot) (operands : List Operand) (r : Result (Unit {0}) AsmFault)
+    (fields : List ℤ)
     → all ≡ slot ∷ slots → operands ≡ [] → Fills (left_out slot slots) r fields fields → Fills (given_all c all operands) r fields fields
 unfolding given_all
 nothing_left c slot slots all operands r fields all_is none fills = rw (all_is, none) fills
 
 -- one more operand
-pub one_more : (c : Context) (slot : Slot) (slots all : List Slot) (operand : Operand) (operands every : List Operand) (r s : Result (Unit {0}) AsmFault) (old mid new : List ℤ)
+pub one_more : (c : Context) (slot : Slot) (slots all : List Slot) (operand : Operand) (operands every : List Operand) (r s : Result (Unit {0}) AsmFault)
+    (old mid new : List ℤ)
     → all ≡ slot ∷ slots → every ≡ operand ∷ operands → named_at all every ≡ None
     → Fills (given c slot operand) r old mid → Fills (given_all c slots operands) s mid new → Fills (given_all c all every) (together r s) old new
 unfolding given_all

@@ -1,6 +1,7 @@
 -- The front of a line is that of its statement.
 use Rattle.std.proofs.Common.{◌≡◌, ◌≢◌, ℕ, Bool, true, false, cond, ℤ, List, [], ◌∷◌, Option, Some, None, ◌⊎◌, inl, inr, refl, sym, ap, subst, ◌∙◌}
-use Rattle.assembler_syntax.specs.Statements.{head_of, statement_of, behind_label, command_head, commanded, is_label, only_number, operand_of, operands_of, all_operands, pieces_of, joined, with_first}
+use Rattle.assembler_syntax.specs.Statements.{head_of, statement_of, behind_label, command_head, commanded, is_label, only_number, operand_of, operands_of}
+use Rattle.assembler_syntax.specs.Statements.{all_operands, pieces_of, joined, with_first}
 use Rattle.assembler_syntax.specs.declared.tokens.Token.{Token}
 use Rattle.assembler_syntax.specs.declared.tokens.Token.TheVariants as t
 use Rattle.assembler_syntax.specs.declared.statements.Operand.{Operand}
@@ -55,14 +56,16 @@ some_piece (token ∷ tokens) is = by (comma_or_plain token)
     by (inl e) = let f : [] ∷ pieces_of tokens ≡ [] = sym (comma_pieces tokens) ∙ sym (ap (λ (x : Token). pieces_of (x ∷ tokens)) e) ∙ is in absurd cc
     by (inr h) = joined_some token (pieces_of tokens) (sym (h tokens) ∙ is)
 
-joined_one : (token : Token) (pieces : List (List Token)) (piece : List Token) → pieces ≢ [] → joined token pieces ≡ piece ∷ [] → (p : List Token) × (pieces ≡ p ∷ []) × (piece ≡ token ∷ p)
+joined_one : (token : Token) (pieces : List (List Token)) (piece : List Token) → pieces ≢ [] → joined token pieces ≡ piece ∷ []
+    → (p : List Token) × (pieces ≡ p ∷ []) × (piece ≡ token ∷ p)
 joined_one token [] piece some is = absurd (some refl)
 joined_one token (p ∷ []) piece some is = (p, refl, cc)
 joined_one token (p ∷ q ∷ ps) piece some is = absurd cc
 
 -- one more token
 one_more : (token : Token) (tokens piece : List Token) → ((p : List Token) → pieces_of tokens ≡ p ∷ [] → tokens ≡ p)
-    → (token ≡ t.Comma) ⊎ ((others : List Token) → pieces_of (token ∷ others) ≡ joined token (pieces_of others)) → pieces_of (token ∷ tokens) ≡ piece ∷ [] → token ∷ tokens ≡ piece
+    → (token ≡ t.Comma) ⊎ ((others : List Token) → pieces_of (token ∷ others) ≡ joined token (pieces_of others)) → pieces_of (token ∷ tokens) ≡ piece ∷ []
+    → token ∷ tokens ≡ piece
 one_more token tokens piece rest (inl e) is =
     let f : [] ∷ pieces_of tokens ≡ piece ∷ [] = sym (comma_pieces tokens) ∙ sym (ap (λ (x : Token). pieces_of (x ∷ tokens)) e) ∙ is in
     let none : pieces_of tokens ≡ [] = cc in
@@ -84,7 +87,8 @@ number_piece (t.Number m ∷ t.Open ∷ t.Word base ∷ t.Close ∷ []) n is = a
 number_piece (t.Open ∷ t.Word base ∷ t.Close ∷ []) n is = absurd cc
 number_piece tokens n is = absurd cc
 
-one_operand : (pieces : List (List Token)) (operand : Operand) → all_operands pieces ≡ Some (operand ∷ []) → (piece : List Token) × (pieces ≡ piece ∷ []) × (operand_of piece ≡ Some operand)
+one_operand : (pieces : List (List Token)) (operand : Operand) → all_operands pieces ≡ Some (operand ∷ []) → (piece : List Token) × (pieces ≡ piece ∷ [])
+    × (operand_of piece ≡ Some operand)
 unfolding all_operands
 one_operand [] operand is = absurd cc
 one_operand (piece ∷ pieces) operand is = by (operand_of piece) refl (all_operands pieces) refl is
@@ -98,7 +102,8 @@ one_operand (piece ∷ pieces) operand is = by (operand_of piece) refl (all_oper
         by_parts (Some a) None f = absurd cc
         by_parts (Some a) (Some others) f = absurd cc
 
-    by : (first : Option Operand) → operand_of piece ≡ first → (others : Option (List Operand)) → all_operands pieces ≡ others → with_first first others ≡ Some (operand ∷ [])
+    by : (first : Option Operand) → operand_of piece ≡ first → (others : Option (List Operand)) → all_operands pieces ≡ others
+        → with_first first others ≡ Some (operand ∷ [])
         → (p : List Token) × (piece ∷ pieces ≡ p ∷ []) × (operand_of p ≡ Some operand)
     by None f others g e = absurd cc
     by (Some a) f None g e = absurd cc
@@ -121,11 +126,14 @@ agrees operands tokens is = tt
 
 -- ---- the front of a statement
 
-behind_said : (label front : Option (List ℕ)) (tokens : List Token) (statement : Statement) → behind_label label tokens ≡ Some statement → SaysHead statement (command_head front tokens)
-behind_said label front [] statement is = let same : record { label = label; command = None } ≡ statement = cc in subst (λ (s : Statement). SaysHead s (command_head front [])) same refl
+behind_said : (label front : Option (List ℕ)) (tokens : List Token) (statement : Statement) → behind_label label tokens ≡ Some statement
+    → SaysHead statement (command_head front tokens)
+behind_said label front [] statement is = let same : record { label = label; command = None } ≡ statement = cc in
+    subst (λ (s : Statement). SaysHead s (command_head front [])) same refl
 behind_said label front (t.Word mnemonic ∷ tokens) statement is = by (operands_of tokens) refl is
   where
-    by : (operands : Option (List Operand)) → operands_of tokens ≡ operands → commanded label mnemonic operands ≡ Some statement → SaysHead statement (command_head front (t.Word mnemonic ∷ tokens))
+    by : (operands : Option (List Operand)) → operands_of tokens ≡ operands → commanded label mnemonic operands ≡ Some statement
+        → SaysHead statement (command_head front (t.Word mnemonic ∷ tokens))
     by None found e = absurd cc
     by (Some operands) found e =
         let same : record { label = label; command = Some (record { mnemonic = mnemonic; operands = operands }) } ≡ statement = cc in
@@ -136,7 +144,8 @@ pub head_said : (tokens : List Token) (statement : Statement) → statement_of t
 unfolding statement_of head_of
 head_said (t.Word label ∷ t.Colon ∷ tokens) statement is = by (is_label label) refl is
   where
-    by : (b : Bool) → is_label label ≡ b → cond b (behind_label (Some label) tokens) None ≡ Some statement → SaysHead statement (command_head (cond b (Some label) None) tokens)
+    by : (b : Bool) → is_label label ≡ b → cond b (behind_label (Some label) tokens) None ≡ Some statement
+        → SaysHead statement (command_head (cond b (Some label) None) tokens)
     by true e f = behind_said (Some label) (Some label) tokens statement f
     by false e f = absurd cc
 head_said tokens statement is = behind_said None None tokens statement is

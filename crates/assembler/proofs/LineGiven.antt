@@ -16,13 +16,15 @@ use Rattle.assembler.specs.declared.surveys.Here.{Here}
 use Rattle.assembler.specs.declared.surveys.Survey.{Survey}
 use Rattle.assembler.specs.Building.{GivesProduct}
 
-pub no_statement : (c : Context) (line : List ℕ) (tokens : List Token) (found : Option Statement) → tokens ≡ tokens_of line → found ≡ statement_of tokens → found ≡ None → line_given c line ≡ Err Syntax
+pub no_statement : (c : Context) (line : List ℕ) (tokens : List Token) (found : Option Statement) → tokens ≡ tokens_of line → found ≡ statement_of tokens
+    → found ≡ None → line_given c line ≡ Err Syntax
 unfolding line_given
 no_statement c line tokens found t f none =
     let s : statement_of (tokens_of line) ≡ None = sym (ap statement_of t) ∙ sym f ∙ none in
     rw s refl
 
-pub statement_given : (c : Context) (line : List ℕ) (tokens : List Token) (found : Option Statement) (statement : Statement) → tokens ≡ tokens_of line → found ≡ statement_of tokens → found ≡ Some statement
+pub statement_given : (c : Context) (line : List ℕ) (tokens : List Token) (found : Option Statement) (statement : Statement) → tokens ≡ tokens_of line
+    → found ≡ statement_of tokens → found ≡ Some statement
     → line_given c line ≡ stated c (after c.here.place (head_of tokens)) statement
 unfolding line_given
 statement_given c line tokens found statement t f some =
@@ -47,17 +49,21 @@ judged_as survey here line tokens found statement behind t f some b =
     statement_given (record { survey = survey; here = here }) line tokens found statement t f some
     ∙ sym (ap (λ (place : Place). stated (record { survey = survey; here = here }) place statement) b)
 
-pub product_given : (survey : Survey) (here : Here) (line : List ℕ) (tokens : List Token) (found : Option Statement) (statement : Statement) (behind : Place) (product : Product) (answered : Result Product AsmFault)
+pub product_given : (survey : Survey) (here : Here) (line : List ℕ) (tokens : List Token) (found : Option Statement) (statement : Statement) (behind : Place)
+    (product : Product) (answered : Result Product AsmFault)
     → tokens ≡ tokens_of line → found ≡ statement_of tokens → found ≡ Some statement → behind ≡ after here.place (head_of tokens)
-    → Performs (stated (record { survey = survey; here = here }) behind statement) answered → answered ≡ Ok product → GivesProduct survey here line product behind
+    → Performs (stated (record { survey = survey; here = here }) behind statement) answered → answered ≡ Ok product
+    → GivesProduct survey here line product behind
 product_given survey here line tokens found statement behind product answered t f some b performs ok =
     let judged = judged_as survey here line tokens found statement behind t f some b in
     let g = given_of (stated (record { survey = survey; here = here }) behind statement) product (rw ok at performs) in
     record { given = g.0; judged = judged ∙ g.1; made = g.2; next = b ∙ ap (λ (ts : List Token). after here.place (head_of ts)) t }
 
-pub fault_given : (survey : Survey) (here : Here) (line : List ℕ) (tokens : List Token) (found : Option Statement) (statement : Statement) (behind : Place) (fault : AsmFault) (answered : Result Product AsmFault)
+pub fault_given : (survey : Survey) (here : Here) (line : List ℕ) (tokens : List Token) (found : Option Statement) (statement : Statement) (behind : Place)
+    (fault : AsmFault) (answered : Result Product AsmFault)
     → tokens ≡ tokens_of line → found ≡ statement_of tokens → found ≡ Some statement → behind ≡ after here.place (head_of tokens)
-    → Performs (stated (record { survey = survey; here = here }) behind statement) answered → answered ≡ Err fault → line_given (record { survey = survey; here = here }) line ≡ Err fault
+    → Performs (stated (record { survey = survey; here = here }) behind statement) answered → answered ≡ Err fault
+    → line_given (record { survey = survey; here = here }) line ≡ Err fault
 fault_given survey here line tokens found statement behind fault answered t f some b performs err =
     judged_as survey here line tokens found statement behind t f some b
     ∙ fault_of (stated (record { survey = survey; here = here }) behind statement) fault (rw err at performs)

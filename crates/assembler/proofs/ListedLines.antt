@@ -1,5 +1,6 @@
 -- The line of a word gives its item, and moves on by one word of text.
-use Rattle.std.proofs.Common.{◌≡◌, ℕ, ◌+◌, ◌^◌, ◌<◌, nat_le, Bool, true, false, cond, not, pos, negsuc, List, [], ◌∷◌, ◌++◌, codes, Option, Some, None, Ok, refl, ap, subst, ◌∙◌, arith, find}
+use Rattle.std.proofs.Common.{◌≡◌, ℕ, ◌+◌, ◌^◌, ◌<◌, nat_le, Bool, true, false, cond, not, pos, negsuc, List, [], ◌∷◌, ◌++◌, codes, Option, Some, None, Ok}
+use Rattle.std.proofs.Common.{refl, ap, subst, ◌∙◌, arith, find}
 use Rattle.std.specs.List.{list_all}
 use Rattle.std.specs.Int.{w32, cast_unsigned}
 use Rattle.std.specs.Str.{bytes_eq}
@@ -63,7 +64,8 @@ is_false true e = absurd cc
 is_false false e = refl
 
 -- a name that stands in front of others is another one
-another : (name other : List ℕ) (others : List (List ℕ)) → apart_from (other ∷ others) name ≡ true → (bytes_eq name other ≡ false) × (apart_from others name ≡ true)
+another : (name other : List ℕ) (others : List (List ℕ)) → apart_from (other ∷ others) name ≡ true
+    → (bytes_eq name other ≡ false) × (apart_from others name ≡ true)
 unfolding apart_from
 another name other others apart =
     let parts = and_parts (not (bytes_eq name other)) (list_all (λ other. not (bytes_eq name other)) others) apart in
@@ -97,7 +99,12 @@ named_said (Some insn) found =
 abbrev pub text_place : ℕ → Place
 text_place count = record { section = Text; words = count; bytes = 0 }
 
-head_said : (name : List ℕ) (operands : List Operand) → head_of (t.Word name ∷ operands_tokens operands) ≡ record { label = None; mnemonic = Some name; number = only_number (operands_tokens operands) }
+head_said : (name : List ℕ) (operands : List Operand) → head_of (t.Word name ∷ operands_tokens operands) ≡ record {
+  label = None;
+  mnemonic = Some name;
+  number =
+      only_number (operands_tokens operands);
+}
 unfolding head_of operands_tokens
 head_said name [] = refl
 head_said name (o.Word word ∷ operands) = refl
@@ -144,8 +151,10 @@ performed_said survey line count word None small fit = rw (number_kept word smal
 performed_said survey line count word (Some insn) small fit = instruction_back (at_word survey line count) insn (fit insn refl)
 
 -- a command with no label, whose operands are faultless, within the machine's limits
-command_given : (c : Context) (line name : List ℕ) (operands : List Operand) (operation : Operation) (given : Given) → statement_of (tokens_of line) ≡ Some (commanding name operands)
-    → operation_named name ≡ Some operation → performed c (Some operation) operands ≡ Ok given → fits (after c.here.place (head_of (tokens_of line))) ≡ true → line_given c line ≡ Ok given
+command_given : (c : Context) (line name : List ℕ) (operands : List Operand) (operation : Operation) (given : Given)
+    → statement_of (tokens_of line) ≡ Some (commanding name operands)
+    → operation_named name ≡ Some operation → performed c (Some operation) operands ≡ Ok given → fits (after c.here.place (head_of (tokens_of line))) ≡ true
+    → line_given c line ≡ Ok given
 unfolding line_given stated
 command_given c line name operands operation given said named performs fit = rw (said, named, performs, fit) refl
 
@@ -154,15 +163,19 @@ command_given c line name operands operation given said named performs fit = rw 
 abbrev pub so_far : ℕ → ℕ → List Item → Assembled
 so_far line count items = record { here = record { line = line; place = text_place count }; items = items; bytes = []; entry = None; output = None }
 
-pub word_taken : (survey : Survey) (line count : ℕ) (items : List Item) (text : List ℕ) (word : ℕ) (meant : Option Insn) → count < 262144 → word < 2 ^ 32 → ((form : Form) → IsFound form) → Fit meant
-    → tokens_of text ≡ t.Word (mnemonic_said meant) ∷ operands_tokens (operands_said word meant) → statement_of (tokens_of text) ≡ Some (commanding (mnemonic_said meant) (operands_said word meant))
+pub word_taken : (survey : Survey) (line count : ℕ) (items : List Item) (text : List ℕ) (word : ℕ) (meant : Option Insn) → count < 262144 → word < 2 ^ 32
+    → ((form : Form) → IsFound form) → Fit meant
+    → tokens_of text ≡ t.Word (mnemonic_said meant) ∷ operands_tokens (operands_said word meant)
+    → statement_of (tokens_of text) ≡ Some (commanding (mnemonic_said meant) (operands_said word meant))
     → taken survey (so_far line count items) text ≡ Ok (so_far (line + 1) (count + 1) (items ++ item_said word meant ∷ []))
 unfolding taken
 word_taken survey line count items text word meant room small found fit tokens said =
     let named = named_said meant found in
     let behind : after (text_place count) (head_of (tokens_of text)) ≡ text_place (count + 1) =
-    ap (λ (ts : List Token). after (text_place count) (head_of ts)) tokens ∙ after_said count (mnemonic_said meant) (operands_said word meant) meant room named in
+    ap (λ (ts : List Token). after (text_place count) (head_of ts)) tokens ∙ after_said count (mnemonic_said meant) (operands_said word meant) meant room named
+    in
     let limits : fits (after (text_place count) (head_of (tokens_of text))) ≡ true = ap fits behind ∙ within_limits count room in
-    let given = command_given (at_word survey line count) text (mnemonic_said meant) (operands_said word meant) (operation_said meant) (these_items (item_said word meant ∷ [])) said named
+    let given = command_given (at_word survey line count) text (mnemonic_said meant) (operands_said word meant) (operation_said meant)
+    (these_items (item_said word meant ∷ [])) said named
     (performed_said survey line count word meant small fit) limits in
     rw (given, behind) refl

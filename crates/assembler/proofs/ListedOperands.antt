@@ -1,11 +1,13 @@
 -- What a slot shows gives its fields the numbers that they have.
-use Rattle.std.proofs.Common.{◌≡◌, ℕ, suc, ◌+◌, ◌*◌, ◌<◌, ◌==◌, ◌&&◌, ℤ, pos, negsuc, neg_ℤ, ◌-ℤ◌, ◌*ℤ◌, ◌≤ℤ◌, unsigned_abs, Bool, true, false, if◌then◌else◌, T, List, [], ◌∷◌, ◌++◌, codes, None, Some, Ok, refl, ap, ◌∙◌, arith}
+use Rattle.std.proofs.Common.{◌≡◌, ℕ, suc, ◌+◌, ◌*◌, ◌<◌, ◌==◌, ◌&&◌, ℤ, pos, negsuc, neg_ℤ, ◌-ℤ◌, ◌*ℤ◌, ◌≤ℤ◌, unsigned_abs, Bool, true, false, if◌then◌else◌}
+use Rattle.std.proofs.Common.{T, List, [], ◌∷◌, ◌++◌, codes, None, Some, Ok, refl, ap, ◌∙◌, arith}
 use Rattle.std.specs.Fmt.{decimal, signed_decimal}
 use Rattle.std.specs.Int.{int_rem_euclid, int_shr}
 use Rattle.std.specs.Int.Signed.{le_z}
 use Rattle.std.proofs.lemmas.Bool.{and_parts}
 use Rattle.std.proofs.lemmas.Int.{ints}
-use Rattle.assembler_mnemonics.specs.Configuration.{width_names, group_names, tail_names, mask_names, width_code, group_code, tail_code, mask_code, has_names, vtype_named, name_at}
+use Rattle.assembler_mnemonics.specs.Configuration.{width_names, group_names, tail_names, mask_names, width_code, group_code, tail_code, mask_code, has_names}
+use Rattle.assembler_mnemonics.specs.Configuration.{vtype_named, name_at}
 use Rattle.assembler_mnemonics.specs.Registers.{integer_letter, vector_letter, register_number}
 use Rattle.assembler_mnemonics.specs.Slots.{field_at, FitsSlot, FitsSlots}
 use Rattle.assembler_mnemonics.specs.declared.slots.Slot.{Slot}
@@ -85,13 +87,15 @@ is_plain (s.Mask field) = false
 is_plain slot = true
 
 one_more : (c : Context) (slot : Slot) (slots : List Slot) (fields : List ℤ) (operand : Operand)
-    → named_at (slot ∷ slots) (operand ∷ all_shown slots fields) ≡ None → given c slot operand ≡ Ok (own_pairs slot fields) → given_all c slots (all_shown slots fields) ≡ Ok (all_pairs slots fields)
+    → named_at (slot ∷ slots) (operand ∷ all_shown slots fields) ≡ None → given c slot operand ≡ Ok (own_pairs slot fields)
+    → given_all c slots (all_shown slots fields) ≡ Ok (all_pairs slots fields)
     → given_all c (slot ∷ slots) (operand ∷ all_shown slots fields) ≡ Ok (all_pairs (slot ∷ slots) fields)
 unfolding given_all all_pairs
 one_more c slot slots fields operand unnamed first later = rw (unnamed, first, later) refl
 
 -- its operand gives its fields
-plain_given : (c : Context) (slot : Slot) (slots : List Slot) (fields : List ℤ) → is_plain slot ≡ true → FitsSlot fields slot → given_all c slots (all_shown slots fields) ≡ Ok (all_pairs slots fields)
+plain_given : (c : Context) (slot : Slot) (slots : List Slot) (fields : List ℤ) → is_plain slot ≡ true → FitsSlot fields slot
+    → given_all c slots (all_shown slots fields) ≡ Ok (all_pairs slots fields)
     → given_all c (slot ∷ slots) (all_shown (slot ∷ slots) fields) ≡ Ok (all_pairs (slot ∷ slots) fields)
 unfolding is_plain given shown all_shown own_pairs all_pairs
 plain_given c (s.Integer field) slots fields plain fits later =
@@ -111,7 +115,8 @@ plain_given c (s.Upper field) slots fields plain fits later =
 plain_given c (s.Based offset base) slots fields plain fits later =
     let first = within (negsuc 2047) (pos 2047) (field_at fields offset) fits.0.0 fits.0.1 in
     let second = register_back integer_letter (field_at fields base) fits.1.0 fits.1.1 in
-    one_more c (s.Based offset base) slots fields (o.Based (field_at fields offset) (register_in integer_letter fields base)) refl (rw (first, second) refl) later
+    one_more c (s.Based offset base) slots fields (o.Based (field_at fields offset) (register_in integer_letter fields base)) refl (rw (first, second) refl)
+    later
 plain_given c (s.Address base) slots fields plain fits later =
     let first = register_back integer_letter (field_at fields base) fits.0 fits.1 in
     one_more c (s.Address base) slots fields (o.Bracketed (register_in integer_letter fields base)) refl (rw first refl) later
@@ -127,7 +132,8 @@ named_given : (c : Context) (field : ℕ) (greatest : ℤ) (vtype : ℕ) → pos
     → given_all c (s.Configuration field greatest ∷ []) (vtype_shown vtype ++ []) ≡ Ok ((field, pos vtype) ∷ [])
 unfolding given_all vtype_shown
 named_given c field greatest vtype low high named =
-    let meant : vtype_named (name_at width_names (width_code vtype)) (name_at group_names (group_code vtype)) (name_at tail_names (tail_code vtype)) (name_at mask_names (mask_code vtype)) ≡ Some vtype = vtype_read_back vtype named in
+    let meant : vtype_named (name_at width_names (width_code vtype)) (name_at group_names (group_code vtype)) (name_at tail_names (tail_code vtype))
+    (name_at mask_names (mask_code vtype)) ≡ Some vtype = vtype_read_back vtype named in
     rw (named, meant, within (pos 0) greatest (pos vtype) low high) refl
 
 number_given : (c : Context) (field : ℕ) (greatest : ℤ) (vtype : ℕ) → pos 0 ≤ℤ pos vtype → pos vtype ≤ℤ greatest → has_names vtype ≡ false
@@ -138,7 +144,8 @@ number_given c field greatest vtype low high unnamed = rw (unnamed, within (pos 
 vtype_given : (c : Context) (field : ℕ) (greatest number : ℤ) → pos 0 ≤ℤ number → number ≤ℤ greatest
     → given_all c (s.Configuration field greatest ∷ []) (vtype_shown (unsigned_abs number) ++ []) ≡ Ok ((field, number) ∷ [])
 vtype_given c field greatest (pos vtype) low high =
-    elim (has_names vtype) as (λ named. has_names vtype ≡ named → given_all c (s.Configuration field greatest ∷ []) (vtype_shown vtype ++ []) ≡ Ok ((field, pos vtype) ∷ [])) [
+    elim (has_names vtype) as (λ named. has_names vtype ≡ named → given_all c (s.Configuration field greatest ∷ []) (vtype_shown vtype ++ [])
+    ≡ Ok ((field, pos vtype) ∷ [])) [
       | true ↦ λ e. named_given c field greatest vtype low high e
       | false ↦ λ e. number_given c field greatest vtype low high e
     ] refl
@@ -159,13 +166,15 @@ is_ordered [] = true
 is_ordered (slot ∷ []) = true
 is_ordered (slot ∷ next ∷ slots) = is_plain slot && is_ordered (next ∷ slots)
 
-last_given : (c : Context) (slot : Slot) (fields : List ℤ) → FitsSlot fields slot → given_all c (slot ∷ []) (all_shown (slot ∷ []) fields) ≡ Ok (all_pairs (slot ∷ []) fields)
+last_given : (c : Context) (slot : Slot) (fields : List ℤ) → FitsSlot fields slot → given_all c (slot ∷ []) (all_shown (slot ∷ []) fields)
+    ≡ Ok (all_pairs (slot ∷ []) fields)
 unfolding is_plain given_all shown all_shown own_pairs all_pairs
 last_given c (s.Configuration field greatest) fields fits = vtype_given c field greatest (field_at fields field) fits.0 fits.1
 last_given c (s.Mask field) fields fits = mask_given c field (unsigned_abs (field_at fields field) == 0)
 last_given c slot fields fits = plain_given c slot [] fields refl fits refl
 
-pub slots_given : (c : Context) (slots : List Slot) (fields : List ℤ) → is_ordered slots ≡ true → FitsSlots fields slots → given_all c slots (all_shown slots fields) ≡ Ok (all_pairs slots fields)
+pub slots_given : (c : Context) (slots : List Slot) (fields : List ℤ) → is_ordered slots ≡ true → FitsSlots fields slots
+    → given_all c slots (all_shown slots fields) ≡ Ok (all_pairs slots fields)
 unfolding is_ordered given_all all_shown all_pairs
 slots_given c [] fields ordered fits = refl
 slots_given c (slot ∷ []) fields ordered fits = last_given c slot fields fits.0

@@ -1,5 +1,6 @@
 -- The listing of words is assembled to these words alone.
-use Rattle.std.proofs.Common.{◌≡◌, ℕ, ◌+◌, ◌^◌, ◌<◌, ◌≤◌, ◌==◌, ◌↔◌, false, List, [], ◌∷◌, ◌++◌, length, map, Option, Some, None, Ok, refl, ap, ◌∙◌, append_assoc, arith}
+use Rattle.std.proofs.Common.{◌≡◌, ℕ, ◌+◌, ◌^◌, ◌<◌, ◌≤◌, ◌==◌, ◌↔◌, false, List, [], ◌∷◌, ◌++◌, length, map, Option, Some, None, Ok, refl, ap, ◌∙◌}
+use Rattle.std.proofs.Common.{append_assoc, arith}
 use Rattle.std.specs.List.{AllByRecursion}
 use Rattle.std.proofs.lemmas.List.{append-nil}
 use Rattle.std.proofs.lemmas.List.Elements.{All-head, All-tail}
@@ -64,7 +65,8 @@ item_of word = item_said word (decoded word)
 next_taken : Below → (survey : Survey) (line count : ℕ) (items : List Item) (word : ℕ) → count < 262144 → word < 2 ^ 32
     → taken survey (so_far line count items) (line_of word) ≡ Ok (so_far (line + 1) (count + 1) (items ++ item_of word ∷ []))
 next_taken b survey line count items word room small =
-    word_taken survey line count items (line_of word) word (decoded word) room small b.found (λ insn is. b.fits word insn ((b.meant word insn small).0 is)) (b.tokens word small) (b.statement word small)
+    word_taken survey line count items (line_of word) word (decoded word) room small b.found (λ insn is. b.fits word insn ((b.meant word insn small).0 is))
+    (b.tokens word small) (b.statement word small)
 
 -- the lines of words, from a place in text on
 record Ends (survey : Survey) (line count : ℕ) (items : List Item) (words : List ℕ) : Type 0 where
@@ -72,13 +74,15 @@ record Ends (survey : Survey) (line count : ℕ) (items : List Item) (words : Li
   total : ℕ
   taken_is : taken_from (taken survey) line (so_far line count items) (map line_of words) ≡ Ok (so_far last total (items ++ map item_of words))
 
-words_taken : Below → (survey : Survey) (words : List ℕ) (line count : ℕ) (items : List Item) → AreWords words → count + length words ≤ 262144 → Ends survey line count items words
+words_taken : Below → (survey : Survey) (words : List ℕ) (line count : ℕ) (items : List Item) → AreWords words → count + length words ≤ 262144
+    → Ends survey line count items words
 unfolding taken_from
 words_taken b survey [] line count items small room = record { last = line; total = count; taken_is = rw (append-nil items) refl }
 words_taken b survey (word ∷ words) line count items small room =
     let first = next_taken b survey line count items word (omega (arith, room)) (first_small word words small) in
     let ends = words_taken b survey words (line + 1) (count + 1) (items ++ item_of word ∷ []) (others_small word words small) (omega (arith, room)) in
-    let same : (items ++ item_of word ∷ []) ++ map item_of words ≡ items ++ item_of word ∷ map item_of words = append_assoc items (item_of word ∷ []) (map item_of words) in
+    let same : (items ++ item_of word ∷ []) ++ map item_of words ≡ items ++ item_of word ∷ map item_of words = append_assoc items (item_of word ∷ [])
+    (map item_of words) in
     record { last = ends.last; total = ends.total; taken_is = rw first (ends.taken_is ∙ ap (λ (all : List Item). Ok (so_far ends.last ends.total all)) same) }
 
 -- ---- the words of the items
@@ -92,7 +96,8 @@ words_are b [] small = tt
 words_are b (word ∷ words) small = (word_is b word (decoded word) refl (first_small word words small), words_are b words (others_small word words small))
 
 -- and no others
-same_word : Below → (word other : ℕ) (meant : Option Insn) → decoded word ≡ meant → word < 2 ^ 32 → other < 2 ^ 32 → IsItem other (item_said word meant) → other ≡ word
+same_word : Below → (word other : ℕ) (meant : Option Insn) → decoded word ≡ meant → word < 2 ^ 32 → other < 2 ^ 32 → IsItem other (item_said word meant)
+    → other ≡ word
 same_word b word other None e small small' is = is
 same_word b word other (Some insn) e small small' is =
     one_spelling insn other word small' small ((b.is_word other insn).1 is) ((b.meant word insn small).0 e)
@@ -128,5 +133,6 @@ assembles_back b words small some few =
       meaning = so_far ends.last ends.total (map item_of words);
       assembled_is = rw (all, some_items words some) refl;
       is_object = record { entry = refl; words = words_are b words small; bytes = refl; output = refl };
-      alone = λ object small' is. same_parts object.entry words object.words object.bytes object.output is.entry (same_words b words object.words small small' is.words) is.bytes is.output;
+      alone = λ object small' is. same_parts object.entry words object.words object.bytes object.output is.entry (same_words b words object.words small small'
+          is.words) is.bytes is.output;
     }

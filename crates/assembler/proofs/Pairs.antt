@@ -1,5 +1,6 @@
 -- A map from names, seen as a list of pairs in the order in which they were added.
-use Rattle.std.proofs.Common.{◌≡◌, ℕ, ◌+◌, ◌<◌, nat_lt, Bool, true, false, cond, List, [], ◌∷◌, ◌++◌, Option, Some, None, Vec, length, refl, ap, sym, subst, ◌∙◌, arith}
+use Rattle.std.proofs.Common.{◌≡◌, ℕ, ◌+◌, ◌<◌, nat_lt, Bool, true, false, cond, List, [], ◌∷◌, ◌++◌, Option, Some, None, Vec, length, refl, ap, sym, subst}
+use Rattle.std.proofs.Common.{◌∙◌, arith}
 use Rattle.std.proofs.lemmas.Bool.{le-ltb, lt-ltb, true≢false}
 use Rattle.std.proofs.lemmas.Cmp.{nat_list_eq_equiv}
 use Rattle.std.proofs.lemmas.List.{map-append}
@@ -94,7 +95,8 @@ still_below name new [] below = (omega arith, tt)
 still_below name new (entry ∷ entries) below = by (order name entry.0) (still_below name new entries below.1)
   where
     by : (to_entry : Ordering) → AreBelow (new.number + 1) (insert_entry order entries name new)
-        → AreBelow (new.number + 1) (match_ordering to_entry ((name, new) ∷ entry ∷ entries) ((entry.0, new) ∷ entries) (entry ∷ insert_entry order entries name new))
+        → AreBelow (new.number + 1) (match_ordering to_entry ((name, new) ∷ entry ∷ entries) ((entry.0, new) ∷ entries) (entry ∷ insert_entry order entries name
+        new))
     by Less later = (omega arith, more new.number (entry ∷ entries) below)
     by Equal later = (omega arith, more new.number entries below.1)
     by Greater later = (omega (arith, below.0), later)
@@ -192,7 +194,8 @@ module _ (name : Vec ℕ Global) (new : Numbered) (old next : Entries) (numbered
 
   pub keeps_numbers : IsStrictlySortedBy order (keys_of next) → AreNumbered next
   keeps_numbers sorted =
-      let count : length next ≡ new.number + 1 = ap (λ (entries : Entries). length entries) is_next ∙ one_more name new old none ∙ ap (λ n. n + 1) (sym is_number) in
+      let count : length next ≡ new.number + 1 = ap (λ (entries : Entries). length entries) is_next ∙ one_more name new old none
+      ∙ ap (λ n. n + 1) (sym is_number) in
       let all : AreBelow (new.number + 1) next = subst (λ entries. AreBelow (new.number + 1) entries) (sym is_next) (still_below name new old below) in
       (sorted, subst (λ n. AreBelow n next) (sym count) all)
 

@@ -1,5 +1,7 @@
 -- What a text means keeps the rules of images.
-use Rattle.std.proofs.Common.{◌≡◌, ℕ, ◌+◌, ◌*◌, ◌%◌, ◌^◌, ◌<◌, ◌≤◌, ◌==◌, ◌&&◌, nat_lt, nat_le, zero, suc, Bool, true, false, cond, ℤ, pos, negsuc, ◌⊎◌, inl, inr, List, [], ◌∷◌, length, replicate, Option, Some, None, Result, Ok, Err, refl, sym, ap, subst, ◌∙◌, arith, true≢false, length-append}
+use Rattle.std.proofs.Common.{◌≡◌, ℕ, ◌+◌, ◌*◌, ◌%◌, ◌^◌, ◌<◌, ◌≤◌, ◌==◌, ◌&&◌, nat_lt, nat_le, zero, suc, Bool, true, false, cond, ℤ, pos, negsuc, ◌⊎◌, inl}
+use Rattle.std.proofs.Common.{inr, List, [], ◌∷◌, length, replicate, Option, Some, None, Result, Ok, Err, refl, sym, ap, subst, ◌∙◌, arith, true≢false}
+use Rattle.std.proofs.Common.{length-append}
 use Rattle.std.proofs.lemmas.Bool.{cases_lt, leb-true, lt-ltb}
 use Rattle.std.proofs.lemmas.List.{length-replicate}
 use Rattle.std.proofs.Math.Nat.{min-eq_left, min-eq_right}
@@ -25,11 +27,13 @@ use Rattle.assembler.specs.Judging as j
 use Rattle.assembler.specs.Judging.{Context, Given, Item, nothing, these_items, these_bytes, performed, section}
 use Rattle.assembler.specs.Lines.{commanded, fits, line_given, stated, with_others}
 use Rattle.assembler.specs.Object.{Assembled, IsObject, assembled, before_first, entry_or_first, or_new, taken, with_given, worded}
-use Rattle.assembler.specs.Places.{after, after_operation, after_space, after_word, capped, named_operation, operation_named, surveyed, surveyed_head, unsurveyed}
+use Rattle.assembler.specs.Places.{after, after_operation, after_space, after_word, capped, named_operation, operation_named, surveyed, surveyed_head}
+use Rattle.assembler.specs.Places.{unsurveyed}
 use Rattle.assembler.specs.declared.faults.AsmFault.{AsmFault}
 use Rattle.assembler.specs.declared.faults.AsmFault.TheVariants.{Syntax}
 use Rattle.assembler.specs.declared.operations.Operation.{Operation}
-use Rattle.assembler.specs.declared.operations.Operation.TheVariants.{Instruction, LoadImmediate, LoadAddress, TextSection, DataSection, Word, Space, Entry, Output as OutputPicture}
+use Rattle.assembler.specs.declared.operations.Operation.TheVariants.{Instruction, LoadImmediate, LoadAddress, TextSection, DataSection, Word, Space, Entry}
+use Rattle.assembler.specs.declared.operations.Operation.TheVariants.{Output as OutputPicture}
 use Rattle.assembler.specs.declared.places.Place.{Place}
 use Rattle.assembler.specs.declared.places.Section.{Section}
 use Rattle.assembler.specs.declared.places.Section.TheVariants.{Text, Data}
@@ -43,7 +47,8 @@ then_holds : {A B F : Type 0} (r : Result A F) (next : A → Result B F) (P : B 
 then_holds (Ok a) next P h = h a
 then_holds (Err f) next P h = tt
 
-cond_holds : {A F : Type 0} (b : Bool) (first second : Result A F) (P : A → Type 0) → (b ≡ true → IfOk first P) → (b ≡ false → IfOk second P) → IfOk (cond b first second) P
+cond_holds : {A F : Type 0} (b : Bool) (first second : Result A F) (P : A → Type 0) → (b ≡ true → IfOk first P) → (b ≡ false → IfOk second P)
+    → IfOk (cond b first second) P
 cond_holds true first second P h k = h refl
 cond_holds false first second P h k = k refl
 
@@ -92,16 +97,20 @@ fit_nothing words bytes place = record { words_grow = same_count place.words; by
 fit_section : (words bytes : ℕ) (place : Place) (to : Section) → IsFit words bytes place (record place { section = to }) nothing
 fit_section words bytes place to = record { words_grow = same_count place.words; bytes_grow = same_count place.bytes; entry = tt; output = tt }
 
-fit_one : (words bytes : ℕ) (place : Place) (item : Item) → IsFit words bytes place (record place { words = capped (place.words + 1) }) (these_items (item ∷ []))
+fit_one : (words bytes : ℕ) (place : Place) (item : Item) → IsFit words bytes place (record place { words = capped (place.words + 1) })
+    (these_items (item ∷ []))
 fit_one words bytes place item = record { words_grow = inr refl; bytes_grow = same_count place.bytes; entry = tt; output = tt }
 
-fit_two : (words bytes : ℕ) (place : Place) (first second : Item) → IsFit words bytes place (record place { words = capped (place.words + 2) }) (these_items (first ∷ second ∷ []))
+fit_two : (words bytes : ℕ) (place : Place) (first second : Item) → IsFit words bytes place (record place { words = capped (place.words + 2) })
+    (these_items (first ∷ second ∷ []))
 fit_two words bytes place first second = record { words_grow = inr refl; bytes_grow = same_count place.bytes; entry = tt; output = tt }
 
-fit_four : (words bytes : ℕ) (place : Place) (n : ℕ) → IsFit words bytes place (record place { bytes = capped (place.bytes + 4) }) (these_bytes (to_le_bytes w32 n))
+fit_four : (words bytes : ℕ) (place : Place) (n : ℕ) → IsFit words bytes place (record place { bytes = capped (place.bytes + 4) })
+    (these_bytes (to_le_bytes w32 n))
 fit_four words bytes place n = record { words_grow = same_count place.words; bytes_grow = inr refl; entry = tt; output = tt }
 
-fit_zeros : (words bytes : ℕ) (place : Place) (n : ℕ) → IsFit words bytes place (record place { bytes = capped (place.bytes + n) }) (these_bytes (replicate n 0))
+fit_zeros : (words bytes : ℕ) (place : Place) (n : ℕ) → IsFit words bytes place (record place { bytes = capped (place.bytes + n) })
+    (these_bytes (replicate n 0))
 fit_zeros words bytes place n = record {
   words_grow = same_count place.words;
   bytes_grow = inr (ap (λ k. capped (place.bytes + k)) (sym (length-replicate n 0)));
@@ -115,7 +124,8 @@ fit_zeros words bytes place n = record {
 abbrev FitsAt : Context → Place → Given → Type 0
 FitsAt c behind given = IsFit c.survey.here.place.words c.survey.here.place.bytes c.here.place behind given
 
-in_text_fits : (c : Context) (behind : Place) (at : Section) (judged : Result Given AsmFault) → IfOk judged (FitsAt c behind) → IfOk (j.in_text at judged) (FitsAt c behind)
+in_text_fits : (c : Context) (behind : Place) (at : Section) (judged : Result Given AsmFault) → IfOk judged (FitsAt c behind)
+    → IfOk (j.in_text at judged) (FitsAt c behind)
 in_text_fits c behind Text judged h = h
 in_text_fits c behind Data judged h = tt
 
@@ -187,14 +197,16 @@ picture_at_fits c at width height =
       output = and_right (nat_lt at (2 ^ 32)) (is_output c.survey.here.place.bytes picture) is;
     }) (λ no. tt)
 
-picture_of_fits : (c : Context) (at : Section) (address : ℕ) (width height : ℤ) → IfOk (j.picture_of c.survey.here.place.bytes at address width height) (FitsAt c c.here.place)
+picture_of_fits : (c : Context) (at : Section) (address : ℕ) (width height : ℤ) → IfOk (j.picture_of c.survey.here.place.bytes at address width height)
+    (FitsAt c c.here.place)
 picture_of_fits c Text address width height = tt
 picture_of_fits c Data address width height = cond_holds (j.is_extent width && j.is_extent height) _ _ (FitsAt c c.here.place)
     (λ is. picture_at_fits c address (unsigned_abs width) (unsigned_abs height)) (λ no. tt)
 
 output_named_fits : (c : Context) (label : List ℕ) (width height : ℤ) → IfOk (j.output_named c label width height) (FitsAt c c.here.place)
 output_named_fits c label width height = cond_holds (j.is_first c.survey.output c.here.line) _ _ (FitsAt c c.here.place)
-    (λ first. then_holds (j.labelled c.survey label) _ (FitsAt c c.here.place) (λ named. picture_of_fits c named.section named.address width height)) (λ later. tt)
+    (λ first. then_holds (j.labelled c.survey label) _ (FitsAt c c.here.place) (λ named. picture_of_fits c named.section named.address width height))
+    (λ later. tt)
 
 output_fits : (c : Context) (operands : List Operand) → IfOk (j.output c operands) (FitsAt c c.here.place)
 output_fits c (o.Word label ∷ o.Number width ∷ o.Number height ∷ []) = output_named_fits c label width height
@@ -218,11 +230,13 @@ performed_fits c (Some Space) operands number same = space_fits c c.here.place.s
 performed_fits c (Some Entry) operands number same = entry_fits c c.here.place.section operands
 performed_fits c (Some OutputPicture) operands number same = output_fits c operands
 
-commanded_fits : (c : Context) (statement : Statement) (head : Head) → SaysHead statement head → IfOk (commanded c statement.command) (FitsAt c (after c.here.place head))
+commanded_fits : (c : Context) (statement : Statement) (head : Head) → SaysHead statement head
+    → IfOk (commanded c statement.command) (FitsAt c (after c.here.place head))
 unfolding after
 commanded_fits c statement head says = by statement.command says
   where
-    by : (command : Option Command) → SaysCommand command head → IfOk (commanded c command) (FitsAt c (after_operation c.here.place head.number (named_operation head.mnemonic)))
+    by : (command : Option Command) → SaysCommand command head
+        → IfOk (commanded c command) (FitsAt c (after_operation c.here.place head.number (named_operation head.mnemonic)))
     by None says = rw says (fit_nothing c.survey.here.place.words c.survey.here.place.bytes c.here.place)
     by (Some command) says = rw says.0 (performed_fits c (operation_named command.mnemonic) command.operands head.number says.1)
 
@@ -254,7 +268,8 @@ judged_both : (given : Result Given AsmFault) (others : Result (Unit {0} × Unit
     → (given ≡ Ok g) × ((x : Unit {0} × Unit {0}) × (others ≡ Ok x))
 judged_both given others g is = by (both given others) refl is
   where
-    by : (b : Result (Given × (Unit {0} × Unit {0})) AsmFault) → both given others ≡ b → (b >>= λ judged. Ok judged.0) ≡ Ok g → (given ≡ Ok g) × ((x : Unit {0} × Unit {0}) × (others ≡ Ok x))
+    by : (b : Result (Given × (Unit {0} × Unit {0})) AsmFault) → both given others ≡ b → (b >>= λ judged. Ok judged.0) ≡ Ok g
+        → (given ≡ Ok g) × ((x : Unit {0} × Unit {0}) × (others ≡ Ok x))
     by (Ok x) e ok = let same : x.0 ≡ g = cc in (both_left given others x e ∙ ap (λ (y : Given). Ok y) same, (x.1, both_right given others x e))
     by (Err f) e ok = absurd cc
 
@@ -265,7 +280,8 @@ stated_fits c behind statement head given lies says is =
     let parts = judged_both (commanded c statement.command) _ given is in
     let limits = unless_ok _ (fits behind) _ (both_right _ _ _ parts.1.1) in
     record {
-      fit = subst (λ (b : Place). FitsAt c b given) (sym lies) (holds_of (commanded c statement.command) (FitsAt c (after c.here.place head)) given (commanded_fits c statement head says) parts.0);
+      fit = subst (λ (b : Place). FitsAt c b given) (sym lies) (holds_of (commanded c statement.command) (FitsAt c (after c.here.place head)) given
+          (commanded_fits c statement head says) parts.0);
       limits = limits;
     }
 
@@ -273,7 +289,8 @@ line_fits : (c : Context) (line : List ℕ) (given : Given) → line_given c lin
 unfolding line_given
 line_fits c line given is = by (statement_of (tokens_of line)) refl is
   where
-    by : (found : Option Statement) → statement_of (tokens_of line) ≡ found → (or_fault Syntax found >>= λ statement. stated c (after c.here.place (head_of (tokens_of line))) statement) ≡ Ok given
+    by : (found : Option Statement) → statement_of (tokens_of line) ≡ found
+        → (or_fault Syntax found >>= λ statement. stated c (after c.here.place (head_of (tokens_of line))) statement) ≡ Ok given
         → LineFits c (after c.here.place (head_of (tokens_of line))) given
     by None found ok = absurd cc
     by (Some statement) found ok = stated_fits c _ statement (head_of (tokens_of line)) given refl (head_said (tokens_of line) statement found) ok
@@ -292,11 +309,14 @@ or_new_holds : {A : Type 0} (old new : Option A) (P : A → Type 0) → IfSome o
 or_new_holds None new P h k = k
 or_new_holds (Some a) new P h k = h
 
-keeps_given : (survey : Survey) (a : Assembled) (behind : Place) (given : Given) → Keeps survey a → LineFits (record { survey = survey; here = a.here }) behind given
+keeps_given : (survey : Survey) (a : Assembled) (behind : Place) (given : Given) → Keeps survey a
+    → LineFits (record { survey = survey; here = a.here }) behind given
     → Keeps survey (with_given a behind given)
 keeps_given survey a behind given k f =
-    let words = grown_small a.here.place.words behind.words (length given.items) most_words (omega arith) (and_left (nat_le behind.words most_words) (nat_le behind.bytes most_bytes) f.limits) f.fit.words_grow in
-    let bytes = grown_small a.here.place.bytes behind.bytes (length given.bytes) most_bytes (omega arith) (and_right (nat_le behind.words most_words) (nat_le behind.bytes most_bytes) f.limits) f.fit.bytes_grow in
+    let words = grown_small a.here.place.words behind.words (length given.items) most_words (omega arith) (and_left (nat_le behind.words most_words)
+    (nat_le behind.bytes most_bytes) f.limits) f.fit.words_grow in
+    let bytes = grown_small a.here.place.bytes behind.bytes (length given.bytes) most_bytes (omega arith) (and_right (nat_le behind.words most_words)
+    (nat_le behind.bytes most_bytes) f.limits) f.fit.bytes_grow in
     record {
       items = length-append a.items given.items ∙ ap (λ n. n + length given.items) k.items ∙ sym words;
       bytes = length-append a.bytes given.bytes ∙ ap (λ n. n + length given.bytes) k.bytes ∙ sym bytes;
@@ -326,12 +346,14 @@ keeps_line survey a next line k is =
     subst (Keeps survey) t.next_is (keeps_given survey a _ t.given k (line_fits (record { survey = survey; here = a.here }) line t.given t.judged))
 
 -- the lines in turn
-first_taken : (survey : Survey) (number : ℕ) (a last : Assembled) (line : List ℕ) (lines : List (List ℕ)) → taken_from (taken survey) number a (line ∷ lines) ≡ Ok last
+first_taken : (survey : Survey) (number : ℕ) (a last : Assembled) (line : List ℕ) (lines : List (List ℕ)) → taken_from (taken survey) number a (line ∷ lines)
+    ≡ Ok last
     → (next : Assembled) × (taken survey a line ≡ Ok next) × (taken_from (taken survey) (number + 1) next lines ≡ Ok last)
 unfolding taken_from
 first_taken survey number a last line lines is = by (taken survey a line) refl is
   where
-    by : (judged : Result Assembled AsmFault) → taken survey a line ≡ judged → located number judged (λ next. taken_from (taken survey) (number + 1) next lines) ≡ Ok last
+    by : (judged : Result Assembled AsmFault) → taken survey a line ≡ judged → located number judged (λ next. taken_from (taken survey) (number + 1) next lines)
+        ≡ Ok last
         → (next : Assembled) × (taken survey a line ≡ Ok next) × (taken_from (taken survey) (number + 1) next lines ≡ Ok last)
     by (Ok next) e ok = (next, e, ok)
     by (Err fault) e ok = absurd cc
@@ -340,7 +362,8 @@ none_taken : (survey : Survey) (number : ℕ) (a last : Assembled) → taken_fro
 unfolding taken_from
 none_taken survey number a last is = cc
 
-keeps_lines : (survey : Survey) (number : ℕ) (a last : Assembled) (lines : List (List ℕ)) → Keeps survey a → taken_from (taken survey) number a lines ≡ Ok last → Keeps survey last
+keeps_lines : (survey : Survey) (number : ℕ) (a last : Assembled) (lines : List (List ℕ)) → Keeps survey a → taken_from (taken survey) number a lines ≡ Ok last
+    → Keeps survey last
 keeps_lines survey number a last [] k is = subst (Keeps survey) (none_taken survey number a last is) k
 keeps_lines survey number a last (line ∷ lines) k is =
     let t = first_taken survey number a last line lines is in
@@ -359,7 +382,8 @@ one_surveyed : (s : Survey) (line : List ℕ) (lines : List (List ℕ)) → surv
 unfolding surveyed
 one_surveyed s line lines = refl
 
-same_place : (survey s : Survey) (number : ℕ) (a last : Assembled) (lines : List (List ℕ)) → s.here.place ≡ a.here.place → taken_from (taken survey) number a lines ≡ Ok last
+same_place : (survey s : Survey) (number : ℕ) (a last : Assembled) (lines : List (List ℕ)) → s.here.place ≡ a.here.place
+    → taken_from (taken survey) number a lines ≡ Ok last
     → (surveyed s lines).here.place ≡ last.here.place
 same_place survey s number a last [] same is =
     ap (λ (x : Survey). x.here.place) (none_surveyed s) ∙ same ∙ ap (λ (x : Assembled). x.here.place) (none_taken survey number a last is)
@@ -372,7 +396,8 @@ same_place survey s number a last (line ∷ lines) same is =
 
 -- ---- objects
 
-judged_well : (image : ImageContents) → is_within_limits image ≡ true → is_entry (length image.words) image.entry ≡ true → is_output_or_none (length image.bytes) image.output ≡ true
+judged_well : (image : ImageContents) → is_within_limits image ≡ true → is_entry (length image.words) image.entry ≡ true
+    → is_output_or_none (length image.bytes) image.output ≡ true
     → judged image ≡ Ok image
 judged_well image limits entry output = rw (limits, entry, output) refl
 
@@ -384,7 +409,8 @@ some_words zero is = absurd (true≢false is)
 some_words (suc n) is = omega arith
 
 -- a text with a word starts at its first word, or where it says
-entry_well : (words : ℕ) (entry : Option ℕ) → (words == 0) ≡ false → IfSome entry (λ at. is_text_word words at ≡ true) → is_text_word words (entry_or_first entry) ≡ true
+entry_well : (words : ℕ) (entry : Option ℕ) → (words == 0) ≡ false → IfSome entry (λ at. is_text_word words at ≡ true)
+    → is_text_word words (entry_or_first entry) ≡ true
 entry_well words (Some at) some h = h
 entry_well words None some h = lt-ltb text_start (text_start + 4 * words) (omega (arith, some_words words some))
 
@@ -392,7 +418,8 @@ output_well : (bytes : ℕ) (output : Option Picture) → IfSome output (λ pict
 output_well bytes None h = refl
 output_well bytes (Some picture) h = h
 
-keeps_object : (survey : Survey) (a : Assembled) (object : ImageContents) → Keeps survey a → survey.here.place ≡ a.here.place → (length a.items == 0) ≡ false → IsObject object a
+keeps_object : (survey : Survey) (a : Assembled) (object : ImageContents) → Keeps survey a → survey.here.place ≡ a.here.place → (length a.items == 0) ≡ false
+    → IsObject object a
     → judged object ≡ Ok object
 keeps_object survey a object k same some is =
     let words : length object.words ≡ a.here.place.words = one_each object.words a.items is.words ∙ k.items in
@@ -420,7 +447,8 @@ keeps_rules text a object is object_is = by (taken_from (taken survey) 1 before_
     survey : Survey
     survey = surveyed unsurveyed (lines_of text)
 
-    last_is : (last : Assembled) → taken_from (taken survey) 1 before_first (lines_of text) ≡ Ok last → (b : Bool) → (length last.items == 0) ≡ b → cond {A = Result Assembled (ℕ × AsmFault)} b (Err (1, Syntax)) (Ok last) ≡ Ok a
+    last_is : (last : Assembled) → taken_from (taken survey) 1 before_first (lines_of text) ≡ Ok last → (b : Bool) → (length last.items == 0) ≡ b
+        → cond {A = Result Assembled (ℕ × AsmFault)} b (Err (1, Syntax)) (Ok last) ≡ Ok a
         → judged object ≡ Ok object
     last_is last e true none ok = absurd cc
     last_is last e false some ok =
@@ -428,6 +456,7 @@ keeps_rules text a object is object_is = by (taken_from (taken survey) 1 before_
         keeps_object survey last object (keeps_lines survey 1 before_first last (lines_of text) (keeps_first survey) e)
         (same_place survey unsurveyed 1 before_first last (lines_of text) refl e) some (subst (IsObject object) (sym same) object_is)
 
-    by : (all : Result Assembled (ℕ × AsmFault)) → taken_from (taken survey) 1 before_first (lines_of text) ≡ all → (all >>= worded) ≡ Ok a → judged object ≡ Ok object
+    by : (all : Result Assembled (ℕ × AsmFault)) → taken_from (taken survey) 1 before_first (lines_of text) ≡ all → (all >>= worded) ≡ Ok a
+        → judged object ≡ Ok object
     by (Err fault) e ok = absurd cc
     by (Ok last) e ok = last_is last e (length last.items == 0) refl ok

@@ -8,7 +8,8 @@ use Rattle.assembler.specs.declared.faults.AsmFault.{AsmFault}
 use Rattle.assembler.specs.declared.products.Product.{Product}
 
 -- both judgements hold
-pub both_hold : (given : Result Given AsmFault) (product : Result Product AsmFault) (others : Result (Unit {0} × Unit {0}) AsmFault) (found : Product × (Unit {0} × Unit {0}))
+pub both_hold : (given : Result Given AsmFault) (product : Result Product AsmFault) (others : Result (Unit {0} × Unit {0}) AsmFault) (found : Product
+    × (Unit {0} × Unit {0}))
     → both product others ≡ Ok found → Performs given product → Performs (with_others given others) (Ok found.0)
 both_hold (Ok g) (Ok p) (Ok o) found is performs = let same : (p, o) ≡ found = cc in rw (sym (ap (λ (x : Product × (Unit {0} × Unit {0})). x.0) same)) performs
 both_hold (Ok g) (Ok p) (Err f) found is performs = absurd cc

@@ -28,7 +28,8 @@ taken_ok : (survey : Survey) (a : Assembled) (line : List ℕ) (given : Given) �
 unfolding taken
 taken_ok survey a line given is = rw is refl
 
-taken_err : (survey : Survey) (a : Assembled) (line : List ℕ) (fault : AsmFault) → line_given (context survey a) line ≡ Err fault → taken survey a line ≡ Err fault
+taken_err : (survey : Survey) (a : Assembled) (line : List ℕ) (fault : AsmFault) → line_given (context survey a) line ≡ Err fault
+    → taken survey a line ≡ Err fault
 unfolding taken
 taken_err survey a line fault is = rw is refl
 
@@ -72,8 +73,10 @@ numbered : (survey : Survey) (a next : Assembled) (line : List ℕ) → taken su
 unfolding taken
 numbered survey a next line is = by (line_given (context survey a) line) is
   where
-    by : (judged : Result Given AsmFault) → (judged >>= λ given. Ok (with_given a (after a.here.place (head_of (tokens_of line))) given)) ≡ Ok next → next.here.line ≡ a.here.line + 1
-    by (Ok given) e = let same : with_given a (after a.here.place (head_of (tokens_of line))) given ≡ next = cc in sym (ap (λ (x : Assembled). x.here.line) same)
+    by : (judged : Result Given AsmFault) → (judged >>= λ given. Ok (with_given a (after a.here.place (head_of (tokens_of line))) given)) ≡ Ok next
+        → next.here.line ≡ a.here.line + 1
+    by (Ok given) e = let same : with_given a (after a.here.place (head_of (tokens_of line))) given ≡ next = cc in
+        sym (ap (λ (x : Assembled). x.here.line) same)
     by (Err fault) e = absurd cc
 
 one_taken : (survey : Survey) (a next : Assembled) (line : List ℕ) (lines : List (List ℕ)) (number : ℕ) → taken survey a line ≡ Ok next
@@ -86,7 +89,8 @@ one_fails : (survey : Survey) (a : Assembled) (line : List ℕ) (lines : List (L
 unfolding taken_from
 one_fails survey a line lines number fault is = rw is refl
 
-pub line_number : (survey : Survey) (old new : Building) (a : Assembled) (line : List ℕ) → IsBuilt old a → Took survey a line new → new.here.line ≡ old.here.line + 1
+pub line_number : (survey : Survey) (old new : Building) (a : Assembled) (line : List ℕ) → IsBuilt old a → Took survey a line new
+    → new.here.line ≡ old.here.line + 1
 line_number survey old new a line b took =
     ap (λ h. h.line) took.built.here ∙ numbered survey a took.next line took.taken_is ∙ sym (ap (λ h. h.line + 1) b.here)
 
@@ -103,10 +107,12 @@ one_less survey old new line rest others text left split took = record {
 
 -- ---- what a text gives
 
-pub survey_is : (survey : Survey) (bytes text : List ℕ) → survey ≡ surveyed unsurveyed (lines_of bytes) → bytes ≡ text → survey ≡ surveyed unsurveyed (lines_of text)
+pub survey_is : (survey : Survey) (bytes text : List ℕ) → survey ≡ surveyed unsurveyed (lines_of bytes) → bytes ≡ text
+    → survey ≡ surveyed unsurveyed (lines_of text)
 survey_is survey bytes text is same = is ∙ ap (λ (t : List ℕ). surveyed unsurveyed (lines_of t)) same
 
-ends_in : (text : List ℕ) (whole : Result Assembled (ℕ × AsmFault)) → whole ≡ taken_from (taken (surveyed unsurveyed (lines_of text))) 1 before_first (lines_of text)
+ends_in : (text : List ℕ) (whole : Result Assembled (ℕ × AsmFault)) → whole ≡ taken_from (taken (surveyed unsurveyed (lines_of text))) 1 before_first
+    (lines_of text)
     → assembled text ≡ (whole >>= worded)
 unfolding assembled
 ends_in text whole is = ap (λ (r : Result Assembled (ℕ × AsmFault)). r >>= worded) (sym is)
@@ -115,14 +121,16 @@ nothing_left : (survey : Survey) (a : Assembled) (number : ℕ) → taken_from (
 unfolding taken_from
 nothing_left survey a number = refl
 
-pub all_taken : (survey : Survey) (building : Building) (rest text : List ℕ) (left : LinesLeft survey building rest text) → survey ≡ surveyed unsurveyed (lines_of text)
+pub all_taken : (survey : Survey) (building : Building) (rest text : List ℕ) (left : LinesLeft survey building rest text)
+    → survey ≡ surveyed unsurveyed (lines_of text)
     → lines_of rest ≡ [] → assembled text ≡ worded left.so_far
 all_taken survey building rest text left is none =
     ends_in text (Ok left.so_far)
     (sym (ap (taken_from (taken survey) building.here.line left.so_far) none ∙ nothing_left survey left.so_far building.here.line) ∙ left.same
     ∙ ap (λ (s : Survey). taken_from (taken s) 1 before_first (lines_of text)) is)
 
-pub line_fails : (survey : Survey) (building : Building) (line rest others text : List ℕ) (left : LinesLeft survey building rest text) (error : ReadError AsmFault)
+pub line_fails : (survey : Survey) (building : Building) (line rest others text : List ℕ) (left : LinesLeft survey building rest text)
+    (error : ReadError AsmFault)
     → survey ≡ surveyed unsurveyed (lines_of text) → lines_of rest ≡ line ∷ lines_of others → Fails error (taken survey left.so_far line)
     → FailsAt (at_line building.here.line error) (assembled text)
 line_fails survey building line rest others text left errors.Memory is split fails = tt
@@ -133,7 +141,10 @@ line_fails survey building line rest others text left (errors.Fault fault) is sp
     ∙ ap (λ (s : Survey). taken_from (taken s) 1 before_first (lines_of text)) is)
 
 -- an error that is passed on
-pub passed_on : (survey : Survey) (a : Assembled) (line : List ℕ) (old : Building) (result : Result (Unit {0}) (ReadError AsmFault)) (error : ReadError AsmFault) → IsBuilt old a
-    → IsErr result × IsErrAnd result (λ e. e ≡ error) → Fails error (line_given (record { survey = survey; here = old.here }) line) → TakesLine survey a line result old
+pub passed_on : (survey : Survey) (a : Assembled) (line : List ℕ) (old : Building) (result : Result (Unit {0}) (ReadError AsmFault))
+    (error : ReadError AsmFault) → IsBuilt old a
+    → IsErr result × IsErrAnd result (λ e. e ≡ error) → Fails error (line_given (record { survey = survey; here = old.here }) line)
+    → TakesLine survey a line result old
 passed_on survey a line old (Ok done) error b is fails = absurd (true≢false (sym is.0))
-passed_on survey a line old (Err e) error b is fails = fails_line survey a line old e b (subst (λ (x : ReadError AsmFault). Fails x (line_given (record { survey = survey; here = old.here }) line)) (sym is.1) fails)
+passed_on survey a line old (Err e) error b is fails = fails_line survey a line old e b
+    (subst (λ (x : ReadError AsmFault). Fails x (line_given (record { survey = survey; here = old.here }) line)) (sym is.1) fails)

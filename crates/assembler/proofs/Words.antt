@@ -13,7 +13,8 @@ use Rattle.assembler.specs.Products.{Performs}
 use Rattle.assembler.specs.declared.products.Product.TheVariants as p
 
 -- the word of an instruction is that of its form and its fields
-pub word_of : (word : ℕ) (insn : Insn) (form : Form) (fields : List ℤ) → Means word insn → form_of insn ≡ form → fields_of insn ≡ fields → IsWord word form fields
+pub word_of : (word : ℕ) (insn : Insn) (form : Form) (fields : List ℤ) → Means word insn → form_of insn ≡ form → fields_of insn ≡ fields
+    → IsWord word form fields
 word_of word insn form fields means form_is fields_are = rw (sym form_is, sym fields_are) ((means_is_word word insn).0 means)
 
 -- what a form with operands gives, where they fill its fields

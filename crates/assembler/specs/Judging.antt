@@ -1,7 +1,8 @@
 -- What an operand gives in its slot, and what a line gives: words and bytes, or its least fault.
 -- This project's own; that `li` and `la` are LUI and ADDI is of RISC-V Unprivileged ISA 20191213, chapter 25.
 use Rattle.line_text.specs.Lines.{◌>>=◌}
-use Rattle.std.specs.Prelude.{ℕ, ◌+◌, ◌*◌, ◌/◌, ◌%◌, ◌^◌, ◌==◌, ◌&&◌, Bool, not, nat_lt, nat_le, if◌then◌else◌, true, ℤ, pos, negsuc, ◌-ℤ◌, List, [], ◌∷◌, ◌++◌, replicate, codes, Option, Some, None, option_map, Result, Ok, Err}
+use Rattle.std.specs.Prelude.{ℕ, ◌+◌, ◌*◌, ◌/◌, ◌%◌, ◌^◌, ◌==◌, ◌&&◌, Bool, not, nat_lt, nat_le, if◌then◌else◌, true, ℤ, pos, negsuc, ◌-ℤ◌, List, [], ◌∷◌, ◌++◌}
+use Rattle.std.specs.Prelude.{replicate, codes, Option, Some, None, option_map, Result, Ok, Err}
 use Rattle.std.specs.Prelude.{unsigned_abs}
 use Rattle.std.specs.Int.{w32, to_le_bytes, cast_unsigned, int_rem_euclid, int_shr}
 use Rattle.std.specs.Int.Signed.{le_z}
@@ -34,7 +35,8 @@ use Rattle.assembler.specs.declared.faults.AsmFault.TheVariants.{Syntax, Mnemoni
 use Rattle.assembler.specs.declared.places.Section.{Section}
 use Rattle.assembler.specs.declared.places.Section.TheVariants.{Text, Data}
 use Rattle.assembler.specs.declared.operations.Operation.{Operation}
-use Rattle.assembler.specs.declared.operations.Operation.TheVariants.{Instruction, LoadImmediate, LoadAddress, TextSection, DataSection, Word, Space, Entry, Output}
+use Rattle.assembler.specs.declared.operations.Operation.TheVariants.{Instruction, LoadImmediate, LoadAddress, TextSection, DataSection, Word, Space, Entry}
+use Rattle.assembler.specs.declared.operations.Operation.TheVariants.{Output}
 
 -- what is known while a line is judged: what all lines come to, and the line's own number and place
 pub record Context : Type 0 where

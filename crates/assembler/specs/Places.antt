@@ -15,7 +15,8 @@ use Rattle.assembler.specs.declared.labels.Label.{Label}
 use Rattle.assembler.specs.Names.{Named, label_named}
 use Rattle.assembler.specs.declared.surveys.Survey.{Survey}
 use Rattle.assembler.specs.declared.operations.Operation.{Operation}
-use Rattle.assembler.specs.declared.operations.Operation.TheVariants.{Instruction, LoadImmediate, LoadAddress, TextSection, DataSection, Word, Space, Entry, Output}
+use Rattle.assembler.specs.declared.operations.Operation.TheVariants.{Instruction, LoadImmediate, LoadAddress, TextSection, DataSection, Word, Space, Entry}
+use Rattle.assembler.specs.declared.operations.Operation.TheVariants.{Output}
 
 -- ---- what a mnemonic names: an instruction, one of two that stand for two instructions, or a directive
 

@@ -4,7 +4,8 @@ use Rattle.rv_insn.specs.Encoding.{bit_of}
 use Rattle.rv_insn.specs.Table.{name_of, fields_of, Means}
 use Rattle.rv_insn.specs.VectorTable.{vector_fields_of}
 use Rattle.rv_insn.specs.declared.instructions.Insn.{Insn}
-use Rattle.rv_insn.specs.declared.instructions.Insn.TheVariants.{Lui, Auipc, Jal, Jalr, Branch, Load, Store, AluImm, Shift, Alu, AmoaddW, Fence, Ecall, Ebreak, Vector}
+use Rattle.rv_insn.specs.declared.instructions.Insn.TheVariants.{Lui, Auipc, Jal, Jalr, Branch, Load, Store, AluImm, Shift, Alu, AmoaddW, Fence, Ecall, Ebreak}
+use Rattle.rv_insn.specs.declared.instructions.Insn.TheVariants.{Vector}
 use Rattle.rv_insn.specs.declared.vector_instructions.VectorInsn.{VectorInsn}
 use Rattle.rv_insn.specs.declared.vector_instructions.VectorInsn.TheVariants as i
 use Rattle.rv_insn.specs.declared.vector_instructions.Addressing.{Addressing}
@@ -77,8 +78,10 @@ vector_made v.ExtendBytes fields = i.ExtendBytes (number_in fields 0) (number_in
 vector_made v.Vsetvli fields = i.Vsetvli (number_in fields 0) (number_in fields 1) (number_in fields 2)
 vector_made v.Vsetivli fields = i.Vsetivli (number_in fields 0) (number_in fields 1) (number_in fields 2)
 vector_made v.Vsetvl fields = i.Vsetvl (number_in fields 0) (number_in fields 1) (number_in fields 2)
-vector_made (v.LoadElements mode width) fields = i.LoadElements width (number_in fields 0) (number_in fields 1) (addressing_made mode fields) (flag_in fields (mask_place mode))
-vector_made (v.StoreElements mode width) fields = i.StoreElements width (number_in fields 0) (number_in fields 1) (addressing_made mode fields) (flag_in fields (mask_place mode))
+vector_made (v.LoadElements mode width) fields = i.LoadElements width (number_in fields 0) (number_in fields 1) (addressing_made mode fields)
+    (flag_in fields (mask_place mode))
+vector_made (v.StoreElements mode width) fields = i.StoreElements width (number_in fields 0) (number_in fields 1) (addressing_made mode fields)
+    (flag_in fields (mask_place mode))
 
 made : Form → List ℤ → Insn
 made f.Lui fields = Lui (number_in fields 0) (number_in fields 1)

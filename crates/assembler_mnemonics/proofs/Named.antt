@@ -45,4 +45,5 @@ same_number n = grind arith
 
 pub among_candidates : (name : List ℕ) → form_among (forms_in (group_of name)) name ≡ form_named name
 unfolding form_among forms_in is_in
-among_candidates name = find_filtered _ _ forms (λ form same. subst (λ n. (group_number (group_of n) == group_number (group_of name)) ≡ true) (sym ((bytes_eq-Decides (mnemonic form) name).0 same)) (same_number (group_number (group_of name))))
+among_candidates name = find_filtered _ _ forms (λ form same. subst (λ n. (group_number (group_of n) == group_number (group_of name)) ≡ true)
+    (sym ((bytes_eq-Decides (mnemonic form) name).0 same)) (same_number (group_number (group_of name))))

@@ -1,5 +1,6 @@
 -- Fields that the operands of a form filled fit its slots.
-use Rattle.std.proofs.Common.{◌≡◌, ℕ, zero, suc, ◌<◌, ◌==◌, ℤ, pos, negsuc, ◌≤ℤ◌, List, [], ◌∷◌, ◌++◌, length, slice_set, refl, sym, ◌∙◌, ap, subst, arith, Bool, true, false, not, ◌&&◌, inl, inr, nat_lt}
+use Rattle.std.proofs.Common.{◌≡◌, ℕ, zero, suc, ◌<◌, ◌==◌, ℤ, pos, negsuc, ◌≤ℤ◌, List, [], ◌∷◌, ◌++◌, length, slice_set, refl, sym, ◌∙◌, ap, subst, arith}
+use Rattle.std.proofs.Common.{Bool, true, false, not, ◌&&◌, inl, inr, nat_lt}
 use Rattle.std.specs.List.{list_all}
 use Rattle.std.proofs.lemmas.Int.{ints}
 use Rattle.std.proofs.lemmas.Bool.{eqb-true, ltb-true}
@@ -63,11 +64,13 @@ free (slot ∷ slots) other = apart_from (own_fields slot) other && free slots o
 told : (field other : ℕ) → not (field == other) ≡ true → (field ≡ other) → ⊥
 told field other e same = grind (arith, nat_tests)
 
-one_kept : (fields : List ℤ) (field other : ℕ) (least greatest : ℤ) (pairs : List (ℕ × ℤ)) → GivesOne field least greatest pairs → not (field == other) ≡ true → field_at (placed fields pairs) other ≡ field_at fields other
+one_kept : (fields : List ℤ) (field other : ℕ) (least greatest : ℤ) (pairs : List (ℕ × ℤ)) → GivesOne field least greatest pairs → not (field == other) ≡ true
+    → field_at (placed fields pairs) other ≡ field_at fields other
 one_kept fields field other least greatest pairs h e =
     subst (λ ps. field_at (placed fields ps) other ≡ field_at fields other) (sym h.1) (field_kept fields field other h.0 (told field other e))
 
-slot_kept : (slot : Slot) (fields : List ℤ) (other : ℕ) (pairs : List (ℕ × ℤ)) → Gives slot pairs → apart_from (own_fields slot) other ≡ true → field_at (placed fields pairs) other ≡ field_at fields other
+slot_kept : (slot : Slot) (fields : List ℤ) (other : ℕ) (pairs : List (ℕ × ℤ)) → Gives slot pairs → apart_from (own_fields slot) other ≡ true
+    → field_at (placed fields pairs) other ≡ field_at fields other
 unfolding apart_from own_fields
 slot_kept (Integer field) fields other pairs h e = one_kept fields field other _ _ pairs h (both_true _ _ e).0
 slot_kept (Vector field) fields other pairs h e = one_kept fields field other _ _ pairs h (both_true _ _ e).0
@@ -86,7 +89,8 @@ slot_kept (Configuration field greatest) fields other pairs h e = one_kept field
 slot_kept (Mask field) fields other pairs (inl h) e = subst (λ ps. field_at (placed fields ps) other ≡ field_at fields other) (sym h) refl
 slot_kept (Mask field) fields other pairs (inr h) e = one_kept fields field other _ _ pairs h (both_true _ _ e).0
 
-free_kept : (slots : List Slot) (fields : List ℤ) (other : ℕ) (pairs : List (ℕ × ℤ)) → AllGive slots pairs → free slots other ≡ true → field_at (placed fields pairs) other ≡ field_at fields other
+free_kept : (slots : List Slot) (fields : List ℤ) (other : ℕ) (pairs : List (ℕ × ℤ)) → AllGive slots pairs → free slots other ≡ true
+    → field_at (placed fields pairs) other ≡ field_at fields other
 unfolding free
 free_kept [] fields other pairs h e = subst (λ ps. field_at (placed fields ps) other ≡ field_at fields other) (sym h) refl
 free_kept (slot ∷ slots) fields other pairs h e =
@@ -125,16 +129,19 @@ unfolding is_one
 one_within (pos n) e = let same : n ≡ 1 = eqb-true n 1 e in (omega (arith, ints), omega (arith, ints))
 one_within (negsuc n) e = absurd cc
 
-one_fits : (fields : List ℤ) (field : ℕ) (least greatest : ℤ) (pairs : List (ℕ × ℤ)) → GivesOne field least greatest pairs → nat_lt field (length fields) ≡ true → IsWithin (placed fields pairs) field least greatest
+one_fits : (fields : List ℤ) (field : ℕ) (least greatest : ℤ) (pairs : List (ℕ × ℤ)) → GivesOne field least greatest pairs → nat_lt field (length fields) ≡ true
+    → IsWithin (placed fields pairs) field least greatest
 one_fits fields field least greatest pairs h e =
     subst (λ ps. IsWithin (placed fields ps) field least greatest) (sym h.1)
     (let same = sym (field_set fields field h.0 (ltb-true field (length fields) e)) in
     (subst (λ n. least ≤ℤ n) same h.2, subst (λ n. n ≤ℤ greatest) same h.3))
 
-within_same : (fields later : List ℤ) (field : ℕ) (least greatest : ℤ) → field_at later field ≡ field_at fields field → IsWithin fields field least greatest → IsWithin later field least greatest
+within_same : (fields later : List ℤ) (field : ℕ) (least greatest : ℤ) → field_at later field ≡ field_at fields field → IsWithin fields field least greatest
+    → IsWithin later field least greatest
 within_same fields later field least greatest e h = (subst (λ n. least ≤ℤ n) (sym e) h.0, subst (λ n. n ≤ℤ greatest) (sym e) h.1)
 
-slot_fits : (slot : Slot) (fields : List ℤ) (pairs : List (ℕ × ℤ)) → Gives slot pairs → in_place (length fields) slot ≡ true → ready fields slot ≡ true → FitsSlot (placed fields pairs) slot
+slot_fits : (slot : Slot) (fields : List ℤ) (pairs : List (ℕ × ℤ)) → Gives slot pairs → in_place (length fields) slot ≡ true → ready fields slot ≡ true
+    → FitsSlot (placed fields pairs) slot
 unfolding in_place ready
 slot_fits (Integer field) fields pairs h e m = one_fits fields field _ _ pairs h e
 slot_fits (Vector field) fields pairs h e m = one_fits fields field _ _ pairs h e
@@ -148,7 +155,8 @@ slot_fits (Based offset base) fields pairs h e m =
     let same = placed_append fields h.0 h.1 in
     subst (λ ps. FitsSlot (placed fields ps) (Based offset base)) (sym h.4)
     (subst (λ fs. FitsSlot fs (Based offset base)) (sym same) (
-      within_same (placed fields h.0) (placed (placed fields h.0) h.1) offset _ _ (one_kept (placed fields h.0) base offset _ _ h.1 h.3 more.1) (one_fits fields offset _ _ h.0 h.2 parts.0),
+      within_same (placed fields h.0) (placed (placed fields h.0) h.1) offset _ _ (one_kept (placed fields h.0) base offset _ _ h.1 h.3 more.1)
+          (one_fits fields offset _ _ h.0 h.2 parts.0),
       one_fits (placed fields h.0) base _ _ h.1 h.3 there,
     ))
 slot_fits (Address base) fields pairs h e m = one_fits fields base _ _ pairs h e
@@ -176,7 +184,8 @@ fits_same (Target field reach) fields later h e = within_same fields later field
 fits_same (Configuration field greatest) fields later h e = within_same fields later field _ _ e.0 h
 fits_same (Mask field) fields later h e = within_same fields later field _ _ e.0 h
 
-all_same : (own : List ℕ) (slots : List Slot) (fields : List ℤ) (pairs : List (ℕ × ℤ)) → AllGive slots pairs → list_all (free slots) own ≡ true → SameAt own fields (placed fields pairs)
+all_same : (own : List ℕ) (slots : List Slot) (fields : List ℤ) (pairs : List (ℕ × ℤ)) → AllGive slots pairs → list_all (free slots) own ≡ true
+    → SameAt own fields (placed fields pairs)
 unfolding SameAt
 all_same [] slots fields pairs h e = tt
 all_same (field ∷ own) slots fields pairs h e =
@@ -193,7 +202,8 @@ distinct : List Slot → Bool
 distinct [] = true
 distinct (slot ∷ slots) = list_all (free slots) (own_fields slot) && (list_all (mask_apart (own_fields slot)) slots && distinct slots)
 
-ready_kept : (slot next : Slot) (fields : List ℤ) (own : List (ℕ × ℤ)) → Gives slot own → mask_apart (own_fields slot) next ≡ true → ready fields next ≡ true → ready (placed fields own) next ≡ true
+ready_kept : (slot next : Slot) (fields : List ℤ) (own : List (ℕ × ℤ)) → Gives slot own → mask_apart (own_fields slot) next ≡ true → ready fields next ≡ true
+    → ready (placed fields own) next ≡ true
 unfolding ready mask_apart
 ready_kept slot (Integer field) fields own h e m = refl
 ready_kept slot (Vector field) fields own h e m = refl
@@ -206,7 +216,8 @@ ready_kept slot (Target field reach) fields own h e m = refl
 ready_kept slot (Configuration field greatest) fields own h e m = refl
 ready_kept slot (Mask field) fields own h e m = subst (λ n. is_one n ≡ true) (sym (slot_kept slot fields field own h e)) m
 
-all_ready_kept : (slot : Slot) (slots : List Slot) (fields : List ℤ) (own : List (ℕ × ℤ)) → Gives slot own → list_all (mask_apart (own_fields slot)) slots ≡ true → list_all (ready fields) slots ≡ true → list_all (ready (placed fields own)) slots ≡ true
+all_ready_kept : (slot : Slot) (slots : List Slot) (fields : List ℤ) (own : List (ℕ × ℤ)) → Gives slot own → list_all (mask_apart (own_fields slot)) slots
+    ≡ true → list_all (ready fields) slots ≡ true → list_all (ready (placed fields own)) slots ≡ true
 all_ready_kept slot [] fields own h e m = refl
 all_ready_kept slot (next ∷ slots) fields own h e m =
     let apart = both_true _ _ e in
@@ -214,7 +225,8 @@ all_ready_kept slot (next ∷ slots) fields own h e m =
     let first : ready (placed fields own) next ≡ true = ready_kept slot next fields own h apart.0 before.0 in
     rw first (all_ready_kept slot slots fields own h apart.1 before.1)
 
-all_fit : (slots : List Slot) (fields : List ℤ) (pairs : List (ℕ × ℤ)) → AllGive slots pairs → list_all (in_place (length fields)) slots ≡ true → list_all (ready fields) slots ≡ true → distinct slots ≡ true → FitsSlots (placed fields pairs) slots
+all_fit : (slots : List Slot) (fields : List ℤ) (pairs : List (ℕ × ℤ)) → AllGive slots pairs → list_all (in_place (length fields)) slots ≡ true
+    → list_all (ready fields) slots ≡ true → distinct slots ≡ true → FitsSlots (placed fields pairs) slots
 unfolding distinct
 all_fit [] fields pairs h e m d = tt
 all_fit (slot ∷ slots) fields pairs h e m d =

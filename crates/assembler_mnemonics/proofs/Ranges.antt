@@ -1,5 +1,6 @@
 -- The fields of an instruction that a word means fit the slots of its form.
-use Rattle.std.proofs.Common.{◌≡◌, ℕ, zero, suc, ◌-◌, ◌*◌, ◌^◌, ◌<◌, ◌≤◌, ℤ, pos, negsuc, ◌≤ℤ◌, ◌-ℤ◌, List, [], ◌∷◌, length, map, slice_index_or, refl, sym, ◌∙◌, ap, subst, arith, lit<, pow-suc, Option, Some, None, Bool, true, false, cond, not, ◌&&◌, ◌||◌, nat_lt, nat_le}
+use Rattle.std.proofs.Common.{◌≡◌, ℕ, zero, suc, ◌-◌, ◌*◌, ◌^◌, ◌<◌, ◌≤◌, ℤ, pos, negsuc, ◌≤ℤ◌, ◌-ℤ◌, List, [], ◌∷◌, length, map, slice_index_or, refl, sym}
+use Rattle.std.proofs.Common.{◌∙◌, ap, subst, arith, lit<, pow-suc, Option, Some, None, Bool, true, false, cond, not, ◌&&◌, ◌||◌, nat_lt, nat_le}
 use Rattle.std.specs.Prelude.{slice_get}
 use Rattle.std.specs.Option.{option_map}
 use Rattle.std.specs.Int.{bit_at}
@@ -15,7 +16,8 @@ use Rattle.rv_insn.specs.Encoding.Field.{Unsigned, Signed}
 use Rattle.rv_insn.specs.Table.{table, scalar_table, r_type, i_type, s_type, b_type, u_type, j_type, amo_type, whole_word, fields_of, Means}
 use Rattle.rv_insn.specs.VectorTable.{vector_table}
 use Rattle.rv_insn.specs.declared.instructions.Insn.{Insn}
-use Rattle.rv_insn.specs.declared.instructions.Insn.TheVariants.{Lui, Auipc, Jal, Jalr, Branch, Load, Store, AluImm, Shift, Alu, AmoaddW, Fence, Ecall, Ebreak, Vector}
+use Rattle.rv_insn.specs.declared.instructions.Insn.TheVariants.{Lui, Auipc, Jal, Jalr, Branch, Load, Store, AluImm, Shift, Alu, AmoaddW, Fence, Ecall, Ebreak}
+use Rattle.rv_insn.specs.declared.instructions.Insn.TheVariants.{Vector}
 use Rattle.assembler_mnemonics.specs.declared.slots.Slot.{Slot}
 use Rattle.assembler_mnemonics.specs.declared.slots.Slot.TheVariants as s
 use Rattle.assembler_mnemonics.specs.declared.forms.Form.{Form}
@@ -65,7 +67,8 @@ in_range : (word : ℕ) (field : Field) → (least_of field ≤ℤ field_of word
 unfolding least_of greatest_of
 in_range word (Unsigned places) = let small = number_below word places in (omega (arith, ints), omega (arith, ints))
 in_range word (Signed places) =
-    signed_by (2 ^ (length places - 1)) (2 ^ length places) (number_at word places) (nat_lt (number_at word places) (2 ^ (length places - 1))) refl (two_halves (length places)) (half_positive (length places - 1)) (number_below word places)
+    signed_by (2 ^ (length places - 1)) (2 ^ length places) (number_at word places) (nat_lt (number_at word places) (2 ^ (length places - 1))) refl
+    (two_halves (length places)) (half_positive (length places - 1)) (number_below word places)
 
 -- ---- slots against the fields of a row
 
@@ -86,7 +89,8 @@ covers : Option Field → ℤ → ℤ → Bool
 covers None least greatest = false
 covers (Some field) least greatest = at_most least (least_of field) && at_most (greatest_of field) greatest
 
-covered : (word : ℕ) (fields : List Field) (k : ℕ) (least greatest : ℤ) (field : Option Field) → slice_get fields k ≡ field → covers field least greatest ≡ true → IsWithin (map (field_of word) fields) k least greatest
+covered : (word : ℕ) (fields : List Field) (k : ℕ) (least greatest : ℤ) (field : Option Field) → slice_get fields k ≡ field → covers field least greatest ≡ true
+    → IsWithin (map (field_of word) fields) k least greatest
 unfolding covers
 covered word fields k least greatest None is e = absurd cc
 covered word fields k least greatest (Some field) is e =
@@ -94,8 +98,10 @@ covered word fields k least greatest (Some field) is e =
     let low = at_most-true least (least_of field) both.0 in
     let high = at_most-true (greatest_of field) greatest both.1 in
     let range = in_range word field in
-    let there : slice_get (map (field_of word) fields) k ≡ Some (field_of word field) = slice_get-map (field_of word) fields k ∙ ap (option_map (field_of word)) is in
-    let same : field_at (map (field_of word) fields) k ≡ field_of word field = get_or_from_slice_get (map (field_of word) fields) k (field_of word field) (pos 0) there in
+    let there : slice_get (map (field_of word) fields) k ≡ Some (field_of word field) = slice_get-map (field_of word) fields k
+    ∙ ap (option_map (field_of word)) is in
+    let same : field_at (map (field_of word) fields) k ≡ field_of word field = get_or_from_slice_get (map (field_of word) fields) k (field_of word field)
+    (pos 0) there in
     (subst (λ n. least ≤ℤ n) (sym same) (omega (arith, ints)), subst (λ n. n ≤ℤ greatest) (sym same) (omega (arith, ints)))
 
 fits_row : List Field → Slot → Bool
@@ -139,10 +145,12 @@ fits_table : Form → Bool
 fits_table form = list_all (fits form) table
 
 form_fits : (form : Form) → fits_table form ≡ true
-unfolding fits_table fits fits_row covers at_most least_of greatest_of shape vector_shape table scalar_table vector_table r_type i_type s_type b_type u_type j_type amo_type whole_word span
+unfolding fits_table fits fits_row covers at_most least_of greatest_of shape vector_shape table scalar_table vector_table r_type i_type s_type b_type u_type
+    j_type amo_type whole_word span
 form_fits form = grind arith steps 60000000
 
-contained_passes : {X : Type 0} (test : X → Bool) (xs : List X) (x : X) (k : ℕ) → list_all test xs ≡ true → k < length xs → slice_index_or xs k x ≡ x → test x ≡ true
+contained_passes : {X : Type 0} (test : X → Bool) (xs : List X) (x : X) (k : ℕ) → list_all test xs ≡ true → k < length xs → slice_index_or xs k x ≡ x
+    → test x ≡ true
 contained_passes test [] x k h within e = absurd (omega arith)
 contained_passes test (y ∷ ys) x zero h within e = subst (λ z. test z ≡ true) e (both_true _ _ h).0
 contained_passes test (y ∷ ys) x (suc k) h within e = contained_passes test ys x k (both_true _ _ h).1 (omega arith) e
@@ -151,7 +159,8 @@ passes_other : (a b : Bool) → (not a || b) ≡ true → a ≡ true → b ≡ t
 passes_other true b h e = h
 passes_other false b h e = absurd cc
 
-row_fits : (form : Form) (row : Row) (k : ℕ) → k < length table → slice_index_or table k row ≡ row → row_name form ≡ row.name → list_all (fits_row row.fields) (shape form) ≡ true
+row_fits : (form : Form) (row : Row) (k : ℕ) → k < length table → slice_index_or table k row ≡ row → row_name form ≡ row.name
+    → list_all (fits_row row.fields) (shape form) ≡ true
 unfolding fits_table fits
 row_fits form row k within here named =
     let all = form_fits form in

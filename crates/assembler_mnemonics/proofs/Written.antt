@@ -4,7 +4,8 @@ use Rattle.std.proofs.lemmas.Fmt.{decimal_digit, decimal_step}
 use Rattle.std.proofs.lemmas.Bool.{ltb-true}
 use Rattle.std.proofs.lemmas.Bool.Decides.{nat_tests}
 use Rattle.assembler_mnemonics.specs.Registers.{register_text, register_number}
-use Rattle.assembler_mnemonics.specs.Configuration.{width_names, group_names, tail_names, mask_names, vtype_of, group_code, width_code, tail_code, mask_code, has_names, place_in, vtype_named, name_at}
+use Rattle.assembler_mnemonics.specs.Configuration.{width_names, group_names, tail_names, mask_names, vtype_of, group_code, width_code, tail_code, mask_code}
+use Rattle.assembler_mnemonics.specs.Configuration.{has_names, place_in, vtype_named, name_at}
 use Rattle.assembler_mnemonics.proofs.Named.{both_true}
 
 -- ---- registers
@@ -13,7 +14,8 @@ one_digit : (letter digit : ℕ) → digit < 10 → register_number letter (lett
 unfolding register_number
 one_digit letter digit small = grind (arith, nat_tests)
 
-two_digits : (letter tens ones : ℕ) → 0 < tens → tens < 10 → ones < 10 → tens * 10 + ones < 32 → register_number letter (letter ∷ (48 + tens) ∷ (48 + ones) ∷ []) ≡ Some (tens * 10 + ones)
+two_digits : (letter tens ones : ℕ) → 0 < tens → tens < 10 → ones < 10 → tens * 10 + ones < 32
+    → register_number letter (letter ∷ (48 + tens) ∷ (48 + ones) ∷ []) ≡ Some (tens * 10 + ones)
 unfolding register_number
 two_digits letter tens ones some small small' within = grind (arith, nat_tests)
 
@@ -64,7 +66,8 @@ mask_back (suc zero) small = refl
 mask_back (suc (suc code)) small = absurd (omega arith)
 
 pub vtype_read_back : (vtype : ℕ) → has_names vtype ≡ true
-    → vtype_named (name_at width_names (width_code vtype)) (name_at group_names (group_code vtype)) (name_at tail_names (tail_code vtype)) (name_at mask_names (mask_code vtype)) ≡ Some vtype
+    → vtype_named (name_at width_names (width_code vtype)) (name_at group_names (group_code vtype)) (name_at tail_names (tail_code vtype))
+    (name_at mask_names (mask_code vtype)) ≡ Some vtype
 unfolding vtype_named
 vtype_read_back vtype named =
     let whole = both_true (nat_lt vtype 256 && nat_lt (group_code vtype) 3) (nat_lt (width_code vtype) 3) named in

@@ -1,7 +1,8 @@
 -- How a vtype is written by names: the element's width, how many registers are grouped, and what happens to
 -- elements behind the last and to those that the mask leaves out.
 -- RISC-V Vector Extension 1.0, sections 3.4 and 6.1; which codes have names is this project's own.
-use Rattle.std.specs.Prelude.{ℕ, ◌+◌, ◌*◌, ◌/◌, ◌%◌, ◌&&◌, Bool, nat_lt, if◌then◌else◌, List, [], ◌∷◌, codes, bytes_eq, slice_index_or, Option, Some, None, option_map}
+use Rattle.std.specs.Prelude.{ℕ, ◌+◌, ◌*◌, ◌/◌, ◌%◌, ◌&&◌, Bool, nat_lt, if◌then◌else◌, List, [], ◌∷◌, codes, bytes_eq, slice_index_or, Option, Some, None}
+use Rattle.std.specs.Prelude.{option_map}
 use Rattle.std.specs.Option.{option_and_then}
 
 abbrev pub width_names : List (List ℕ)
@@ -45,7 +46,8 @@ place_in (first ∷ names) name = if bytes_eq first name then Some 0 else option
 -- the vtype of four names
 unfoldable pub vtype_named : List ℕ → List ℕ → List ℕ → List ℕ → Option ℕ
 vtype_named width group tail mask =
-    option_and_then (λ w. option_and_then (λ g. option_and_then (λ t. option_map (λ m. vtype_of w g t m) (place_in mask_names mask)) (place_in tail_names tail)) (place_in group_names group)) (place_in width_names width)
+    option_and_then (λ w. option_and_then (λ g. option_and_then (λ t. option_map (λ m. vtype_of w g t m) (place_in mask_names mask)) (place_in tail_names tail))
+    (place_in group_names group)) (place_in width_names width)
 
 -- the name in a place of a list of names
 abbrev pub name_at : List (List ℕ) → ℕ → List ℕ

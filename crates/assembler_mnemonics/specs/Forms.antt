@@ -5,11 +5,16 @@ use Rattle.std.specs.Prelude.{◌≡◌, ℕ, ℤ, Bool, true, false, List, [], 
 use Rattle.std.specs.List.{Contains}
 use Rattle.rv_insn.specs.Encoding.{Holds, Row, field_of, mode_of}
 use Rattle.rv_insn.specs.Table.{table, branch_name, load_name, store_name, alu_imm_name, shift_name, alu_name}
-use Rattle.rv_insn.specs.VectorTable.{arithmetic_vv_name, arithmetic_vx_name, arithmetic_vi_name, shift_vi_name, compare_vv_name, compare_vx_name, compare_vi_name, multiply_vv_name, multiply_vx_name, reduction_name, load_elements_name, store_elements_name}
+use Rattle.rv_insn.specs.VectorTable.{arithmetic_vv_name, arithmetic_vx_name, arithmetic_vi_name, shift_vi_name, compare_vv_name, compare_vx_name}
+use Rattle.rv_insn.specs.VectorTable.{compare_vi_name, multiply_vv_name, multiply_vx_name, reduction_name, load_elements_name, store_elements_name}
 use Rattle.rv_insn.specs.declared.instructions.Insn.{Insn}
-use Rattle.rv_insn.specs.declared.instructions.Insn.TheVariants.{Lui, Auipc, Jal, Jalr, Branch, Load, Store, AluImm, Shift, Alu, AmoaddW, Fence, Ecall, Ebreak, Vector}
+use Rattle.rv_insn.specs.declared.instructions.Insn.TheVariants.{Lui, Auipc, Jal, Jalr, Branch, Load, Store, AluImm, Shift, Alu, AmoaddW, Fence, Ecall, Ebreak}
+use Rattle.rv_insn.specs.declared.instructions.Insn.TheVariants.{Vector}
 use Rattle.rv_insn.specs.declared.vector_instructions.VectorInsn.{VectorInsn}
-use Rattle.rv_insn.specs.declared.vector_instructions.VectorInsn.TheVariants.{ArithmeticVv, ArithmeticVx, ArithmeticVi, ShiftVi, CompareVv, CompareVx, CompareVi, MultiplyVv, MultiplyVx, Reduce, MergeVv, MergeVx, MergeVi, MoveVv, MoveVx, MoveVi, MoveToScalar, MoveFromScalar, ElementNumbers, ExtendBytes, Vsetvli, Vsetivli, Vsetvl, LoadElements, StoreElements}
+use Rattle.rv_insn.specs.declared.vector_instructions.VectorInsn.TheVariants.{ArithmeticVv, ArithmeticVx, ArithmeticVi, ShiftVi, CompareVv, CompareVx}
+use Rattle.rv_insn.specs.declared.vector_instructions.VectorInsn.TheVariants.{CompareVi, MultiplyVv, MultiplyVx, Reduce, MergeVv, MergeVx, MergeVi, MoveVv}
+use Rattle.rv_insn.specs.declared.vector_instructions.VectorInsn.TheVariants.{MoveVx, MoveVi, MoveToScalar, MoveFromScalar, ElementNumbers, ExtendBytes}
+use Rattle.rv_insn.specs.declared.vector_instructions.VectorInsn.TheVariants.{Vsetvli, Vsetivli, Vsetvl, LoadElements, StoreElements}
 use Rattle.assembler_mnemonics.specs.declared.forms.Form.{Form}
 use Rattle.assembler_mnemonics.specs.declared.forms.Form.TheVariants as f
 use Rattle.assembler_mnemonics.specs.declared.forms.VectorForm.{VectorForm}

@@ -1,9 +1,11 @@
 -- All forms, and the form that a mnemonic names.
 -- This project's own: the mnemonics stand in Forms.
-use Rattle.std.specs.Prelude.{ℕ, ◌-◌, ◌==◌, ◌&&◌, nat_le, if◌then◌else◌, true, false, List, [], ◌∷◌, ◌++◌, length, slice_index, find, filter, map, bytes_eq, Option, Bool}
+use Rattle.std.specs.Prelude.{ℕ, ◌-◌, ◌==◌, ◌&&◌, nat_le, if◌then◌else◌, true, false, List, [], ◌∷◌, ◌++◌, length, slice_index, find, filter, map, bytes_eq}
+use Rattle.std.specs.Prelude.{Option, Bool}
 use Rattle.std.specs.List.{flat_map}
 use Rattle.rv_insn.specs.Table.{all_branches, all_loads, all_stores, all_alu_imms, all_shifts, all_alus}
-use Rattle.rv_insn.specs.VectorTable.{all_arithmetic_vvs, all_arithmetic_vxs, all_arithmetic_vis, all_shift_vis, all_compare_vvs, all_compare_vxs, all_compare_vis, all_multiplies, all_reductions, all_widths}
+use Rattle.rv_insn.specs.VectorTable.{all_arithmetic_vvs, all_arithmetic_vxs, all_arithmetic_vis, all_shift_vis, all_compare_vvs, all_compare_vxs}
+use Rattle.rv_insn.specs.VectorTable.{all_compare_vis, all_multiplies, all_reductions, all_widths}
 use Rattle.rv_insn.specs.declared.vector_operations.AddressMode.{AddressMode}
 use Rattle.rv_insn.specs.declared.vector_operations.AddressMode.TheVariants as modes
 use Rattle.assembler_mnemonics.specs.declared.forms.Form.{Form}

@@ -35,13 +35,16 @@ pub next_decimal : (digits : List ℕ) (i number d made : ℕ) → i < length di
     → made ≡ capped (number * 10 + d) → made ≡ capped (decimal_number (take (i + 1) digits))
 next_decimal digits i number d made within is_number is_digit is_made =
     rw (is_made, is_number, is_digit)
-    (capped_decimal (decimal_number (take i digits)) (get_or digits i 0 - 48) ∙ ap capped (sym (fold_more (λ n byte. n * 10 + (byte - 48)) 0 digits i 0 within)))
+    (capped_decimal (decimal_number (take i digits)) (get_or digits i 0 - 48)
+    ∙ ap capped (sym (fold_more (λ n byte. n * 10 + (byte - 48)) 0 digits i 0 within)))
 
-pub next_hexadecimal : (digits : List ℕ) (i number d made : ℕ) → i < length digits → number ≡ capped (hexadecimal_number (take i digits)) → d ≡ hexadecimal_value (get_or digits i 0)
+pub next_hexadecimal : (digits : List ℕ) (i number d made : ℕ) → i < length digits → number ≡ capped (hexadecimal_number (take i digits))
+    → d ≡ hexadecimal_value (get_or digits i 0)
     → made ≡ capped (number * 16 + d) → made ≡ capped (hexadecimal_number (take (i + 1) digits))
 next_hexadecimal digits i number d made within is_number is_digit is_made =
     rw (is_made, is_number, is_digit)
-    (capped_hexadecimal (hexadecimal_number (take i digits)) (hexadecimal_value (get_or digits i 0)) ∙ ap capped (sym (fold_more (λ n byte. n * 16 + hexadecimal_value byte) 0 digits i 0 within)))
+    (capped_hexadecimal (hexadecimal_number (take i digits)) (hexadecimal_value (get_or digits i 0))
+    ∙ ap capped (sym (fold_more (λ n byte. n * 16 + hexadecimal_value byte) 0 digits i 0 within)))
 
 pub all_taken : (f : List ℕ → ℕ) (digits : List ℕ) (i number : ℕ) → length digits ≤ i → number ≡ capped (f (take i digits)) → number ≡ capped (f digits)
 all_taken f digits i number over is_number = is_number ∙ ap (λ ds. capped (f ds)) (take_all i digits over)

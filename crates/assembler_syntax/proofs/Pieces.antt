@@ -1,5 +1,6 @@
 -- The pieces between commas, from the front.
-use Rattle.std.proofs.Common.{◌≡◌, ℕ, suc, ◌+◌, ◌<◌, ◌≤◌, ◌-◌, ◌==◌, arith, true, false, List, [], ◌∷◌, ◌++◌, length, take, drop, Option, Some, None, refl, sym, ap, ◌∙◌, append_assoc}
+use Rattle.std.proofs.Common.{◌≡◌, ℕ, suc, ◌+◌, ◌<◌, ◌≤◌, ◌-◌, ◌==◌, arith, true, false, List, [], ◌∷◌, ◌++◌, length, take, drop, Option, Some, None, refl, sym}
+use Rattle.std.proofs.Common.{ap, ◌∙◌, append_assoc}
 use Rattle.std.specs.List.{prefix_len}
 use Rattle.std.proofs.lemmas.List.{take_all}
 use Rattle.std.proofs.lemmas.Bool.{eqb-true}
@@ -20,7 +21,8 @@ joined_front token tokens n others =
     let e : 1 + n ≡ suc n = omega arith in
     rw e refl
 
-behind_front : (token : Token) (tokens : List Token) (n : ℕ) → later_pieces (behind_comma (drop n tokens)) ≡ later_pieces (behind_comma (drop (1 + n) (token ∷ tokens)))
+behind_front : (token : Token) (tokens : List Token) (n : ℕ) → later_pieces (behind_comma (drop n tokens))
+    ≡ later_pieces (behind_comma (drop (1 + n) (token ∷ tokens)))
 behind_front token tokens n =
     let e : 1 + n ≡ suc n = omega arith in
     rw e refl
@@ -29,7 +31,8 @@ behind_front token tokens n =
 abbrev pub split_at : ℕ → List Token → List (List Token)
 split_at n tokens = take n tokens ∷ later_pieces (behind_comma (drop n tokens))
 
-one_token : (token : Token) (tokens : List Token) (n : ℕ) → pieces_of tokens ≡ split_at n tokens → joined token (pieces_of tokens) ≡ split_at (1 + n) (token ∷ tokens)
+one_token : (token : Token) (tokens : List Token) (n : ℕ) → pieces_of tokens ≡ split_at n tokens
+    → joined token (pieces_of tokens) ≡ split_at (1 + n) (token ∷ tokens)
 one_token token tokens n split =
     ap (joined token) split ∙ joined_front token tokens n (later_pieces (behind_comma (drop n tokens)))
     ∙ ap (λ (others : List (List Token)). take (1 + n) (token ∷ tokens) ∷ others) (behind_front token tokens n)
@@ -71,7 +74,8 @@ unfolding operands_of
 first_starts [] operands is empty = absurd cc
 first_starts (token ∷ tokens) operands is empty = rw empty (nothing_before (all_operands (pieces_of (token ∷ tokens))))
 
-one_more : (front : List Operand) (operand : Operand) (given : Option (List Operand)) → behind front (with_first (Some operand) given) ≡ behind (front ++ operand ∷ []) given
+one_more : (front : List Operand) (operand : Operand) (given : Option (List Operand)) → behind front (with_first (Some operand) given)
+    ≡ behind (front ++ operand ∷ []) given
 one_more front operand None = refl
 one_more front operand (Some operands) = ap (λ (os : List Operand). Some os) (simp append_assoc)
 
@@ -100,7 +104,8 @@ fails tokens front rest piece others split is taken =
 -- the front of tokens and the rest of them, where the front ends at the first comma
 pub last_piece : (tokens piece rest : List Token) (n : ℕ) → n ≡ prefix_len is_plain tokens → piece ≡ take n tokens → rest ≡ drop n tokens → length rest < 1
     → pieces_of tokens ≡ piece ∷ []
-last_piece tokens piece [] n len front back short = rw (front, len) (pieces_split tokens ∙ ap (λ rest. take (prefix_len is_plain tokens) tokens ∷ later_pieces (behind_comma rest)) (sym (rw len at back)))
+last_piece tokens piece [] n len front back short = rw (front, len) (pieces_split tokens ∙ ap (λ rest. take (prefix_len is_plain tokens) tokens
+    ∷ later_pieces (behind_comma rest)) (sym (rw len at back)))
 last_piece tokens piece (first ∷ rest) n len front back short = absurd (omega (arith, short))
 
 pub piece_before : (tokens piece rest : List Token) (n : ℕ) → n ≡ prefix_len is_plain tokens → piece ≡ take n tokens → rest ≡ drop n tokens → 1 ≤ length rest

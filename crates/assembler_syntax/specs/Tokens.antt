@@ -1,6 +1,7 @@
 -- The tokens of a line, each the longest that stands there, up to the comment.
 -- This project's own, after the assembly syntax of RISC-V Unprivileged ISA 20191213, chapter 25.
-use Rattle.std.specs.Prelude.{ℕ, zero, suc, ◌+◌, ◌%◌, ◌^◌, ◌-◌, ◌==◌, ◌||◌, ◌&&◌, Bool, nat_lt, nat_le, if◌then◌else◌, ℤ, pos, ◌-ℤ◌, List, [], ◌∷◌, length, take, drop}
+use Rattle.std.specs.Prelude.{ℕ, zero, suc, ◌+◌, ◌%◌, ◌^◌, ◌-◌, ◌==◌, ◌||◌, ◌&&◌, Bool, nat_lt, nat_le, if◌then◌else◌, ℤ, pos, ◌-ℤ◌, List, [], ◌∷◌, length}
+use Rattle.std.specs.Prelude.{take, drop}
 use Rattle.std.specs.List.{prefix_len, list_all}
 use Rattle.line_text.specs.Lines.{begins_name, continues_name, is_digit, is_hexadecimal, skip_blanks, ends, decimal_number, hexadecimal_number}
 use Rattle.assembler_syntax.specs.declared.tokens.Token.{Token}

@@ -1,5 +1,6 @@
 -- Counting over the tokens of a board, and what a token knows of words of which one changes.
-use Rattle.std.proofs.Common.{◌≡◌, ◌≢◌, ℕ, zero, suc, ◌+◌, ◌<◌, ◌≤◌, Bool, if◌then◌else◌, List, [], ◌∷◌, ◌++◌, length, set, refl, sym, ap, ◌∙◌, arith, eq-eqb, ne_eqb}
+use Rattle.std.proofs.Common.{◌≡◌, ◌≢◌, ℕ, zero, suc, ◌+◌, ◌<◌, ◌≤◌, Bool, if◌then◌else◌, List, [], ◌∷◌, ◌++◌, length, set, refl, sym, ap, ◌∙◌, arith, eq-eqb}
+use Rattle.std.proofs.Common.{ne_eqb}
 use Rattle.std.specs.Prelude.{slice_index}
 use Rattle.std.proofs.lemmas.List.{get_or-set_same, get_or-set_other}
 use mathlib.Core.Option.{some, some-injective, some-ne-none}
@@ -49,11 +50,13 @@ counts-set words i value (one ∷ others) z a =
     (λ n. let h = times-apart i one others n in (get_or-set_other words i one.0 value 0 n ∙ a.0, counts-set words i value others (sym h ∙ z) a.1))
 
 -- a word that becomes no less is no less than what was found
-pub sights-set : (words : List ℕ) (i value : ℕ) (sights : List (ℕ × ℕ)) → i < length words → slice_index words i ≤ value → AreSeen words sights → AreSeen (set words i value) sights
+pub sights-set : (words : List ℕ) (i value : ℕ) (sights : List (ℕ × ℕ)) → i < length words → slice_index words i ≤ value → AreSeen words sights
+    → AreSeen (set words i value) sights
 sights-set words i value [] there more a = tt
 sights-set words i value (one ∷ others) there more a = (
   dite (ℕ_discrete one.0 i)
-      (λ e. let h = ap (slice_index (set words i value)) e ∙ get_or-set_same words i value 0 there in let p = a.0 in let q = ap (slice_index words) e in omega (arith, h, p, q))
+      (λ e. let h = ap (slice_index (set words i value)) e ∙ get_or-set_same words i value 0 there in let p = a.0 in let q = ap (slice_index words) e in
+      omega (arith, h, p, q))
       (λ n. let h = get_or-set_other words i one.0 value 0 n in let p = a.0 in omega (arith, h, p)),
   sights-set words i value others there more a.1,
 )

@@ -1,5 +1,6 @@
 -- Each step keeps the rule of a board.
-use Rattle.std.proofs.Common.{◌≡◌, ◌≢◌, ℕ, ◌+◌, ◌%◌, ◌^◌, ◌<◌, ◌≤◌, ◌==◌, Bool, true, false, if◌then◌else◌, List, [], ◌∷◌, length, map, set, refl, sym, ap, ◌∙◌, subst, ⊎_elim, arith, lt_of_not-le, eq-eqb}
+use Rattle.std.proofs.Common.{◌≡◌, ◌≢◌, ℕ, ◌+◌, ◌%◌, ◌^◌, ◌<◌, ◌≤◌, ◌==◌, Bool, true, false, if◌then◌else◌, List, [], ◌∷◌, length, map, set, refl, sym, ap, ◌∙◌}
+use Rattle.std.proofs.Common.{subst, ⊎_elim, arith, lt_of_not-le, eq-eqb}
 use Rattle.std.specs.Prelude.{slice_index}
 use Rattle.std.proofs.lemmas.List.{get_or-set_same, get_or-set_other, set-get_or, length-set}
 use mathlib.Core.Logic.{dite}
@@ -18,7 +19,8 @@ abbrev counted : ℕ → Known → ℕ
 counted hart token = times hart token.counts
 
 -- the tokens after one has learned something
-fits-learned : (words : List ℕ) (tokens : List Known) (id : ℕ) (new : Known) → ((j : ℕ) (token : Known) → j ≢ id → get_elem? tokens j ≡ some token → Fits words token) → Fits words new
+fits-learned : (words : List ℕ) (tokens : List Known) (id : ℕ) (new : Known) → ((j : ℕ) (token : Known) → j ≢ id → get_elem? tokens j ≡ some token
+    → Fits words token) → Fits words new
     → (j : ℕ) (token : Known) → get_elem? (set tokens id new) j ≡ some token → Fits words token
 fits-learned words tokens id new others mine j token at =
     ⊎_elim
@@ -27,7 +29,8 @@ fits-learned words tokens id new others mine j token at =
     (at_set tokens id j new token at)
 
 -- a token learns, and no word changes
-pub learns : (harts : ℕ) (words : List ℕ) (tokens : List Known) (id : ℕ) (old new : Known) → Stands harts words tokens → get_elem? tokens id ≡ some old → ((hart : ℕ) → counted hart new ≡ counted hart old) → Fits words new
+pub learns : (harts : ℕ) (words : List ℕ) (tokens : List Known) (id : ℕ) (old new : Known) → Stands harts words tokens → get_elem? tokens id ≡ some old
+    → ((hart : ℕ) → counted hart new ≡ counted hart old) → Fits words new
     → Stands harts words (set tokens id new)
 learns harts words tokens id old new stands at same mine = record {
   places = stands.places;
@@ -40,7 +43,8 @@ learns harts words tokens id old new stands at same mine = record {
 }
 
 -- a word becomes more, and a token with it
-pub grows : (harts : ℕ) (words : List ℕ) (tokens : List Known) (id : ℕ) (old new : Known) (i value : ℕ) → Stands harts words tokens → get_elem? tokens id ≡ some old
+pub grows : (harts : ℕ) (words : List ℕ) (tokens : List Known) (id : ℕ) (old new : Known) (i value : ℕ) → Stands harts words tokens
+    → get_elem? tokens id ≡ some old
     → ((hart : ℕ) → counted hart new ≡ counted hart old) → i < length words → slice_index words i ≤ value → Fits (set words i value) new
     → ((j : ℕ) (token : Known) → j ≢ id → get_elem? tokens j ≡ some token → counted i token ≡ 0)
     → (i ≡ stop_word → value ≡ 1) → (i ≢ stop_word → i < harts)
@@ -61,7 +65,8 @@ grows harts words tokens id old new i value stands at same there more mine other
           })
           mine;
       once = λ hart. let t = total-set (counted hart) tokens id old new at in let s = same hart in let o = stands.once hart in omega (arith, t, s, o);
-      none = λ hart beyond. let t = total-set (counted hart) tokens id old new at in let s = same hart in let o = stands.none hart beyond in omega (arith, t, s, o);
+      none = λ hart beyond. let t = total-set (counted hart) tokens id old new at in let s = same hart in let o = stands.none hart beyond in
+          omega (arith, t, s, o);
       rest = λ hart beyond below.
           dite (ℕ_discrete hart i)
           (λ e. absurd (let h = at_hart (λ s. let q = e in let r = s in omega (arith)) in omega (arith)))
@@ -93,17 +98,21 @@ counts-one words counts hart number is a = (subst (AreWords words) is a).0
 one-counted : (counts : List (ℕ × ℕ)) (hart number : ℕ) → counts ≡ (hart, number) ∷ [] → times hart counts ≡ 1
 one-counted counts hart number is = ap (times hart) is ∙ times-here hart (hart, number) [] refl
 
-added-fits : (words : List ℕ) (token : Known) (hart number k : ℕ) → token.counts ≡ (hart, number) ∷ [] → hart < length words → hart ≢ stop_word → Fits words token → Fits (set words hart (number + k)) (added k token)
+added-fits : (words : List ℕ) (token : Known) (hart number k : ℕ) → token.counts ≡ (hart, number) ∷ [] → hart < length words → hart ≢ stop_word
+    → Fits words token → Fits (set words hart (number + k)) (added k token)
 added-fits words token hart number k is there apart f =
-    let stops : slice_index words stop_word ≡ 1 → slice_index (set words hart (number + k)) stop_word ≡ 1 = λ was. get_or-set_other words hart stop_word (number + k) 0 (λ e. apart (sym e)) ∙ was in
+    let stops : slice_index words stop_word ≡ 1 → slice_index (set words hart (number + k)) stop_word ≡ 1 = λ was. get_or-set_other words hart stop_word
+    (number + k) 0 (λ e. apart (sym e)) ∙ was in
     let was = counts-one words token.counts hart number is f.counts in record {
-      counts = subst (λ (counts : List (ℕ × ℕ)). AreWords (set words hart (number + k)) (map (λ one. (one.0, one.1 + k)) counts)) (sym is) (get_or-set_same words hart (number + k) 0 there, tt);
+      counts = subst (λ (counts : List (ℕ × ℕ)). AreWords (set words hart (number + k)) (map (λ one. (one.0, one.1 + k)) counts)) (sym is)
+          (get_or-set_same words hart (number + k) 0 there, tt);
       sights = sights-set words hart (number + k) token.sights there (omega (arith, was)) f.sights;
       asked = λ a. stops (f.asked a);
       heard = λ a. stops (f.heard a);
     }
 
-added-stands : (harts : ℕ) (words : List ℕ) (tokens : List Known) (id : ℕ) (old : Known) (hart number k : ℕ) → old.counts ≡ (hart, number) ∷ [] → hart < most_harts → Stands harts words tokens → get_elem? tokens id ≡ some old
+added-stands : (harts : ℕ) (words : List ℕ) (tokens : List Known) (id : ℕ) (old : Known) (hart number k : ℕ) → old.counts ≡ (hart, number) ∷ []
+    → hart < most_harts → Stands harts words tokens → get_elem? tokens id ≡ some old
     → Stands harts (set words hart (number + k)) (set tokens id (added k old))
 added-stands harts words tokens id old hart number k is below stands at =
     let f = stands.fits id old at in
@@ -111,7 +120,8 @@ added-stands harts words tokens id old hart number k is below stands at =
     let one = one-counted old.counts hart number is in
     let there : hart < length words = let p = stands.places in omega (arith) in
     let apart : hart ≢ stop_word = λ e. let q = e in omega (arith) in
-    grows harts words tokens id old (added k old) hart (number + k) stands at (λ h. times-map h k old.counts) there (omega (arith, was)) (added-fits words old hart number k is there apart f)
+    grows harts words tokens id old (added k old) hart (number + k) stands at (λ h. times-map h k old.counts) there (omega (arith, was))
+    (added-fits words old hart number k is there apart f)
     (λ j token n e. let t = total-two (counted hart) tokens id j old token at e n in let o = stands.once hart in omega (arith, t, o, one))
     (λ e. absurd (apart e))
     (λ _. lt_of_not-le (λ beyond. let t = total-one (counted hart) tokens id old at in let z = stands.none hart beyond in omega (arith, t, z, one)))
@@ -128,7 +138,8 @@ module _ {S : Type 0} (harts slots id : ℕ) (me : Me S Known) where
         added k me.0,
         keeps,
         tt,
-        subst (λ n. Stands harts (set s.words hart n) (set s.views id (added k me.0))) (sym (no-wrap (slice_index s.words hart) number k was room)) (added-stands harts s.words s.views id me.0 hart number k is below stands at),
+        subst (λ n. Stands harts (set s.words hart n) (set s.views id (added k me.0))) (sym (no-wrap (slice_index s.words hart) number k was room))
+            (added-stands harts s.words s.views id me.0 hart number k is below stands at),
         refl,
       )
 
@@ -141,7 +152,8 @@ module _ {S : Type 0} (harts slots id : ℕ) (me : Me S Known) where
         new,
         keeps,
         tt,
-        read-stands harts s.words (set s.views id new) hart (learns harts s.words s.views id me.0 new stands at (λ _. refl) (record { counts = f.counts; sights = (omega (arith), f.sights); asked = f.asked; heard = f.heard })),
+        read-stands harts s.words (set s.views id new) hart (learns harts s.words s.views id me.0 new stands at (λ _. refl)
+            (record { counts = f.counts; sights = (omega (arith), f.sights); asked = f.asked; heard = f.heard })),
         (refl, found-within s.words me.0.sights hart f.sights),
       )
 
@@ -151,7 +163,8 @@ module _ {S : Type 0} (harts slots id : ℕ) (me : Me S Known) where
       let f = stands.fits id me.0 at in
       let there : stop_word < length s.words = let p = stands.places in omega (arith) in
       let set_now = get_or-set_same s.words stop_word 1 0 there in
-      let no_hart : (token : Known) (j : ℕ) → get_elem? s.views j ≡ some token → counted stop_word token ≡ 0 = λ token j e. let t = total-one (counted stop_word) s.views j token e in let z = stands.none stop_word stands.few in omega (arith, t, z) in
+      let no_hart : (token : Known) (j : ℕ) → get_elem? s.views j ≡ some token → counted stop_word token ≡ 0 = λ token j e. let t =
+      total-one (counted stop_word) s.views j token e in let z = stands.none stop_word stands.few in omega (arith, t, z) in
       let more : slice_index s.words stop_word ≤ 1 = stands.stop in (
         asked me.0,
         keeps,
@@ -176,12 +189,14 @@ module _ {S : Type 0} (harts slots id : ℕ) (me : Me S Known) where
         new,
         keeps,
         tt,
-        read-stands harts s.words (set s.views id new) stop_word (learns harts s.words s.views id me.0 new stands at (λ _. refl) (record { counts = f.counts; sights = f.sights; asked = f.asked; heard = heard-so n me.0.heard stands.stop f.heard })),
+        read-stands harts s.words (set s.views id new) stop_word (learns harts s.words s.views id me.0 new stands at (λ _. refl)
+            (record { counts = f.counts; sights = f.sights; asked = f.asked; heard = heard-so n me.0.heard stands.stop f.heard })),
         (refl, stands.stop, stop-so n me.0.asked me.0.heard f.asked f.heard),
       )
     where
       heard-so : (n : ℕ) (was : Bool) → n ≤ 1 → (was ≡ true → n ≡ 1) → (if n == 0 then was else true) ≡ true → n ≡ 1
-      heard-so n was few before is = dite (ℕ_discrete n 0) (λ e. before (sym (ap (λ (b : Bool). if b then was else true) (eq-eqb n 0 e)) ∙ is)) (λ ne. omega (arith, few, ne))
+      heard-so n was few before is = dite (ℕ_discrete n 0) (λ e. before (sym (ap (λ (b : Bool). if b then was else true) (eq-eqb n 0 e))
+          ∙ is)) (λ ne. omega (arith, few, ne))
 
       stop-so : (n : ℕ) (asks_it hears_it : Bool) → (asks_it ≡ true → n ≡ 1) → (hears_it ≡ true → n ≡ 1) → (if asks_it then true else hears_it) ≡ true → n ≡ 1
       stop-so n true hears_it a h e = a refl

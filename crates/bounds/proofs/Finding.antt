@@ -1,11 +1,14 @@
 -- Each byte is found where the layout has it.
-use Rattle.std.proofs.Common.{◌≡◌, ℕ, zero, suc, ◌+◌, ◌-◌, ◌*◌, ◌/◌, ◌<◌, ◌≤◌, List, [], ◌∷◌, true, false, Option, Some, None, refl, sym, ap, subst, ◌∙◌, arith, inl, inr}
+use Rattle.std.proofs.Common.{◌≡◌, ℕ, zero, suc, ◌+◌, ◌-◌, ◌*◌, ◌/◌, ◌<◌, ◌≤◌, List, [], ◌∷◌, true, false, Option, Some, None, refl, sym, ap, subst, ◌∙◌, arith}
+use Rattle.std.proofs.Common.{inl, inr}
 use Rattle.std.specs.Prelude.{nat_lt, slice_index, if◌then◌else◌}
 use Rattle.std.proofs.lemmas.Bool.{cases_lt}
 use Rattle.std.proofs.lemmas.Bool.Decides.{nat_tests}
 use Rattle.bounds.specs.Layout.{data_start, placed, total}
-use Rattle.bounds.specs.Parts.{Sizes, Part, Control, Input, Root, Copies, Frame, Outside, Found, further, find, found_or, in_privates, in_roots, in_inputs, in_data, part_at}
-use Rattle.bounds.specs.Finding.{inputs_at, roots_at, privates_at, frames_at, ControlFound, InputsFound, RootsFound, CopiesFound, FramesFound, PartsEnd, PartsAligned, LiesAt, RootsLie}
+use Rattle.bounds.specs.Parts.{Sizes, Part, Control, Input, Root, Copies, Frame, Outside, Found, further, find, found_or, in_privates, in_roots, in_inputs}
+use Rattle.bounds.specs.Parts.{in_data, part_at}
+use Rattle.bounds.specs.Finding.{inputs_at, roots_at, privates_at, frames_at, ControlFound, InputsFound, RootsFound, CopiesFound, FramesFound, PartsEnd}
+use Rattle.bounds.specs.Finding.{PartsAligned, LiesAt, RootsLie}
 
 is-lt : (a b : ℕ) → a < b → nat_lt a b ≡ true
 is-lt a b l = grind (arith, nat_tests)
@@ -15,7 +18,8 @@ no-lt a b l = grind (arith, nat_tests)
 
 -- ---- in a list
 
-found : (start : ℕ) (sizes : List ℕ) (place offset n : ℕ) → offset < slice_index sizes place → start + n ≡ slice_index (placed start sizes) place + offset → find sizes n ≡ Some (record { place = place; offset = offset })
+found : (start : ℕ) (sizes : List ℕ) (place offset n : ℕ) → offset < slice_index sizes place → start + n ≡ slice_index (placed start sizes) place + offset
+    → find sizes n ≡ Some (record { place = place; offset = offset })
 found start [] zero offset n l e = absurd (omega (arith, l))
 found start [] (suc place) offset n l e = absurd (omega (arith, l))
 found start (size ∷ sizes) zero offset n l e =
@@ -52,7 +56,8 @@ parts-aligned start (size ∷ sizes) zero l e a = e
 parts-aligned start (size ∷ sizes) (suc place) l e a = parts-aligned (start + size) sizes place (omega (arith, l)) (let f = a.0 in omega (arith, e, f)) a.1
 
 -- a byte of a part lies in the list
-within : (start : ℕ) (sizes : List ℕ) (place offset : ℕ) → offset < slice_index sizes place → (start ≤ slice_index (placed start sizes) place + offset) × (slice_index (placed start sizes) place + offset < start + total sizes)
+within : (start : ℕ) (sizes : List ℕ) (place offset : ℕ) → offset < slice_index sizes place → (start ≤ slice_index (placed start sizes) place + offset)
+    × (slice_index (placed start sizes) place + offset < start + total sizes)
 within start [] zero offset l = absurd (omega (arith, l))
 within start [] (suc place) offset l = absurd (omega (arith, l))
 within start (size ∷ sizes) zero offset l = (omega (arith, l), omega (arith, l))
@@ -129,7 +134,8 @@ copies-found s place offset l =
 pub frames-found : FramesFound
 frames-found s n =
     from-data s (frames_at s + n) (8 * s.phases + (total s.inputs + (total s.roots + (total s.privates + n)))) (omega arith)
-    ∙ from-inputs s (8 * s.phases + (total s.inputs + (total s.roots + (total s.privates + n)))) (total s.inputs + (total s.roots + (total s.privates + n))) refl
+    ∙ from-inputs s (8 * s.phases + (total s.inputs + (total s.roots + (total s.privates + n)))) (total s.inputs + (total s.roots + (total s.privates + n)))
+    refl
     ∙ from-roots s (total s.inputs + (total s.roots + (total s.privates + n))) (total s.roots + (total s.privates + n)) refl
     ∙ from-privates s (total s.roots + (total s.privates + n)) (total s.privates + n) refl ∙ from-frames s (total s.privates + n) n refl
 
@@ -147,8 +153,10 @@ abbrev offset_or : Option Found → ℕ
 offset_or None = 0
 offset_or (Some f) = f.offset
 
-lies-later : (start size : ℕ) (sizes : List ℕ) (n place offset : ℕ) → size ≤ n → (f : Option Found) → find sizes (n - size) ≡ f → further f ≡ Some (record { place = place; offset = offset })
-    → ((p o : ℕ) → find sizes (n - size) ≡ Some (record { place = p; offset = o }) → LiesIn (start + size) sizes (n - size) p o) → LiesIn start (size ∷ sizes) n place offset
+lies-later : (start size : ℕ) (sizes : List ℕ) (n place offset : ℕ) → size ≤ n → (f : Option Found) → find sizes (n - size) ≡ f
+    → further f ≡ Some (record { place = place; offset = offset })
+    → ((p o : ℕ) → find sizes (n - size) ≡ Some (record { place = p; offset = o }) → LiesIn (start + size) sizes (n - size) p o)
+    → LiesIn start (size ∷ sizes) n place offset
 lies-later start size sizes n place offset b None e q next = absurd (cc q)
 lies-later start size sizes n place offset b (Some f) e q next =
     let place_is : suc f.place ≡ place = ap place_or q in
@@ -158,16 +166,23 @@ lies-later start size sizes n place offset b (Some f) e q next =
     subst (λ p. LiesIn start (size ∷ sizes) n p offset) place_is
     (subst (λ o. LiesIn start (size ∷ sizes) n (suc f.place) o) offset_is (record { below = r.below; there = omega (arith, t, b) }))
 
-lies-in : (start : ℕ) (sizes : List ℕ) (n place offset : ℕ) → find sizes n ≡ Some (record { place = place; offset = offset }) → LiesIn start sizes n place offset
+lies-in : (start : ℕ) (sizes : List ℕ) (n place offset : ℕ) → find sizes n ≡ Some (record { place = place; offset = offset })
+    → LiesIn start sizes n place offset
 lies-in start [] n place offset e = absurd (cc e)
 lies-in start (size ∷ sizes) n place offset e = elim (cases_lt n size) [
   | inl b ↦
-      let q : Some (record { place = 0; offset = n }) ≡ Some (record { place = place; offset = offset }) = sym (ap (λ t. if t then Some (record { place = 0; offset = n }) else further (find sizes (n - size))) (is-lt n size b)) ∙ e in
+      let q : Some (record { place = 0; offset = n }) ≡ Some (record { place = place; offset = offset }) =
+      sym (ap (λ t. if t then Some (record { place = 0; offset = n }) else further (find sizes (n - size))) (is-lt n size b)) ∙ e in
       let place_is : 0 ≡ place = ap place_or q in
       let offset_is : n ≡ offset = ap offset_or q in
-      subst (λ p. LiesIn start (size ∷ sizes) n p offset) place_is (subst (λ o. LiesIn start (size ∷ sizes) n 0 o) offset_is (record { below = b; there = refl }))
+      subst (λ p. LiesIn start (size ∷ sizes) n p offset) place_is (subst (λ o. LiesIn start (size ∷ sizes) n 0 o) offset_is (record {
+        below = b;
+        there =
+            refl;
+      }))
   | inr b ↦
-      let q : further (find sizes (n - size)) ≡ Some (record { place = place; offset = offset }) = sym (ap (λ t. if t then Some (record { place = 0; offset = n }) else further (find sizes (n - size))) (no-lt n size b)) ∙ e in
+      let q : further (find sizes (n - size)) ≡ Some (record { place = place; offset = offset }) =
+      sym (ap (λ t. if t then Some (record { place = 0; offset = n }) else further (find sizes (n - size))) (no-lt n size b)) ∙ e in
       lies-later start size sizes n place offset b (find sizes (n - size)) refl q (λ p o. lies-in (start + size) sizes (n - size) p o)
 ]
 
@@ -180,10 +195,12 @@ behind : (sizes : List ℕ) (n : ℕ) → find sizes n ≡ None → total sizes 
 behind [] n e = omega arith
 behind (size ∷ sizes) n e = elim (cases_lt n size) [
   | inl b ↦
-      let q : Some (record { place = 0; offset = n }) ≡ None = sym (ap (λ t. if t then Some (record { place = 0; offset = n }) else further (find sizes (n - size))) (is-lt n size b)) ∙ e in
+      let q : Some (record { place = 0; offset = n }) ≡ None = sym (ap (λ t. if t then Some (record { place = 0; offset = n }) else further
+      (find sizes (n - size))) (is-lt n size b)) ∙ e in
       absurd (cc q)
   | inr b ↦
-      let q : further (find sizes (n - size)) ≡ None = sym (ap (λ t. if t then Some (record { place = 0; offset = n }) else further (find sizes (n - size))) (no-lt n size b)) ∙ e in
+      let q : further (find sizes (n - size)) ≡ None = sym (ap (λ t. if t then Some (record { place = 0; offset = n }) else further (find sizes (n - size)))
+      (no-lt n size b)) ∙ e in
       let r = behind sizes (n - size) (further-none (find sizes (n - size)) q) in
       omega (arith, r, b)
 ]
@@ -201,7 +218,8 @@ module _ (s : Sizes) where
   no-private n place offset None e = cc e
   no-private n place offset (Some f) e = cc e
 
-  lies-roots : (n place offset : ℕ) (f : Option Found) → find s.roots n ≡ f → found_or Root f (in_privates s (n - total s.roots)) ≡ Root place offset → LiesIn (roots_at s) s.roots n place offset
+  lies-roots : (n place offset : ℕ) (f : Option Found) → find s.roots n ≡ f → found_or Root f (in_privates s (n - total s.roots)) ≡ Root place offset
+      → LiesIn (roots_at s) s.roots n place offset
   lies-roots n place offset None e q = absurd (no-private (n - total s.roots) place offset (find s.privates (n - total s.roots)) q)
   lies-roots n place offset (Some f) e q =
       let place_is : f.place ≡ place = ap root_place q in
@@ -217,10 +235,12 @@ module _ (s : Sizes) where
   lies-data : (n place offset : ℕ) → in_data s n ≡ Root place offset → LiesAt s (data_start + n) place offset
   lies-data n place offset e = elim (cases_lt n (8 * s.phases)) [
     | inl b ↦
-        let q : Control (n / 8) ≡ Root place offset = sym (ap (λ t. if t then Control (n / 8) else in_inputs s (n - 8 * s.phases)) (is-lt n (8 * s.phases) b)) ∙ e in
+        let q : Control (n / 8) ≡ Root place offset = sym (ap (λ t. if t then Control (n / 8) else in_inputs s (n - 8 * s.phases)) (is-lt n (8 * s.phases) b))
+        ∙ e in
         absurd (cc q)
     | inr b ↦
-        let q : in_inputs s (n - 8 * s.phases) ≡ Root place offset = sym (ap (λ t. if t then Control (n / 8) else in_inputs s (n - 8 * s.phases)) (no-lt n (8 * s.phases) b)) ∙ e in
+        let q : in_inputs s (n - 8 * s.phases) ≡ Root place offset = sym (ap (λ t. if t then Control (n / 8) else in_inputs s (n - 8 * s.phases))
+        (no-lt n (8 * s.phases) b)) ∙ e in
         let r = lies-inputs (n - 8 * s.phases) place offset (find s.inputs (n - 8 * s.phases)) refl q in
         let l = r.0 in
         let t = r.1.there in

@@ -7,7 +7,8 @@ use Rattle.bounds.specs.declared.boxes.ConsumerLoop.{ConsumerLoop}
 use Rattle.bounds.specs.declared.boxes.Spread.{Spread}
 use Rattle.bounds.specs.Boxes.{lasts_of, gathered, IsSpread}
 
-pub record IsGathering (consumer : Option ConsumerLoop) (lasts : List ℕ) (source : Source) (first second : Bool) (spread : Spread) (asked : List Asked) (found : Spread) (rest : List Asked) : Type 0 where
+pub record IsGathering (consumer : Option ConsumerLoop) (lasts : List ℕ) (source : Source) (first second : Bool) (spread : Spread) (asked : List Asked)
+    (found : Spread) (rest : List Asked) : Type 0 where
   pub same : gathered consumer lasts source first second found rest ≡ gathered consumer lasts source first second spread asked
   pub fits : IsSpread (lasts_of consumer) found
   pub reads : AreFitReads lasts rest

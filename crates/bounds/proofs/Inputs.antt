@@ -10,4 +10,5 @@ pub few_pixels : (input : Input) → IsInput input → input.width * input.heigh
 few_pixels input is =
     let sized = (and_parts (is_width input.width && is_height input.width input.height) (are_dimensions input.dimensions input.height) is).0 in
     let high = (and_parts (is_width input.width) (is_height input.width input.height) sized).1 in
-    leb-true (input.width * input.height) most_points (and_parts (nat_le 1 input.height && nat_le input.height most_extent) (nat_le (input.width * input.height) most_points) high).1
+    leb-true (input.width * input.height) most_points (and_parts (nat_le 1 input.height && nat_le input.height most_extent) (nat_le (input.width * input.height)
+    most_points) high).1

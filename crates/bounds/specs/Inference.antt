@@ -2,7 +2,8 @@
 --
 -- Where some box leaves -2^24 to 2^24 there are no boxes.
 -- This project's own.
-use Rattle.std.specs.Prelude.{◌≡◌, ℕ, ◌+◌, ◌-◌, ◌==◌, Bool, true, not, if◌then◌else◌, List, [], ◌∷◌, length, slice_get, Option, Some, None, suc, ◌^◌, false, ◌++◌}
+use Rattle.std.specs.Prelude.{◌≡◌, ℕ, ◌+◌, ◌-◌, ◌==◌, Bool, true, not, if◌then◌else◌, List, [], ◌∷◌, length, slice_get, Option, Some, None, suc, ◌^◌, false}
+use Rattle.std.specs.Prelude.{◌++◌}
 use Rattle.halide_pipeline.specs.declared.definitions.Func.{Func}
 use Rattle.halide_pipeline.specs.declared.definitions.Input.{Input}
 use Rattle.halide_pipeline.specs.declared.definitions.Output.{Output}
@@ -148,7 +149,8 @@ module _ (pipeline : Pipeline) (schedule : Schedule) (flags : List Bool) where
   -- with what the Func at a place reads of the source
   abbrev pub read_by : ℕ → SourceBox → Option ConsumerLoop → Source → Spread → Spread
   read_by at own consumer source spread =
-      read_of pipeline flags at (view_of (slice_get schedule.funcs at) (slice_get schedule.standings at) own consumer) consumer source spread (slice_get pipeline.funcs at)
+      read_of pipeline flags at (view_of (slice_get schedule.funcs at) (slice_get schedule.standings at) own consumer) consumer source spread
+      (slice_get pipeline.funcs at)
 
   abbrev pub read_by_box : ℕ → Option SourceBox → Option ConsumerLoop → Source → Spread → Spread
   read_by_box at None consumer source spread = spread

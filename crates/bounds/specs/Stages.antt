@@ -23,7 +23,8 @@ use Rattle.schedule_lines.specs.declared.stages.Stage.{Stage}
 use Rattle.schedule_loops.specs.Visits.{points_written, iteration_count, owns, Visit}
 
 -- A Func that the output reaches and that is computed there, with its loops and its box.
-pub record IsComputedAt (pipeline : Pipeline) (schedule : Schedule) (boxes : Boxes) (placed : Place) (place : ℕ) (func : Func) (plan : FuncPlan) (own : SourceBox) : Type 0 where
+pub record IsComputedAt (pipeline : Pipeline) (schedule : Schedule) (boxes : Boxes) (placed : Place) (place : ℕ) (func : Func) (plan : FuncPlan)
+    (own : SourceBox) : Type 0 where
   pub func_is : slice_get pipeline.funcs place ≡ Some func
   pub plan_is : slice_get schedule.funcs place ≡ Some plan
   pub box_is : slice_get boxes.funcs place ≡ Some (Some own)
@@ -47,7 +48,8 @@ is_point x y point = point.0 == x && point.1 == y
 -- The left side names the point at a visit of the iteration with this number, where Funcs have their pixels.
 abbrev pub names : Pipeline → Planes → ℕ → SourceBox → Update → Stage → ℕ → ℕ → ℕ → Bool
 names pipeline inputs place own update stage number x y =
-    list_any (is_point x y) (points_written (named_point (reads_of inputs (pixels pipeline.funcs inputs place)) (corner_of (Some own)) update) (update_extents own update) stage number)
+    list_any (is_point x y) (points_written (named_point (reads_of inputs (pixels pipeline.funcs inputs place)) (corner_of (Some own)) update)
+    (update_extents own update) stage number)
 
 -- ---- which stages there are
 
@@ -109,7 +111,8 @@ module _ (pipeline : Pipeline) (schedule : Schedule) (boxes : Boxes) where
 
   abbrev pub writes_of : Planes → ℕ → Func → FuncPlan → SourceBox → ℕ → ℕ → ℕ → ℕ → Bool
   writes_of inputs place func plan own zero iteration x y = owns (extents_of own) plan.pure iteration x y
-  writes_of inputs place func plan own (suc at) iteration x y = update_writes inputs place own (slice_get func.updates at) (slice_get plan.updates at) iteration x y
+  writes_of inputs place func plan own (suc at) iteration x y = update_writes inputs place own (slice_get func.updates at) (slice_get plan.updates at) iteration
+      x y
 
   abbrev pub writes_in : Planes → ℕ → Option Func → Option FuncPlan → Option (Option SourceBox) → ℕ → ℕ → ℕ → ℕ → Bool
   writes_in inputs place (Some func) (Some plan) (Some (Some own)) number iteration x y = writes_of inputs place func plan own number iteration x y
@@ -119,4 +122,5 @@ module _ (pipeline : Pipeline) (schedule : Schedule) (boxes : Boxes) where
   -- definition those that it visits, of an update those that the left side names at a reduction point, where arguments in place lie in it.
   abbrev pub writes : Planes → StagePlace → ℕ → ℕ → ℕ → Bool
   writes inputs stage iteration x y =
-      writes_in inputs stage.func (slice_get pipeline.funcs stage.func) (slice_get schedule.funcs stage.func) (slice_get boxes.funcs stage.func) stage.number iteration x y
+      writes_in inputs stage.func (slice_get pipeline.funcs stage.func) (slice_get schedule.funcs stage.func) (slice_get boxes.funcs stage.func) stage.number
+      iteration x y

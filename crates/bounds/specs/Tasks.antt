@@ -30,4 +30,5 @@ func_tasks (Some own) (Some func) (Some plan) update = stage_tasks own func plan
 
 -- of a stage of a Func that has a box
 unfoldable pub tasks : Pipeline → Schedule → List (Option SourceBox) → StageName → Option ℕ
-tasks pipeline schedule boxes name = func_tasks (box_in (slice_get boxes name.func)) (slice_get pipeline.funcs name.func) (slice_get schedule.funcs name.func) name.update
+tasks pipeline schedule boxes name = func_tasks (box_in (slice_get boxes name.func)) (slice_get pipeline.funcs name.func) (slice_get schedule.funcs name.func)
+    name.update

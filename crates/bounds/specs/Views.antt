@@ -3,7 +3,8 @@
 -- For a source that is an input or computed at root these are the Func's own box. A source that is computed at a loop of the consumer is
 -- asked while the loops from that one outward stay: they go into the base, and those inside take all their values. Loops stand innermost first.
 -- This project's own.
-use Rattle.std.specs.Prelude.{◌≡◌, ◌≤◌, ℕ, suc, ◌+◌, ◌-◌, nat_lt, Bool, false, not, if◌then◌else◌, List, [], ◌∷◌, take, drop, length, slice_get, Option, Some, None}
+use Rattle.std.specs.Prelude.{◌≡◌, ◌≤◌, ℕ, suc, ◌+◌, ◌-◌, nat_lt, Bool, false, not, if◌then◌else◌, List, [], ◌∷◌, take, drop, length, slice_get, Option, Some}
+use Rattle.std.specs.Prelude.{None}
 use Rattle.std.specs.List.{AllByRecursion}
 use Rattle.halide_pipeline.specs.declared.expressions.Variable.{Variable}
 use Rattle.halide_pipeline.specs.declared.expressions.Variable.TheVariants as variables

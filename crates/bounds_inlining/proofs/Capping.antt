@@ -36,7 +36,8 @@ sums_same o f s p g t x y e h i =
     same_add o p (f * x + s * y) (g * x + t * y) e (same_add (f * x) (g * x) (s * y) (t * y) (same_times_left f g x h) (same_times_left s t y i))
 
 pub arguments_same : (o f s x y m n : ℕ) → Same x m → Same y n → Same (o + (f * x + s * y)) (o + (f * m + s * n))
-arguments_same o f s x y m n e h = same_add o o (f * x + s * y) (f * m + s * n) refl (same_add (f * x) (f * m) (s * y) (s * n) (same_times f x m e) (same_times s y n h))
+arguments_same o f s x y m n e h = same_add o o (f * x + s * y) (f * m + s * n) refl (same_add (f * x) (f * m) (s * y) (s * n) (same_times f x m e)
+    (same_times s y n h))
 
 pub plus_parts : (o f s p g t x y : ℕ) → (o + p) + ((f + g) * x + (s + t) * y) ≡ (o + (f * x + s * y)) + (p + (g * x + t * y))
 plus_parts o f s p g t x y = omega (arith, add_times f g x, add_times s t y)
@@ -57,7 +58,8 @@ times_parts n o f s x y = omega (arith, group n f x, group n s y, times_add n o 
 pub same_then : (a b c : ℕ) → Same a b → Same b c → Same a c
 same_then a b c e f = e ∙ f
 
-pub applied_same : (own f s nn t1 t2 p1 p2 x y m n : ℕ) → Same nn own → Same t1 (f * x) → Same t2 (s * y) → Same p1 (t1 + t2) → Same p2 (nn + p1) → Same x m → Same y n
+pub applied_same : (own f s nn t1 t2 p1 p2 x y m n : ℕ) → Same nn own → Same t1 (f * x) → Same t2 (s * y) → Same p1 (t1 + t2) → Same p2 (nn + p1) → Same x m
+    → Same y n
     → Same p2 (own + (f * m + s * n))
 applied_same own f s nn t1 t2 p1 p2 x y m n hn h1 h2 hp hq hx hy =
     hq ∙ same_add nn own p1 (f * m + s * n) hn
@@ -66,7 +68,8 @@ applied_same own f s nn t1 t2 p1 p2 x y m n hn h1 h2 hp hq hx hy =
 pub both_same : (nn k x y m n p q : ℕ) → Same nn k → Same p (x + y) → Same q (nn + p) → Same x m → Same y n → Same q (k + m + n)
 both_same nn k x y m n p q hn hp hq hx hy = omega (arith, hn, hp, hq, hx, hy)
 
-pub four_same : (nn w x y k m n p q r : ℕ) → Same nn 1 → Same p (nn + w) → Same q (x + y) → Same r (p + q) → Same w k → Same x m → Same y n → Same r (1 + k + m + n)
+pub four_same : (nn w x y k m n p q r : ℕ) → Same nn 1 → Same p (nn + w) → Same q (x + y) → Same r (p + q) → Same w k → Same x m → Same y n
+    → Same r (1 + k + m + n)
 four_same nn w x y k m n p q r hn hp hq hr hw hx hy = omega (arith, hn, hp, hq, hr, hw, hx, hy)
 
 pub same_max : (a b c d : ℕ) → Same a b → Same c d → Same (max a c) (max b d)
@@ -79,4 +82,5 @@ waited_same (Some wait) x m e = omega (arith, e)
 pub need_same : (need : Need) (x y m n : ℕ) → Same x m → Same y n → Same (need_at need x y) (need_at need m n)
 need_same need x y m n e f =
     same_max need.own need.own (max (waited need.first x) (waited need.second y)) (max (waited need.first m) (waited need.second n)) refl
-    (same_max (waited need.first x) (waited need.first m) (waited need.second y) (waited need.second n) (waited_same need.first x m e) (waited_same need.second y n f))
+    (same_max (waited need.first x) (waited need.first m) (waited need.second y) (waited need.second n) (waited_same need.first x m e) (waited_same need.second
+    y n f))

@@ -1,5 +1,6 @@
 -- A table counts as the definition does.
-use Rattle.std.proofs.Common.{◌≡◌, ℕ, zero, suc, ◌+◌, ◌<◌, Bool, true, false, List, [], ◌∷◌, ◌++◌, length, Option, None, Some, refl, sym, ap, subst, ◌∙◌, arith, inl, inr}
+use Rattle.std.proofs.Common.{◌≡◌, ℕ, zero, suc, ◌+◌, ◌<◌, Bool, true, false, List, [], ◌∷◌, ◌++◌, length, Option, None, Some, refl, sym, ap, subst, ◌∙◌, arith}
+use Rattle.std.proofs.Common.{inl, inr}
 use Rattle.std.specs.Prelude.{slice_get}
 use Rattle.std.proofs.lemmas.Bool.{cases_lt, cases_eq, lt-ltb}
 use Rattle.std.proofs.lemmas.Option.{slice_get_past}
@@ -33,7 +34,8 @@ answers_of None (Some g) same = absurd same
 answers_of (Some f) None same = absurd same
 answers_of (Some f) (Some g) same = same
 
-pub counts_through : (flags : List Bool) (funcs : List Func) (table : List (Option CountCall)) → Counts flags funcs table → (va vb : Variable → ℕ) → ((v : Variable) → Same (va v) (vb v)) → (e : Expr)
+pub counts_through : (flags : List Bool) (funcs : List Func) (table : List (Option CountCall)) → Counts flags funcs table → (va vb : Variable → ℕ)
+    → ((v : Variable) → Same (va v) (vb v)) → (e : Expr)
     → Same (through counting (counted table) va e) (inlined counting (flagged flags) funcs (length table) vb e)
 counts_through flags funcs table known va vb vars e =
     through_related Same counting counting levels (counted table) (inside counting (flagged flags) funcs (length table))
@@ -44,17 +46,20 @@ dropped_same true x z e = refl
 dropped_same false x z e = e
 
 -- a call is counted as its definition
-module _ (flags : List Bool) (funcs : List Func) (table : List (Option CountCall)) (known : Counts flags funcs table) (func : Func) (call : CountCall) (sum : Sum)
+module _ (flags : List Bool) (funcs : List Func) (table : List (Option CountCall)) (known : Counts flags funcs table) (func : Func) (call : CountCall)
+    (sum : Sum)
     (sums : (x y : ℕ) → Same (sum_at sum x y) (through counting (counted table) (arguments 1 x y) func.pure))
     (one : (x : ℕ) → Same (count_call call x None) (sum_at sum x 1 + dropped (uses variables.FirstArgument func.pure) x))
-    (two : (x y : ℕ) → Same (count_call call x (Some y)) (sum_at sum x y + dropped (uses variables.FirstArgument func.pure) x + dropped (uses variables.SecondArgument func.pure) y)) where
+    (two : (x y : ℕ) → Same (count_call call x (Some y)) (sum_at sum x y + dropped (uses variables.FirstArgument func.pure) x + dropped
+    (uses variables.SecondArgument func.pure) y)) where
   body_same : (x y z u : ℕ) → Same x z → Same y u → Same (sum_at sum x y) (inlined counting (flagged flags) funcs (length table) (arguments 1 z u) func.pure)
   body_same x y z u e f =
       sums x y ∙ counts_through flags funcs table known (arguments 1 x y) (arguments 1 z u) (arguments_related Same 1 x y 1 z u refl e f) func.pure
 
   pub made_same : SameCall (Some (count_call call)) (Some (made_of counting (inside counting (flagged flags) funcs (length table)) func))
   unfolding counting
-  made_same x None z None e f = let b = body_same x 1 z 1 e refl in let d = dropped_same (uses variables.FirstArgument func.pure) x z e in let o = one x in omega (arith, o, b, d)
+  made_same x None z None e f = let b = body_same x 1 z 1 e refl in let d = dropped_same (uses variables.FirstArgument func.pure) x z e in let o = one x in
+      omega (arith, o, b, d)
   made_same x None z (Some u) e f = absurd f
   made_same x (Some y) z None e f = absurd f
   made_same x (Some y) z (Some u) e f =
@@ -86,7 +91,8 @@ unfolding inside
 no_counts flags funcs place = tt
 
 same_counted : (f g h k : Option (ℕ → Option ℕ → ℕ)) → f ≡ h → g ≡ k → SameCall h k → SameCall f g
-same_counted f g h k e i same = subst (λ (x : Option (ℕ → Option ℕ → ℕ)). SameCall x g) (sym e) (subst (λ (y : Option (ℕ → Option ℕ → ℕ)). SameCall h y) (sym i) same)
+same_counted f g h k e i same = subst (λ (x : Option (ℕ → Option ℕ → ℕ)). SameCall x g) (sym e) (subst (λ (y : Option (ℕ → Option ℕ → ℕ)). SameCall h y) (sym i)
+    same)
 
 module _ (flags : List Bool) (funcs : List Func) (table : List (Option CountCall)) (call : Option CountCall) where
   abbrev is_inlined : ℕ → Bool
@@ -107,7 +113,8 @@ module _ (flags : List Bool) (funcs : List Func) (table : List (Option CountCall
     | inl less ↦
         let here : SameCall (counted table place) (inside counting is_inlined funcs count place) =
         subst (λ (n : ℕ). SameCall (counted table place) (inside counting is_inlined funcs n place)) size (known place) in
-        same_counted (counted (table ++ call ∷ []) place) (inside counting is_inlined funcs (count + 1) place) (counted table place) (inside counting is_inlined funcs count place)
+        same_counted (counted (table ++ call ∷ []) place) (inside counting is_inlined funcs (count + 1) place) (counted table place) (inside counting is_inlined
+        funcs count place)
         (ap call_at (get_before table (call ∷ []) place (omega (arith, less, size)))) (inside_same place count less) here
     | inr more ↦ elim (cases_eq place count) [
       | inl same ↦
@@ -121,10 +128,12 @@ module _ (flags : List Bool) (funcs : List Func) (table : List (Option CountCall
     ]
   ]
 
-  pub counts_more : (count : ℕ) → length table ≡ count → Counts flags funcs table → SameCall (call_of call) (made_at flags funcs count) → Counts flags funcs (table ++ call ∷ [])
+  pub counts_more : (count : ℕ) → length table ≡ count → Counts flags funcs table → SameCall (call_of call) (made_at flags funcs count)
+      → Counts flags funcs (table ++ call ∷ [])
   counts_more count size known next place =
       let grown : length (table ++ call ∷ []) ≡ count + 1 = more_length table call ∙ ap (λ (n : ℕ). n + 1) size in
-      subst (λ (n : ℕ). SameCall (counted (table ++ call ∷ []) place) (inside counting is_inlined funcs n place)) (sym grown) (at_count count size known next place)
+      subst (λ (n : ℕ). SameCall (counted (table ++ call ∷ []) place) (inside counting is_inlined funcs n place)) (sym grown) (at_count count size known next
+      place)
 
 pub grown_length : {A : Type 0} → (xs : List A) (y : A) (count : ℕ) → length xs ≡ count → length (xs ++ y ∷ []) ≡ count + 1
 grown_length xs y count size = more_length xs y ∙ ap (λ (n : ℕ). n + 1) size

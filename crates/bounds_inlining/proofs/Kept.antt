@@ -24,7 +24,8 @@ unfolding inside
 inside_computed algebra is_inlined funcs zero place is = refl
 inside_computed algebra is_inlined funcs (suc count) place is = rw is (inside_computed algebra is_inlined funcs count place is)
 
-module _ {A B : Type 0} (R : A → B → Type 0) (p : Algebra A) (q : Algebra B) (is_inlined : ℕ → Bool) (inputs : List Input) (funcs : List Func) (are : AreFuncs inputs funcs)
+module _ {A B : Type 0} (R : A → B → Type 0) (p : Algebra A) (q : Algebra B) (is_inlined : ℕ → Bool) (inputs : List Input) (funcs : List Func)
+    (are : AreFuncs inputs funcs)
     (levels : RelatesLevels R is_inlined p q) (args : RelatesArguments R p q) (calls : RelatesCalls R p q) where
   abbrev Related : ℕ → Type 0
   Related count = (has : Variable → Bool) (va : Variable → A) (vb : Variable → B) → ((v : Variable) → has v ≡ true → R (va v) (vb v))
@@ -64,7 +65,8 @@ module _ {A B : Type 0} (R : A → B → Type 0) (p : Algebra A) (q : Algebra B)
         place_related (is_inlined place) place n refl (ltb-true place count k.0) k.1 a x y b z u (λ e. other (rw e refl)) rx ry
 
     module _ (has : Variable → Bool) (va : Variable → A) (vb : Variable → B) (vars : (v : Variable) → has v ≡ true → R (va v) (vb v)) where
-      through_levels : KeptLevels R (is_read inputs funcs count) has (through_at p (inside p is_inlined funcs count) va) (through_at q (inside q is_inlined funcs count) vb)
+      through_levels : KeptLevels R (is_read inputs funcs count) has (through_at p (inside p is_inlined funcs count) va)
+          (through_at q (inside q is_inlined funcs count) vb)
       through_levels (layer.Number n) kept = levels (layer.Number n) kept
       through_levels (layer.Variable v) kept = vars v kept
       through_levels (layer.Binary op a b) kept = levels (layer.Binary op a b) refl
@@ -72,12 +74,14 @@ module _ {A B : Type 0} (R : A → B → Type 0) (p : Algebra A) (q : Algebra B)
       through_levels (layer.Remainder a n) kept = levels (layer.Remainder a n) kept
       through_levels (layer.Select t a b) kept = levels (layer.Select t a b) refl
       through_levels (layer.Call1 s a) kept = source_related s 1 kept _ a.left None _ a.right None (λ is. levels (layer.Call1 s a) is) a.is tt
-      through_levels (layer.Call2 s a b) kept = source_related s 2 kept _ a.left (Some b.left) _ a.right (Some b.right) (λ is. levels (layer.Call2 s a b) is) a.is b.is
+      through_levels (layer.Call2 s a b) kept = source_related s 2 kept _ a.left (Some b.left) _ a.right (Some b.right) (λ is. levels (layer.Call2 s a b) is)
+          a.is b.is
 
     from_made : Related count
     unfolding through
     from_made has va vb vars e kept =
-        kept_folds_related R (is_read inputs funcs count) has (through_at p (inside p is_inlined funcs count) va) (through_at q (inside q is_inlined funcs count) vb) (through_levels has va vb vars) e kept
+        kept_folds_related R (is_read inputs funcs count) has (through_at p (inside p is_inlined funcs count) va)
+        (through_at q (inside q is_inlined funcs count) vb) (through_levels has va vb vars) e kept
 
   func_related : (place n : ℕ) (func : Option Func) → slice_get funcs place ≡ func → is_func_of func n ≡ true → Related place
       → Made (made_in p (inside p is_inlined funcs place) func) (made_in q (inside q is_inlined funcs place) func)
@@ -85,7 +89,8 @@ module _ {A B : Type 0} (R : A → B → Type 0) (p : Algebra A) (q : Algebra B)
   func_related place n (Some func) is ok inner = λ x y z u rx ry.
       let rn : R (none p) (none q) = levels (layer.Number 0) refl in
       calls func _ x y _ z u
-      (inner (is_argument (dimensions func)) (arguments (none p) (p.argument x) (p.argument (second_of (none p) y))) (arguments (none q) (q.argument z) (q.argument (second_of (none q) u)))
+      (inner (is_argument (dimensions func)) (arguments (none p) (p.argument x) (p.argument (second_of (none p) y))) (arguments (none q) (q.argument z)
+      (q.argument (second_of (none q) u)))
       (λ v has. arguments_related R (none p) (p.argument x) (p.argument (second_of (none p) y)) (none q) (q.argument z) (q.argument (second_of (none q) u)) rn
       (args x z rx) (args (second_of (none p) y) (second_of (none q) u) (seconds_related R (none p) y (none q) u rn ry)) v) func.pure (are place func is).pure)
       rx ry
@@ -96,7 +101,8 @@ module _ {A B : Type 0} (R : A → B → Type 0) (p : Algebra A) (q : Algebra B)
   made_below (suc count) place n below ok flag = elim (cases_eq place count) [
     | inl same ↦
         let test : (place == count) ≡ true = grind (arith, nat_tests) in
-        rw flag (rw test (func_related count n (slice_get funcs count) refl (subst (λ (at : ℕ). is_func_of (slice_get funcs at) n ≡ true) same ok) (from_made count (made_below count))))
+        rw flag (rw test (func_related count n (slice_get funcs count) refl (subst (λ (at : ℕ). is_func_of (slice_get funcs at) n ≡ true) same ok)
+        (from_made count (made_below count))))
     | inr other ↦
         let test : (place == count) ≡ false = grind (arith, nat_tests, other) in
         rw flag (rw test (made_below count place n (omega (arith, other, below)) ok flag))
@@ -111,4 +117,5 @@ module _ {A B : Type 0} (R : A → B → Type 0) (p : Algebra A) (q : Algebra B)
   kept_related count = from_made count (made_below count)
 
 pub folds_are_related : {A B : Type 0} → (R : A → B → Type 0) → FoldsAreRelated R
-folds_are_related R p q is_inlined inputs funcs are levels args calls count has left right vars e kept = kept_related R p q is_inlined inputs funcs are levels args calls count has left right vars e kept
+folds_are_related R p q is_inlined inputs funcs are levels args calls count has left right vars e kept = kept_related R p q is_inlined inputs funcs are levels
+    args calls count has left right vars e kept

@@ -32,7 +32,8 @@ module _ {A B : Type 0} (R : A → B → Type 0) (reads : Source → ℕ → Boo
     both e is = record { left = of_f e; right = of_g e; is = is }
 
     -- one level
-    level : (y : Expr-F Expr) (pairs : Expr-F (Both R)) → of_f (roll-Expr y) ≡ f (left_of R pairs) → of_g (roll-Expr y) ≡ g (right_of R pairs) → IsKept pairs → R (of_f (roll-Expr y)) (of_g (roll-Expr y))
+    level : (y : Expr-F Expr) (pairs : Expr-F (Both R)) → of_f (roll-Expr y) ≡ f (left_of R pairs) → of_g (roll-Expr y) ≡ g (right_of R pairs) → IsKept pairs
+        → R (of_f (roll-Expr y)) (of_g (roll-Expr y))
     level y pairs ea eb is = subst (λ (x : A). R x (of_g (roll-Expr y))) (sym ea) (subst (λ (x : B). R (f (left_of R pairs)) x) (sym eb) (levels pairs is))
 
     by_layer : (X : Type 0) (expr : X → Expr) → ((part : X) → Holds (expr part)) → (y : Expr-F X) → Holds (roll-Expr (map-Expr X Expr expr y))
@@ -57,9 +58,11 @@ module _ {A B : Type 0} (R : A → B → Type 0) (reads : Source → ℕ → Boo
         level l (layer.Remainder (both (expr a) (holds a k.0)) n) (fold-roll-Expr A f l) (fold-roll-Expr B g l) k.1
     by_layer X expr holds (layer.Select t a b) is =
         let l = layer.Select (expr t) (expr a) (expr b) in
-        let k = and_parts (keeps reads has (expr t)) (keeps reads has (expr a) && keeps reads has (expr b)) (sym (fold-roll-Expr Bool (keeps_at reads has) l) ∙ is) in
+        let k = and_parts (keeps reads has (expr t)) (keeps reads has (expr a) && keeps reads has (expr b)) (sym (fold-roll-Expr Bool (keeps_at reads has) l)
+        ∙ is) in
         let m = and_parts (keeps reads has (expr a)) (keeps reads has (expr b)) k.1 in
-        level l (layer.Select (both (expr t) (holds t k.0)) (both (expr a) (holds a m.0)) (both (expr b) (holds b m.1))) (fold-roll-Expr A f l) (fold-roll-Expr B g l) refl
+        level l (layer.Select (both (expr t) (holds t k.0)) (both (expr a) (holds a m.0)) (both (expr b) (holds b m.1))) (fold-roll-Expr A f l)
+        (fold-roll-Expr B g l) refl
     by_layer X expr holds (layer.Call1 s a) is =
         let l = layer.Call1 s (expr a) in
         let k = and_parts (keeps reads has (expr a)) (reads s 1) (sym (fold-roll-Expr Bool (keeps_at reads has) l) ∙ is) in

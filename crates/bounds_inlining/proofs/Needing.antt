@@ -30,7 +30,8 @@ answers_of None (Some g) same = absurd same
 answers_of (Some f) None same = absurd same
 answers_of (Some f) (Some g) same = same
 
-pub needs_through : (flags : List Bool) (funcs : List Func) (table : List (Option Need)) → Needs flags funcs table → (va vb : Variable → ℕ) → ((v : Variable) → Same (va v) (vb v)) → (e : Expr)
+pub needs_through : (flags : List Bool) (funcs : List Func) (table : List (Option Need)) → Needs flags funcs table → (va vb : Variable → ℕ)
+    → ((v : Variable) → Same (va v) (vb v)) → (e : Expr)
     → Same (through needing (needed table) va e) (inlined needing (flagged flags) funcs (length table) vb e)
 needs_through flags funcs table known va vb vars e =
     through_related Same needing needing levels (needed table) (inside needing (flagged flags) funcs (length table))
@@ -43,7 +44,8 @@ pub needs_made : (flags : List Bool) (funcs : List Func) (table : List (Option N
 unfolding needing
 needs_made flags funcs table known func need sums = λ x y z u e f.
     sums x (second_of 1 y)
-    ∙ needs_through flags funcs table known (arguments 1 x (second_of 1 y)) (arguments 1 z (second_of 1 u)) (arguments_related Same 1 x (second_of 1 y) 1 z (second_of 1 u) refl e (seconds_related Same 1 y 1 u refl f)) func.pure
+    ∙ needs_through flags funcs table known (arguments 1 x (second_of 1 y)) (arguments 1 z (second_of 1 u)) (arguments_related Same 1 x (second_of 1 y) 1 z
+    (second_of 1 u) refl e (seconds_related Same 1 y 1 u refl f)) func.pure
 
 -- ---- a table that grows
 
@@ -52,7 +54,8 @@ unfolding inside
 no_needs flags funcs place = tt
 
 same_needed : (f g h k : Option (ℕ → Option ℕ → ℕ)) → f ≡ h → g ≡ k → SameCall h k → SameCall f g
-same_needed f g h k e i same = subst (λ (x : Option (ℕ → Option ℕ → ℕ)). SameCall x g) (sym e) (subst (λ (y : Option (ℕ → Option ℕ → ℕ)). SameCall h y) (sym i) same)
+same_needed f g h k e i same = subst (λ (x : Option (ℕ → Option ℕ → ℕ)). SameCall x g) (sym e) (subst (λ (y : Option (ℕ → Option ℕ → ℕ)). SameCall h y) (sym i)
+    same)
 
 module _ (flags : List Bool) (funcs : List Func) (table : List (Option Need)) (call : Option Need) where
   abbrev is_inlined : ℕ → Bool
@@ -73,7 +76,8 @@ module _ (flags : List Bool) (funcs : List Func) (table : List (Option Need)) (c
     | inl less ↦
         let here : SameCall (needed table place) (inside needing is_inlined funcs count place) =
         subst (λ (n : ℕ). SameCall (needed table place) (inside needing is_inlined funcs n place)) size (known place) in
-        same_needed (needed (table ++ call ∷ []) place) (inside needing is_inlined funcs (count + 1) place) (needed table place) (inside needing is_inlined funcs count place)
+        same_needed (needed (table ++ call ∷ []) place) (inside needing is_inlined funcs (count + 1) place) (needed table place) (inside needing is_inlined
+        funcs count place)
         (ap need_in (get_before table (call ∷ []) place (omega (arith, less, size)))) (inside_same place count less) here
     | inr more ↦ elim (cases_eq place count) [
       | inl same ↦
@@ -87,7 +91,9 @@ module _ (flags : List Bool) (funcs : List Func) (table : List (Option Need)) (c
     ]
   ]
 
-  pub needs_more : (count : ℕ) → length table ≡ count → Needs flags funcs table → SameCall (need_of call) (need_made flags funcs count) → Needs flags funcs (table ++ call ∷ [])
+  pub needs_more : (count : ℕ) → length table ≡ count → Needs flags funcs table → SameCall (need_of call) (need_made flags funcs count)
+      → Needs flags funcs (table ++ call ∷ [])
   needs_more count size known next place =
       let grown : length (table ++ call ∷ []) ≡ count + 1 = more_length table call ∙ ap (λ (n : ℕ). n + 1) size in
-      subst (λ (n : ℕ). SameCall (needed (table ++ call ∷ []) place) (inside needing is_inlined funcs n place)) (sym grown) (at_count count size known next place)
+      subst (λ (n : ℕ). SameCall (needed (table ++ call ∷ []) place) (inside needing is_inlined funcs n place)) (sym grown) (at_count count size known next
+      place)

@@ -1,5 +1,6 @@
 -- What is read in the text passes where what is seen through inlined Funcs does.
-use Rattle.std.proofs.Common.{◌≡◌, ℕ, zero, suc, ◌<◌, ◌≤◌, Bool, true, false, List, [], ◌∷◌, ◌++◌, Option, None, Some, refl, sym, ap, subst, ◌∙◌, arith, inl, inr}
+use Rattle.std.proofs.Common.{◌≡◌, ℕ, zero, suc, ◌<◌, ◌≤◌, Bool, true, false, List, [], ◌∷◌, ◌++◌, Option, None, Some, refl, sym, ap, subst, ◌∙◌, arith, inl}
+use Rattle.std.proofs.Common.{inr}
 use Rattle.std.specs.Prelude.{◌==◌, cond, not, nat_lt, slice_get, length}
 use Rattle.std.specs.List.{AllByRecursion, list_all}
 use Rattle.std.proofs.lemmas.Bool.{and_parts, and_from, ltb-true, cases_eq}
@@ -61,7 +62,8 @@ module _ (inputs : List Input) (funcs : List Func) (count : ℕ) (reads : Reads)
   is_below (sources.Input place) n read = tt
   is_below (sources.Func place) n read = ltb-true place count (and_parts (nat_lt place count) (is_func_of (slice_get funcs place) n) read).0
 
-  one_below : (s : Source) (n : ℕ) → is_read inputs funcs count s n ≡ true → (points : List Point) (x y : ℕ) → AreBelow count points → AreBelow count (points ++ (point_at s x y ∷ []))
+  one_below : (s : Source) (n : ℕ) → is_read inputs funcs count s n ≡ true → (points : List Point) (x y : ℕ) → AreBelow count points
+      → AreBelow count (points ++ (point_at s x y ∷ []))
   one_below s n read points x y all = all_both (λ (point : Point). IsBelow count point.source) points (point_at s x y ∷ []) all (is_below s n read, tt)
 
   both_below : (a b : List Point) → AreBelow count a → AreBelow count b → AreBelow count (a ++ b)
@@ -75,7 +77,8 @@ module _ (inputs : List Input) (funcs : List Func) (count : ℕ) (reads : Reads)
   below_levels (layer.Remainder a n) kept = a.is
   below_levels (layer.Select c a b) kept = both_below c.left.points (a.left.points ++ b.left.points) c.is (both_below a.left.points b.left.points a.is b.is)
   below_levels (layer.Call1 s a) kept = one_below s 1 kept a.left.points a.left.value 0 a.is
-  below_levels (layer.Call2 s a b) kept = one_below s 2 kept (a.left.points ++ b.left.points) a.left.value b.left.value (both_below a.left.points b.left.points a.is b.is)
+  below_levels (layer.Call2 s a b) kept = one_below s 2 kept (a.left.points ++ b.left.points) a.left.value b.left.value (both_below a.left.points b.left.points
+      a.is b.is)
 
   points_below : (e : Expr) → keeps (is_read inputs funcs count) has e ≡ true → AreBelow count (points_read reads environment e)
   unfolding seen
@@ -96,7 +99,8 @@ module _ (test : Point → Bool) (is_inlined : ℕ → Bool) (funcs : List Func)
   passes_input zero place x y = refl
   passes_input (suc count) place x y = passes_input count place x y
 
-  passes_computed : (count place x y : ℕ) → is_inlined place ≡ false → passing count (point_at (sources.Func place) x y) ≡ test (point_at (sources.Func place) x y)
+  passes_computed : (count place x y : ℕ) → is_inlined place ≡ false → passing count (point_at (sources.Func place) x y)
+      ≡ test (point_at (sources.Func place) x y)
   unfolding passes
   passes_computed zero place x y is = refl
   passes_computed (suc count) place x y is = rw is (passes_computed count place x y is)
@@ -105,7 +109,8 @@ module _ (test : Point → Bool) (is_inlined : ℕ → Bool) (funcs : List Func)
   passes_tested count (sources.Input place) x y is = passes_input count place x y
   passes_tested count (sources.Func place) x y is = by_flag (is_inlined place) refl is
     where
-      by_flag : (flag : Bool) → is_inlined place ≡ flag → not flag ≡ true → passing count (point_at (sources.Func place) x y) ≡ test (point_at (sources.Func place) x y)
+      by_flag : (flag : Bool) → is_inlined place ≡ flag → not flag ≡ true → passing count (point_at (sources.Func place) x y)
+          ≡ test (point_at (sources.Func place) x y)
       by_flag true f n = absurd cc
       by_flag false f n = passes_computed count place x y f
 
@@ -127,15 +132,18 @@ module _ (test : Point → Bool) (is_inlined : ℕ → Bool) (funcs : List Func)
       by_flag : (place : ℕ) (flag : Bool) → is_inlined place ≡ flag → point.source ≡ sources.Func place → place < count → passing more point ≡ true
       by_flag place true f is before =
           let here : point ≡ point_at (sources.Func place) point.x point.y = ap (λ (s : Source). point_at s point.x point.y) is in
-          ap (passing more) here ∙ passes_before more place point.x point.y (omega (arith, few, before)) f ∙ sym (passes_before count place point.x point.y before f) ∙ sym (ap (passing count) here) ∙ passed
+          ap (passing more) here ∙ passes_before more place point.x point.y (omega (arith, few, before)) f
+          ∙ sym (passes_before count place point.x point.y before f) ∙ sym (ap (passing count) here) ∙ passed
       by_flag place false f is before =
           let here : point ≡ point_at (sources.Func place) point.x point.y = ap (λ (s : Source). point_at s point.x point.y) is in
-          ap (passing more) here ∙ passes_computed more place point.x point.y f ∙ sym (passes_computed count place point.x point.y f) ∙ sym (ap (passing count) here) ∙ passed
+          ap (passing more) here ∙ passes_computed more place point.x point.y f ∙ sym (passes_computed count place point.x point.y f)
+          ∙ sym (ap (passing count) here) ∙ passed
 
       by_source : (s : Source) → point.source ≡ s → IsBelow count s → passing more point ≡ true
       by_source (sources.Input place) is before =
           let here : point ≡ point_at (sources.Input place) point.x point.y = ap (λ (s : Source). point_at s point.x point.y) is in
-          ap (passing more) here ∙ passes_input more place point.x point.y ∙ sym (passes_input count place point.x point.y) ∙ sym (ap (passing count) here) ∙ passed
+          ap (passing more) here ∙ passes_input more place point.x point.y ∙ sym (passes_input count place point.x point.y) ∙ sym (ap (passing count) here)
+          ∙ passed
       by_source (sources.Func place) is before = by_flag place (is_inlined place) refl is before
 
   pub pass_more : (count more : ℕ) → count ≤ more → (points : List Point) → AreBelow count points → Hold (passing count) points → Hold (passing more) points
@@ -144,7 +152,8 @@ module _ (test : Point → Bool) (is_inlined : ℕ → Bool) (funcs : List Func)
 
 -- ---- what is seen, and what is read in the text
 
-module _ (test : Point → Bool) (reads : Reads) (is_inlined : ℕ → Bool) (inputs : List Input) (funcs : List Func) (planes : Planes) (are : AreFuncs inputs funcs) (simple : AreSimple is_inlined funcs) where
+module _ (test : Point → Bool) (reads : Reads) (is_inlined : ℕ → Bool) (inputs : List Input) (funcs : List Func) (planes : Planes) (are : AreFuncs inputs funcs)
+    (simple : AreSimple is_inlined funcs) where
   abbrev found : ℕ → Reads
   found count = reads_of planes (pixels funcs planes count)
 
@@ -172,7 +181,8 @@ module _ (test : Point → Bool) (reads : Reads) (is_inlined : ℕ → Bool) (in
   -- what a call answers by a function of its arguments
   abbrev Answers : (Seen → Option Seen → Seen) → ℕ → Type 0
   Answers made place = (x : Seen) (y : Option Seen) → ((made x y).value ≡ pixel place x.value (second_value y))
-      × (Hold test (made x y).points → (Hold test x.points × Hold test (second_points y)) × (passes_in (holding place) planes (pixels funcs planes place) (slice_get funcs place) x.value (second_value y) ≡ true))
+      × (Hold test (made x y).points → (Hold test x.points × Hold test (second_points y)) × (passes_in (holding place) planes (pixels funcs planes place)
+      (slice_get funcs place) x.value (second_value y) ≡ true))
 
   abbrev AnswersIn : Option (Seen → Option Seen → Seen) → ℕ → Type 0
   AnswersIn None place = ⊥
@@ -193,7 +203,8 @@ module _ (test : Point → Bool) (reads : Reads) (is_inlined : ℕ → Bool) (in
     Stands s x y a = (a.value ≡ reads s x.value (second_value y))
         × (Hold test a.points → (Hold test x.points × Hold test (second_points y)) × (test (point_at s x.value (second_value y)) ≡ true))
 
-    computed_reaches : (s : Source) (n : ℕ) → is_computed is_inlined s ≡ true → is_read inputs funcs count s n ≡ true → (x : Seen) (y : Option Seen) (a : Seen) → Stands s x y a → Reaches s x y a
+    computed_reaches : (s : Source) (n : ℕ) → is_computed is_inlined s ≡ true → is_read inputs funcs count s n ≡ true → (x : Seen) (y : Option Seen) (a : Seen)
+        → Stands s x y a → Reaches s x y a
     computed_reaches s n is read x y a stands = (
       stands.0 ∙ agrees s n x.value (second_value y) is read,
       λ held. let k = stands.1 held in (k.0, passes_tested test is_inlined funcs planes count s x.value (second_value y) is ∙ k.1),
@@ -208,7 +219,8 @@ module _ (test : Point → Bool) (reads : Reads) (is_inlined : ℕ → Bool) (in
           λ held. let m = k.1 held in (m.0, passes_before test is_inlined funcs planes count place x.value (second_value y) before flag ∙ m.1),
         )
 
-    place_reaches : (flag : Bool) (place n : ℕ) → is_inlined place ≡ flag → is_read inputs funcs count (sources.Func place) n ≡ true → (x : Seen) (y : Option Seen) (a : Seen) → Stands (sources.Func place) x y a
+    place_reaches : (flag : Bool) (place n : ℕ) → is_inlined place ≡ flag → is_read inputs funcs count (sources.Func place) n ≡ true
+        → (x : Seen) (y : Option Seen) (a : Seen) → Stands (sources.Func place) x y a
         → Reaches (sources.Func place) x y (answered a x y (inside (seeing reads) is_inlined funcs count place))
     place_reaches false place n flag read x y a stands =
         rw (inside_computed (seeing reads) is_inlined funcs count place flag) (computed_reaches (sources.Func place) n (ap not flag) read x y a stands)
@@ -216,26 +228,31 @@ module _ (test : Point → Bool) (reads : Reads) (is_inlined : ℕ → Bool) (in
         let k = and_parts (nat_lt place count) (is_func_of (slice_get funcs place) n) read in
         let before = ltb-true place count k.0 in
         rw (inside_before (seeing reads) is_inlined funcs count place before flag)
-        (inlined_reaches place before flag (made_in (seeing reads) (inside (seeing reads) is_inlined funcs place) (slice_get funcs place)) (made place n before k.1 flag) x y a)
+        (inlined_reaches place before flag (made_in (seeing reads) (inside (seeing reads) is_inlined funcs place) (slice_get funcs place))
+        (made place n before k.1 flag) x y a)
 
     reaches : (s : Source) (n : ℕ) → is_read inputs funcs count s n ≡ true → (x : Seen) (y : Option Seen) (a : Seen) → Stands s x y a
         → Reaches s x y (answered a x y (answer (inside (seeing reads) is_inlined funcs count) s))
     reaches (sources.Input place) n read x y a stands = computed_reaches (sources.Input place) n refl read x y a stands
     reaches (sources.Func place) n read x y a stands = place_reaches (is_inlined place) place n refl read x y a stands
 
-    module _ (has : Variable → Bool) (vars : Variable → Seen) (environment : Environment) (are_vars : (v : Variable) → has v ≡ true → (vars v).value ≡ variable environment v) where
-      both_hold : (a b c d : List Point) → (Hold test a → Hold (holding count) c) → (Hold test b → Hold (holding count) d) → Hold test (a ++ b) → Hold (holding count) (c ++ d)
+    module _ (has : Variable → Bool) (vars : Variable → Seen) (environment : Environment) (are_vars : (v : Variable) → has v ≡ true
+        → (vars v).value ≡ variable environment v) where
+      both_hold : (a b c d : List Point) → (Hold test a → Hold (holding count) c) → (Hold test b → Hold (holding count) d) → Hold test (a ++ b)
+          → Hold (holding count) (c ++ d)
       both_hold a b c d f g held =
           let k = all_parts (λ (point : Point). test point ≡ true) a b held in
           all_both (λ (point : Point). holding count point ≡ true) c d (f k.0) (g k.1)
 
       -- a call whose indexes meet
-      call1 : (s : Source) (a b r : Seen) → Meets count a b → Reaches s a None r → Meets count r (record { value = other s b.value 0; points = b.points ++ (point_at s b.value 0 ∷ []) })
+      call1 : (s : Source) (a b r : Seen) → Meets count a b → Reaches s a None r
+          → Meets count r (record { value = other s b.value 0; points = b.points ++ (point_at s b.value 0 ∷ []) })
       unfolding seeing
       call1 s a b r m k = (
         k.0 ∙ ap (λ (x : ℕ). other s x 0) m.0,
         λ held. let h = k.1 held in
-            all_both (λ (point : Point). holding count point ≡ true) b.points (point_at s b.value 0 ∷ []) (m.1 h.0.0) (subst (λ (x : ℕ). holding count (point_at s x 0) ≡ true) m.0 h.1, tt),
+            all_both (λ (point : Point). holding count point ≡ true) b.points (point_at s b.value 0 ∷ []) (m.1 h.0.0)
+            (subst (λ (x : ℕ). holding count (point_at s x 0) ≡ true) m.0 h.1, tt),
       )
 
       call2 : (s : Source) (a b c d r : Seen) → Meets count a b → Meets count c d → Reaches s a (Some c) r
@@ -252,7 +269,11 @@ module _ (test : Point → Bool) (reads : Reads) (is_inlined : ℕ → Bool) (in
       unfolding seeing
       stands1 s a = (refl, λ held. let k = all_parts (λ (point : Point). test point ≡ true) a.points (point_at s a.value 0 ∷ []) held in ((k.0, tt), k.1.0))
 
-      stands2 : (s : Source) (a b : Seen) → Stands s a (Some b) (record { value = reads s a.value b.value; points = (a.points ++ b.points) ++ (point_at s a.value b.value ∷ []) })
+      stands2 : (s : Source) (a b : Seen) → Stands s a (Some b) (record {
+        value = reads s a.value b.value;
+        points = (a.points ++ b.points)
+            ++ (point_at s a.value b.value ∷ []);
+      })
       stands2 s a b = (
         refl,
         λ held.
@@ -261,7 +282,8 @@ module _ (test : Point → Bool) (reads : Reads) (is_inlined : ℕ → Bool) (in
             ((m.0, m.1), k.1.0),
       )
 
-      levels : KeptLevels (Meets count) (is_read inputs funcs count) has (through_at (seeing reads) (inside (seeing reads) is_inlined funcs count) vars) (seen_at other environment)
+      levels : KeptLevels (Meets count) (is_read inputs funcs count) has (through_at (seeing reads) (inside (seeing reads) is_inlined funcs count) vars)
+          (seen_at other environment)
       unfolding seeing
       levels (layer.Number n) kept = (refl, λ held. tt)
       levels (layer.Variable v) kept = (are_vars v kept, λ held. tt)
@@ -272,17 +294,20 @@ module _ (test : Point → Bool) (reads : Reads) (is_inlined : ℕ → Bool) (in
       levels (layer.Divide a n) kept = (ap (λ (x : ℕ). word.divide x n) a.is.0, a.is.1)
       levels (layer.Remainder a n) kept = (ap (λ (x : ℕ). word.remainder x n) a.is.0, a.is.1)
       levels (layer.Select t a b) kept = (
-        ap (λ (x : ℕ). cond (x == 0) b.left.value a.left.value) t.is.0 ∙ ap (λ (x : ℕ). cond (t.right.value == 0) b.left.value x) a.is.0 ∙ ap (λ (x : ℕ). cond (t.right.value == 0) x a.right.value) b.is.0,
+        ap (λ (x : ℕ). cond (x == 0) b.left.value a.left.value) t.is.0 ∙ ap (λ (x : ℕ). cond (t.right.value == 0) b.left.value x) a.is.0
+            ∙ ap (λ (x : ℕ). cond (t.right.value == 0) x a.right.value) b.is.0,
         both_hold t.left.points (a.left.points ++ b.left.points) t.right.points (a.right.points ++ b.right.points) t.is.1
             (both_hold a.left.points b.left.points a.right.points b.right.points a.is.1 b.is.1),
       )
       levels (layer.Call1 s a) kept = call1 s a.left a.right _ a.is (reaches s 1 kept a.left None _ (stands1 s a.left))
       levels (layer.Call2 s a b) kept = call2 s a.left a.right b.left b.right _ a.is b.is (reaches s 2 kept a.left (Some b.left) _ (stands2 s a.left b.left))
 
-      meets : (e : Expr) → keeps (is_read inputs funcs count) has e ≡ true → Meets count (inlined (seeing reads) is_inlined funcs count vars e) (seen other environment e)
+      meets : (e : Expr) → keeps (is_read inputs funcs count) has e ≡ true
+          → Meets count (inlined (seeing reads) is_inlined funcs count vars e) (seen other environment e)
       unfolding through seen
       meets e kept =
-          kept_folds_related (Meets count) (is_read inputs funcs count) has (through_at (seeing reads) (inside (seeing reads) is_inlined funcs count) vars) (seen_at other environment) levels e kept
+          kept_folds_related (Meets count) (is_read inputs funcs count) has (through_at (seeing reads) (inside (seeing reads) is_inlined funcs count) vars)
+          (seen_at other environment) levels e kept
 
   -- ---- inlined Funcs
 
@@ -295,8 +320,10 @@ module _ (test : Point → Bool) (reads : Reads) (is_inlined : ℕ → Bool) (in
 
   -- what is seen of expressions that call the first so many Funcs
   abbrev Within : ℕ → Type 0
-  Within count = (has : Variable → Bool) (vars : Variable → Seen) (environment : Environment) → ((v : Variable) → has v ≡ true → (vars v).value ≡ variable environment v)
-      → (e : Expr) → keeps (is_read inputs funcs count) has e ≡ true → Meets count (inlined (seeing reads) is_inlined funcs count vars e) (seen (found count) environment e)
+  Within count = (has : Variable → Bool) (vars : Variable → Seen) (environment : Environment) → ((v : Variable) → has v ≡ true
+      → (vars v).value ≡ variable environment v)
+      → (e : Expr) → keeps (is_read inputs funcs count) has e ≡ true
+      → Meets count (inlined (seeing reads) is_inlined funcs count vars e) (seen (found count) environment e)
 
   func_at : (place n : ℕ) (own : Option Func) → slice_get funcs place ≡ own → is_func_of own n ≡ true → is_inlined place ≡ true → Within place
       → AnswersIn (made_in (seeing reads) (inside (seeing reads) is_inlined funcs place) own) place
@@ -305,15 +332,19 @@ module _ (test : Point → Bool) (reads : Reads) (is_inlined : ℕ → Bool) (in
   func_at place n (Some func) is ok flag inner = λ x y.
       let second = second_of (none (seeing reads)) y in
       let point = at_point x.value second.value in
-      let m = inner (is_argument (dimensions func)) (arguments (none (seeing reads)) (unread x) (unread second)) point (λ v has. arguments_are x second v) func.pure (are place func is).pure in
+      let m = inner (is_argument (dimensions func)) (arguments (none (seeing reads)) (unread x) (unread second)) point (λ v has. arguments_are x second v)
+      func.pure (are place func is).pure in
       let here : pixel place x.value second.value ≡ value (found place) point func.pure =
       ap (λ (f : Option Func). func_plane place f planes (pixels funcs planes place) x.value second.value) is
       ∙ pure_only reads is_inlined inputs funcs planes are simple place func x.value second.value (length func.updates) (simple place func is flag) in (
         m.0 ∙ values_are_seen (found place) point func.pure ∙ sym here,
         λ held.
             let k = all_parts (λ (p : Point). test p ≡ true) x.points _ held in
-            let l = all_parts (λ (p : Point). test p ≡ true) (second_points y) _ k.1 in
-            ((k.0, l.0), ap (λ (f : Option Func). passes_in (holding place) planes (pixels funcs planes place) f x.value second.value) is ∙ all_hold (holding place) (points_read (found place) point func.pure) (m.1 l.1)),
+            let l = all_parts (λ (p : Point). test p ≡ true) (second_points y) _ k.1 in (
+              (k.0, l.0),
+              ap (λ (f : Option Func). passes_in (holding place) planes (pixels funcs planes place) f x.value second.value) is
+                  ∙ all_hold (holding place) (points_read (found place) point func.pure) (m.1 l.1),
+            ),
       )
 
   finds_pixels : (count : ℕ) → Finds count (found count)
@@ -330,7 +361,8 @@ module _ (test : Point → Bool) (reads : Reads) (is_inlined : ℕ → Bool) (in
 
   -- ---- in an update
 
-  module _ (own : ℕ) (plane : Plane) (computed : is_inlined own ≡ false) (agrees : Agrees own (found own)) (stands : (x y : ℕ) → reads (sources.Func own) x y ≡ plane x y) where
+  module _ (own : ℕ) (plane : Plane) (computed : is_inlined own ≡ false) (agrees : Agrees own (found own)) (stands : (x y : ℕ)
+      → reads (sources.Func own) x y ≡ plane x y) where
     abbrev standing : Reads
     standing = reads_of planes (with_plane own plane (pixels funcs planes own))
 
@@ -362,7 +394,8 @@ pub seen_points_pass : SeenPointsPass
 seen_points_pass test reads is_inlined inputs funcs planes are simple count answers has environment e kept held more few =
     pass_more test is_inlined funcs planes count more few (points_read (reads_of planes (pixels funcs planes count)) environment e)
     (points_below inputs funcs count (reads_of planes (pixels funcs planes count)) environment has e kept)
-    ((within test reads is_inlined inputs funcs planes are simple count count (omega arith) answers has (seen_variable environment) environment (λ v held. refl) e kept).1 held)
+    ((within test reads is_inlined inputs funcs planes are simple count count (omega arith) answers has (seen_variable environment) environment (λ v held. refl)
+    e kept).1 held)
 
 pub seen_points_pass_in_updates : SeenPointsPassInUpdates
 seen_points_pass_in_updates test reads is_inlined inputs funcs planes are simple own plane computed answers stands has environment e kept held more few =
@@ -375,17 +408,22 @@ unfolding stage_trace
 passing_is_closed test is_inlined inputs funcs planes are simple more place x y before flag passed =
     by_func (slice_get funcs place) refl (sym (passes_before test is_inlined funcs planes more place x y before flag) ∙ passed)
   where
-    pure_trace : (func : Func) (updates : ℕ) → updates ≡ 0 → Hold (passes test is_inlined funcs planes more) (points_read (reads_of planes (pixels funcs planes place)) (at_point x y) func.pure)
+    pure_trace : (func : Func) (updates : ℕ) → updates ≡ 0
+        → Hold (passes test is_inlined funcs planes more) (points_read (reads_of planes (pixels funcs planes place)) (at_point x y) func.pure)
         → Hold (passes test is_inlined funcs planes more) (stage_trace place func planes (pixels funcs planes place) untraced updates x y)
-    pure_trace func zero none held = traced_alone (passes test is_inlined funcs planes more) (points_read (reads_of planes (pixels funcs planes place)) (at_point x y) func.pure) held
+    pure_trace func zero none held = traced_alone (passes test is_inlined funcs planes more) (points_read (reads_of planes (pixels funcs planes place))
+        (at_point x y) func.pure) held
     pure_trace func (suc updates) none held = absurd (omega (arith, none))
 
-    by_func : (own : Option Func) → slice_get funcs place ≡ own → passes_in (passes test is_inlined funcs planes place) planes (pixels funcs planes place) (slice_get funcs place) x y ≡ true
+    by_func : (own : Option Func) → slice_get funcs place ≡ own → passes_in (passes test is_inlined funcs planes place) planes (pixels funcs planes place)
+        (slice_get funcs place) x y ≡ true
         → Hold (passes test is_inlined funcs planes more) (func_trace place (slice_get funcs place) planes (pixels funcs planes place) untraced x y)
     by_func None is holds = rw is tt
     by_func (Some func) is holds =
         let read = points_read (reads_of planes (pixels funcs planes place)) (at_point x y) func.pure in
-        let all : list_all (passes test is_inlined funcs planes place) read ≡ true = sym (ap (λ (f : Option Func). passes_in (passes test is_inlined funcs planes place) planes (pixels funcs planes place) f x y) is) ∙ holds in
-        let below = points_below inputs funcs place (reads_of planes (pixels funcs planes place)) (at_point x y) (is_argument (dimensions func)) func.pure (are place func is).pure in
+        let all : list_all (passes test is_inlined funcs planes place) read ≡ true =
+        sym (ap (λ (f : Option Func). passes_in (passes test is_inlined funcs planes place) planes (pixels funcs planes place) f x y) is) ∙ holds in
+        let below = points_below inputs funcs place (reads_of planes (pixels funcs planes place)) (at_point x y) (is_argument (dimensions func)) func.pure
+        (are place func is).pure in
         rw is (pure_trace func (length func.updates) (simple place func is flag)
         (pass_more test is_inlined funcs planes place more (omega (arith, before)) read below (hold_all (passes test is_inlined funcs planes place) read all)))

@@ -46,8 +46,10 @@ module _ (reads other : Reads) where
       let first = all_parts (AgreeAt reads other) x.points (second_points y ++ _) agree in
       let both = all_parts (AgreeAt reads other) (second_points y) _ first.1 in
       through_related Meets (seeing reads) (values other) levels left right answers
-      (arguments (none (seeing reads)) (unread x) (unread (second_of (none (seeing reads)) y))) (arguments (none (values other)) z (second_of (none (values other)) u))
-      (λ v. arguments_related Meets (none (seeing reads)) (unread x) (unread (second_of (none (seeing reads)) y)) (none (values other)) z (second_of (none (values other)) u)
+      (arguments (none (seeing reads)) (unread x) (unread (second_of (none (seeing reads)) y))) (arguments (none (values other)) z
+      (second_of (none (values other)) u))
+      (λ v. arguments_related Meets (none (seeing reads)) (unread x) (unread (second_of (none (seeing reads)) y)) (none (values other)) z
+      (second_of (none (values other)) u)
       (λ all. refl) (λ all. rx first.0) (λ all. second_value y u ry both.0) v) func.pure both.1
 
 pub sees_inlined_values : SeesInlinedValues
@@ -58,5 +60,6 @@ sees_inlined_values reads is_inlined funcs count environment e =
 
 pub inlined_values_depend_on_reads : InlinedValuesDependOnReads
 inlined_values_depend_on_reads reads other is_inlined funcs count environment e agree =
-    inlined_related (Meets reads other) (seeing reads) (values other) (levels reads other) (made reads other) is_inlined funcs count (seen_variable environment) (variable environment) (λ v all. refl) e agree
+    inlined_related (Meets reads other) (seeing reads) (values other) (levels reads other) (made reads other) is_inlined funcs count (seen_variable environment)
+    (variable environment) (λ v all. refl) e agree
     ∙ sees_inlined_values reads is_inlined funcs count environment e

@@ -48,7 +48,8 @@ module _ {A : Type 0} (algebra : Algebra A) (within : Inside A) (variables : Var
   unfolding through
   of_call1 s a is = ap of is ∙ at_call1 A (through_at algebra within variables) s a
 
-  pub of_call2 : (s : Source) (a b : Expr) → expr ≡ e.Call2 s a b → of expr ≡ answered (algebra.level (layer.Call2 s (of a) (of b))) (of a) (Some (of b)) (answer within s)
+  pub of_call2 : (s : Source) (a b : Expr) → expr ≡ e.Call2 s a b → of expr ≡ answered (algebra.level (layer.Call2 s (of a) (of b))) (of a) (Some (of b))
+      (answer within s)
   unfolding through
   of_call2 s a b is = ap of is ∙ at_call2 A (through_at algebra within variables) s a b
 
@@ -60,10 +61,12 @@ module _ {A : Type 0} (algebra : Algebra A) (is_inlined : ℕ → Bool) (funcs :
   unfolding inside
   inside_past zero place past = refl
   inside_past (suc count) place past =
-      let test : (place == count) ≡ false = grind (arith, nat_tests, past) in rw test (by_test (is_inlined place) (inside_past count place (omega (arith, past))))
+      let test : (place == count) ≡ false = grind (arith, nat_tests, past) in
+      rw test (by_test (is_inlined place) (inside_past count place (omega (arith, past))))
     where
       by_test : (b : Bool) → inside algebra is_inlined funcs count place ≡ None
-          → cond (b && false) (made_in algebra (inside algebra is_inlined funcs count) (slice_get funcs count)) (inside algebra is_inlined funcs count place) ≡ None
+          → cond (b && false) (made_in algebra (inside algebra is_inlined funcs count) (slice_get funcs count)) (inside algebra is_inlined funcs count place)
+          ≡ None
       by_test true e = e
       by_test false e = e
 
@@ -81,20 +84,24 @@ module _ {A : Type 0} (algebra : Algebra A) (is_inlined : ℕ → Bool) (funcs :
   ]
 
   -- a call of a Func, by what stands for it
-  pub inside_is : (count place : ℕ) → inside algebra is_inlined funcs count place ≡ made_in algebra (inside algebra is_inlined funcs place) (func_in funcs is_inlined count place)
+  pub inside_is : (count place : ℕ) → inside algebra is_inlined funcs count place ≡ made_in algebra (inside algebra is_inlined funcs place)
+      (func_in funcs is_inlined count place)
   inside_is count place = by_flag (is_inlined place) (nat_lt place count) refl refl
     where
       by_flag : (flag before : Bool) → is_inlined place ≡ flag → nat_lt place count ≡ before
-          → inside algebra is_inlined funcs count place ≡ made_in algebra (inside algebra is_inlined funcs place) (cond (nat_lt place count && is_inlined place) (slice_get funcs place) None)
+          → inside algebra is_inlined funcs count place ≡ made_in algebra (inside algebra is_inlined funcs place) (cond (nat_lt place count && is_inlined place)
+          (slice_get funcs place) None)
       by_flag true true f b = rw b (rw f (inside_before count place (ltb-true place count b) f))
       by_flag false true f b = rw b (rw f (inside_computed algebra is_inlined funcs count place f))
       by_flag flag false f b = rw b (inside_past count place (ltb-false place count b))
 
 -- a Func that is there is one of the first so many
-pub func_in_parts : (funcs : List Func) (is_inlined : ℕ → Bool) (count place : ℕ) (func : Func) → func_in funcs is_inlined count place ≡ Some func → (place < count) × (slice_get funcs place ≡ Some func)
+pub func_in_parts : (funcs : List Func) (is_inlined : ℕ → Bool) (count place : ℕ) (func : Func) → func_in funcs is_inlined count place ≡ Some func
+    → (place < count) × (slice_get funcs place ≡ Some func)
 func_in_parts funcs is_inlined count place func found = by_test (nat_lt place count) (is_inlined place) refl found
   where
-    by_test : (before flag : Bool) → nat_lt place count ≡ before → cond (before && flag) (slice_get funcs place) None ≡ Some func → (place < count) × (slice_get funcs place ≡ Some func)
+    by_test : (before flag : Bool) → nat_lt place count ≡ before → cond (before && flag) (slice_get funcs place) None ≡ Some func
+        → (place < count) × (slice_get funcs place ≡ Some func)
     by_test true true b is = (ltb-true place count b, is)
     by_test true false b is = absurd cc
     by_test false flag b is = absurd cc

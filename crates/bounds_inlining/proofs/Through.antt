@@ -11,7 +11,8 @@ use Rattle.halide_pipeline.specs.declared.expressions.Variable.{Variable}
 use Rattle.halide_pipeline.specs.declared.expressions.Variable.TheVariants as variables
 use Rattle.halide_pipeline.specs.Levels.{Both, left_of, right_of}
 use Rattle.halide_pipeline.proofs.Folds.{folds_related}
-use Rattle.bounds_inlining.specs.Inlining.{Algebra, Inside, none, second_of, arguments, answer, answered, through, through_at, made_of, inside, made_in, inlined}
+use Rattle.bounds_inlining.specs.Inlining.{Algebra, Inside, none, second_of, arguments, answer, answered, through, through_at, made_of, inside, made_in}
+use Rattle.bounds_inlining.specs.Inlining.{inlined}
 use Rattle.bounds_inlining.specs.Laws.{RelatesSeconds, RelatesArguments, RelatesCalls}
 
 abbrev pub is_no_variable : {A : Type 0} → Expr-F A → Bool
@@ -66,8 +67,10 @@ module _ {A B : Type 0} (R : A → B → Type 0) where
         through_levels (layer.Divide a n) = levels (layer.Divide a n) refl
         through_levels (layer.Remainder a n) = levels (layer.Remainder a n) refl
         through_levels (layer.Select t a b) = levels (layer.Select t a b) refl
-        through_levels (layer.Call1 s a) = answered_related (answer left s) (answer right s) (source_answers s) _ a.left None _ a.right None (levels (layer.Call1 s a) refl) a.is tt
-        through_levels (layer.Call2 s a b) = answered_related (answer left s) (answer right s) (source_answers s) _ a.left (Some b.left) _ a.right (Some b.right) (levels (layer.Call2 s a b) refl) a.is b.is
+        through_levels (layer.Call1 s a) = answered_related (answer left s) (answer right s) (source_answers s) _ a.left None _ a.right None
+            (levels (layer.Call1 s a) refl) a.is tt
+        through_levels (layer.Call2 s a b) = answered_related (answer left s) (answer right s) (source_answers s) _ a.left (Some b.left) _ a.right
+            (Some b.right) (levels (layer.Call2 s a b) refl) a.is b.is
 
         pub through_related : (e : Expr) → R (through p left va e) (through q right vb e)
         unfolding through
@@ -75,14 +78,16 @@ module _ {A B : Type 0} (R : A → B → Type 0) where
 
     -- what is made of a Func on both sides, where what answers the calls in it is related
     abbrev pub RelatesMade : Type 0
-    RelatesMade = (left : Inside A) (right : Inside B) → AnswersAll left right → (func : Func) → Answers (Some (made_of p left func)) (Some (made_of q right func))
+    RelatesMade = (left : Inside A) (right : Inside B) → AnswersAll left right → (func : Func)
+        → Answers (Some (made_of p left func)) (Some (made_of q right func))
 
     -- so it is if arguments and calls are
     pub made_related : RelatesArguments R p q → RelatesCalls R p q → RelatesMade
     made_related args calls left right answers func = λ x y z u rx ry.
         let rn = levels (layer.Number 0) refl in
         calls func _ x y _ z u
-        (through_related left right answers (arguments (none p) (p.argument x) (p.argument (second_of (none p) y))) (arguments (none q) (q.argument z) (q.argument (second_of (none q) u)))
+        (through_related left right answers (arguments (none p) (p.argument x) (p.argument (second_of (none p) y))) (arguments (none q) (q.argument z)
+        (q.argument (second_of (none q) u)))
         (arguments_related (none p) (p.argument x) (p.argument (second_of (none p) y)) (none q) (q.argument z) (q.argument (second_of (none q) u)) rn
         (args x z rx) (args (second_of (none p) y) (second_of (none q) u) (seconds_related (none p) y (none q) u rn ry))) func.pure)
         rx ry
@@ -97,12 +102,14 @@ module _ {A B : Type 0} (R : A → B → Type 0) where
       either true f g h k fg hk = fg
       either false f g h k fg hk = hk
 
-      pub inside_related : (is_inlined : ℕ → Bool) (funcs : List Func) (count : ℕ) → AnswersAll (inside p is_inlined funcs count) (inside q is_inlined funcs count)
+      pub inside_related : (is_inlined : ℕ → Bool) (funcs : List Func) (count : ℕ)
+          → AnswersAll (inside p is_inlined funcs count) (inside q is_inlined funcs count)
       unfolding inside
       inside_related is_inlined funcs zero place = tt
       inside_related is_inlined funcs (suc count) place =
           let before = inside_related is_inlined funcs count in
-          either (is_inlined place && place == count) _ _ _ _ (made_answers (inside p is_inlined funcs count) (inside q is_inlined funcs count) before (slice_get funcs count)) (before place)
+          either (is_inlined place && place == count) _ _ _ _ (made_answers (inside p is_inlined funcs count) (inside q is_inlined funcs count) before
+          (slice_get funcs count)) (before place)
 
       pub inlined_related : (is_inlined : ℕ → Bool) (funcs : List Func) (count : ℕ) (va : Variable → A) (vb : Variable → B) → ((v : Variable) → R (va v) (vb v))
           → (e : Expr) → R (inlined p is_inlined funcs count va e) (inlined q is_inlined funcs count vb e)

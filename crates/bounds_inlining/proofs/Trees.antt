@@ -12,7 +12,8 @@ use Rattle.halide_pipeline.specs.WellFormed.{keeps, keeps_at}
 use Rattle.bounds_inlining.specs.Inlining.{is_computed, counting, dropped, dropped_second, need_at, needing}
 use Rattle.bounds_inlining.specs.Values.{values}
 use Rattle.bounds_inlining.specs.Laws.{RelatesLevels, RelatesSeconds, RelatesArguments, RelatesCalls}
-use Rattle.bounds_inlining.specs.Trees.{Tree, all_nodes, need, own_variable, putting, unused, second_unused, CountsAreOfTrees, NeedsAreOfTrees, TreesHaveValues, TreesCallNoInlined}
+use Rattle.bounds_inlining.specs.Trees.{Tree, all_nodes, need, own_variable, putting, unused, second_unused, CountsAreOfTrees, NeedsAreOfTrees, TreesHaveValues}
+use Rattle.bounds_inlining.specs.Trees.{TreesCallNoInlined}
 use Rattle.bounds_inlining.proofs.Kept.{folds_are_related}
 use Rattle.bounds_inlining.proofs.Through.{RelatesAllLevels, made_related, inlined_related}
 
@@ -166,7 +167,8 @@ module _ (is_inlined : ℕ → Bool) (has : Variable → Bool) where
   abbrev CallsComputed : Tree → Tree → Type 0
   CallsComputed tree other = calls_computed tree.expr ≡ true
 
-  level_calls : (level : Expr-F Expr) → calls_computed (roll-Expr level) ≡ keeps_at (λ s n. is_computed is_inlined s) has (map-Expr Expr Bool calls_computed level)
+  level_calls : (level : Expr-F Expr) → calls_computed (roll-Expr level) ≡ keeps_at (λ s n. is_computed is_inlined s) has (map-Expr Expr Bool calls_computed
+      level)
   unfolding keeps
   level_calls level = fold-roll-Expr Bool (keeps_at (λ s n. is_computed is_inlined s) has) level
 
@@ -191,5 +193,6 @@ module _ (is_inlined : ℕ → Bool) (has : Variable → Bool) where
 
 pub trees_call_no_inlined : TreesCallNoInlined
 trees_call_no_inlined is_inlined inputs funcs are count has e kept =
-    folds_are_related (CallsComputed is_inlined has) putting putting is_inlined inputs funcs are (call_levels is_inlined has) (call_arguments is_inlined has) (call_calls is_inlined has)
+    folds_are_related (CallsComputed is_inlined has) putting putting is_inlined inputs funcs are (call_levels is_inlined has) (call_arguments is_inlined has)
+    (call_calls is_inlined has)
     count has own_variable own_variable (λ v held. level_calls is_inlined has (layer.Variable v) ∙ held) e kept

@@ -30,7 +30,8 @@ AreSimple is_inlined funcs = (place : ℕ) (func : Func) → slice_get funcs pla
 -- things. Numbers and divisors are those of a pipeline.
 abbrev pub RelatesLevels : {A B : Type 0} → (A → B → Type 0) → (ℕ → Bool) → Algebra A → Algebra B → Type 0
 RelatesLevels {A} {B} R is_inlined p q = (level : Expr-F (Both R))
-    → keeps_at (λ s n. is_computed is_inlined s) (λ v. false) (map-Expr (Both R) Bool (λ part. true) level) ≡ true → R (p.level (left_of R level)) (q.level (right_of R level))
+    → keeps_at (λ s n. is_computed is_inlined s) (λ v. false) (map-Expr (Both R) Bool (λ part. true) level) ≡ true
+    → R (p.level (left_of R level)) (q.level (right_of R level))
 
 abbrev pub RelatesSeconds : {A B : Type 0} → (A → B → Type 0) → Option A → Option B → Type 0
 RelatesSeconds R None None = Unit {0}

@@ -55,7 +55,8 @@ module _ (sought : ℕ) (inputs : List Input) (funcs : List Func) (flags : List 
     pub own : Func
     pub own_is : slice_get funcs func ≡ Some own
     pub flag : flagged flags func ≡ true
-    pub asked : (lasts : List ℕ) (vars : Variable → Ranged) → asks sought (through (ranging lasts inputs) (inside (ranging lasts inputs) (flagged flags) funcs func) vars own.pure).asked ≡ true
+    pub asked : (lasts : List ℕ) (vars : Variable → Ranged)
+        → asks sought (through (ranging lasts inputs) (inside (ranging lasts inputs) (flagged flags) funcs func) vars own.pure).asked ≡ true
 
   -- What calls this Func asks for the one that is sought, which isn't inlined.
   abbrev pub Leads : ℕ → Type 0
@@ -63,19 +64,23 @@ module _ (sought : ℕ) (inputs : List Input) (funcs : List Func) (flags : List 
 
   module _ (lasts : List ℕ) (x : Ranged) (y : Option Ranged) where
     -- what arguments ask is asked
-    made_kept : (before : Inside Ranged) (found : Option Func) (other : Ranged) → Asks other → (asks sought x.asked ≡ true) ⊎ (asks sought (second_asked y) ≡ true)
+    made_kept : (before : Inside Ranged) (found : Option Func) (other : Ranged) → Asks other
+        → (asks sought x.asked ≡ true) ⊎ (asks sought (second_asked y) ≡ true)
         → Asks (answered other x y (made_in (ranging lasts inputs) before found))
     unfolding ranging
     made_kept before None other asked args = asked
     made_kept before (Some own) other asked (inl e) = asks_first sought x.asked _ e
     made_kept before (Some own) other asked (inr e) = asks_second sought x.asked _ (asks_first sought (second_asked y) _ e)
 
-    kept : (count : ℕ) (s : Source) (other : Ranged) → Asks other → (asks sought x.asked ≡ true) ⊎ (asks sought (second_asked y) ≡ true) → Asks (answered other x y (answer (within lasts count) s))
+    kept : (count : ℕ) (s : Source) (other : Ranged) → Asks other → (asks sought x.asked ≡ true) ⊎ (asks sought (second_asked y) ≡ true)
+        → Asks (answered other x y (answer (within lasts count) s))
     kept count (sources.Input place) other asked args = asked
     kept count (sources.Func place) other asked args =
-        rw (inside_is (ranging lasts inputs) is_inlined funcs count place) (made_kept (within lasts place) (func_in funcs is_inlined count place) other asked args)
+        rw (inside_is (ranging lasts inputs) is_inlined funcs count place) (made_kept (within lasts place) (func_in funcs is_inlined count place) other asked
+        args)
 
-    called : (count func : ℕ) → func < count → Leads func → (other : Ranged) → (func ≡ sought → Asks other) → Asks (answered other x y (within lasts count func))
+    called : (count func : ℕ) → func < count → Leads func → (other : Ranged) → (func ≡ sought → Asks other)
+        → Asks (answered other x y (within lasts count func))
     unfolding ranging
     called count func before (inl own) other asked = rw (inside_computed (ranging lasts inputs) is_inlined funcs count func own.1) (asked own.0)
     called count func before (inr put) other asked =
@@ -91,7 +96,8 @@ module _ (sought : ℕ) (inputs : List Input) (funcs : List Func) (flags : List 
 
     module _ (lasts : List ℕ) where
       -- a call of it, where what isn't inlined asks what arguments ask and then for the source itself
-      call_asks : (s : Source) (x : Ranged) (y : Option Ranged) (other : Ranged) → (same_source s (sources.Func sought) ≡ true → Asks other) → is_func func s ≡ true
+      call_asks : (s : Source) (x : Ranged) (y : Option Ranged) (other : Ranged) → (same_source s (sources.Func sought) ≡ true → Asks other)
+          → is_func func s ≡ true
           → Asks (answered other x y (answer (within lasts count) s))
       call_asks s x y other asked e =
           subst (λ (t : Source). Asks (answered other x y (answer (within lasts count) t))) (sym (source_is s e))
@@ -105,7 +111,8 @@ module _ (sought : ℕ) (inputs : List Input) (funcs : List Func) (flags : List 
       R test part = test ≡ true → Asks part
 
       module _ (vars : Variable → Ranged) where
-        levels : (level : Expr-F (Both R)) → R (calls_at func (left_of R level)) (through_at (ranging lasts inputs) (within lasts count) vars (right_of R level))
+        levels : (level : Expr-F (Both R)) → R (calls_at func (left_of R level)) (through_at (ranging lasts inputs) (within lasts count) vars
+            (right_of R level))
         unfolding ranging
         levels (layer.Number n) e = absurd cc
         levels (layer.Variable v) e = absurd cc
@@ -129,12 +136,15 @@ module _ (sought : ℕ) (inputs : List Input) (funcs : List Func) (flags : List 
         levels (layer.Call2 s a b) e = elim (or_cases (is_func func s || a.left) b.left e) [
           | inl l ↦ elim (or_cases (is_func func s) a.left l) [
             | inl m ↦ call_asks s a.right (Some b.right) _ (own_read (a.right.asked ++ b.right.asked) _) m
-            | inr m ↦ kept lasts a.right (Some b.right) count s _ (asks_first sought (a.right.asked ++ b.right.asked) _ (asks_first sought a.right.asked b.right.asked (a.is m))) (inl (a.is m))
+            | inr m ↦ kept lasts a.right (Some b.right) count s _ (asks_first sought (a.right.asked ++ b.right.asked) _ (asks_first sought a.right.asked
+                b.right.asked (a.is m))) (inl (a.is m))
           ]
-          | inr r ↦ kept lasts a.right (Some b.right) count s _ (asks_first sought (a.right.asked ++ b.right.asked) _ (asks_second sought a.right.asked b.right.asked (b.is r))) (inr (b.is r))
+          | inr r ↦ kept lasts a.right (Some b.right) count s _ (asks_first sought (a.right.asked ++ b.right.asked) _ (asks_second sought a.right.asked
+              b.right.asked (b.is r))) (inr (b.is r))
         ]
 
-        pub expression_asks : (e : Expr) → calls func e ≡ true → asks sought (through (ranging lasts inputs) (inside (ranging lasts inputs) (flagged flags) funcs count) vars e).asked ≡ true
+        pub expression_asks : (e : Expr) → calls func e ≡ true
+            → asks sought (through (ranging lasts inputs) (inside (ranging lasts inputs) (flagged flags) funcs count) vars e).asked ≡ true
         unfolding calls through
         expression_asks e = folds_related R (calls_at func) (through_at (ranging lasts inputs) (within lasts count) vars) levels e
 
@@ -151,7 +161,8 @@ module _ (sought : ℕ) (inputs : List Input) (funcs : List Func) (flags : List 
         vars_where around = unasked_variable (ranges_where lasts ranges around)
 
         both_ways : (level : Expr-F (Both BothWays))
-            → BothWays (calls_at func (left_of BothWays level)) (λ around. through_at (ranging lasts inputs) (within lasts count) (vars_where around) (chosen own around (right_of BothWays level)))
+            → BothWays (calls_at func (left_of BothWays level)) (λ around. through_at (ranging lasts inputs) (within lasts count) (vars_where around)
+            (chosen own around (right_of BothWays level)))
         both_ways (layer.Number n) e around = levels (vars_where around) (layer.Number n) e
         both_ways (layer.Variable v) e around = levels (vars_where around) (layer.Variable v) e
         both_ways (layer.Binary op a b) e around = levels (vars_where around) (layer.Binary op (at around a) (at around b)) e
@@ -160,31 +171,38 @@ module _ (sought : ℕ) (inputs : List Input) (funcs : List Func) (flags : List 
         both_ways (layer.Select c a b) e around = levels (vars_where around) (layer.Select (at around c) (at around a) (at around b)) e
         both_ways (layer.Call1 s a) e around = levels (vars_where around) (layer.Call1 s (at (is_anywhere own around s own.first_in_place) a)) e
         both_ways (layer.Call2 s a b) e around =
-            levels (vars_where around) (layer.Call2 s (at (is_anywhere own around s own.first_in_place) a) (at (is_anywhere own around s own.second_in_place) b)) e
+            levels (vars_where around) (layer.Call2 s (at (is_anywhere own around s own.first_in_place) a) (at (is_anywhere own around s own.second_in_place)
+            b)) e
 
-        update_part_asks : (e : Expr) → calls func e ≡ true → (around : Bool) → asks sought (ranged_update lasts inputs is_inlined funcs count own ranges e around).asked ≡ true
+        update_part_asks : (e : Expr) → calls func e ≡ true → (around : Bool)
+            → asks sought (ranged_update lasts inputs is_inlined funcs count own ranges e around).asked ≡ true
         unfolding calls ranged_update
         update_part_asks e =
-            folds_related BothWays (calls_at func) (λ level around. through_at (ranging lasts inputs) (within lasts count) (vars_where around) (chosen own around level)) both_ways e
+            folds_related BothWays (calls_at func) (λ level around. through_at (ranging lasts inputs) (within lasts count) (vars_where around)
+            (chosen own around level)) both_ways e
 
   -- ---- a later Func that calls such a Func
 
   module _ (func place : ℕ) (before : func < place) (leads : Leads func) (view : SourceBox) where
-    second_asks : (update : Update) (index : Option Expr) → second_calls func index ≡ true → asks sought (second_left inputs funcs flags place view update index).asked ≡ true
+    second_asks : (update : Update) (index : Option Expr) → second_calls func index ≡ true
+        → asks sought (second_left inputs funcs flags place view update index).asked ≡ true
     unfolding left
     second_asks update None e = absurd cc
-    second_asks update (Some index) e = update_part_asks func place before leads view.lasts (own_calls place update) (range_of (update_variables view update)) index e true
+    second_asks update (Some index) e = update_part_asks func place before leads view.lasts (own_calls place update) (range_of (update_variables view update))
+        index e true
 
     update_asks : (update : Update) → update_calls func update ≡ true → asks sought (update_asked inputs funcs flags place view update) ≡ true
     unfolding update_asked left right
     update_asks update e = elim (or_cases (calls func update.left_x || second_calls func update.left_y) (calls func update.right) e) [
       | inl l ↦ elim (or_cases (calls func update.left_x) (second_calls func update.left_y) l) [
-        | inl m ↦ asks_first sought first _ (update_part_asks func place before leads view.lasts (own_calls place update) (range_of (update_variables view update)) update.left_x m true)
+        | inl m ↦ asks_first sought first _ (update_part_asks func place before leads view.lasts (own_calls place update)
+            (range_of (update_variables view update)) update.left_x m true)
         | inr m ↦ asks_second sought first _ (asks_first sought second _ (second_asks update update.left_y m))
       ]
       | inr r ↦ asks_second sought first _ (asks_second sought second _
           (or_right _ (asks sought (right inputs funcs flags place view update).asked)
-          (update_part_asks func (suc place) (omega (arith, before)) leads view.lasts (own_calls place update) (range_of (update_variables view update)) update.right r false)))
+          (update_part_asks func (suc place) (omega (arith, before)) leads view.lasts (own_calls place update) (range_of (update_variables view update))
+          update.right r false)))
     ]
       where
         first : List Asked

@@ -1,5 +1,6 @@
 -- What is known of a Func that has a box, and of the box of an input.
-use Rattle.std.proofs.Common.{◌≡◌, ℕ, zero, suc, ◌+◌, ◌-◌, ◌^◌, ◌<◌, Bool, true, false, cond, List, [], ◌∷◌, Option, Some, None, refl, sym, ap, ◌∙◌, subst, arith}
+use Rattle.std.proofs.Common.{◌≡◌, ℕ, zero, suc, ◌+◌, ◌-◌, ◌^◌, ◌<◌, Bool, true, false, cond, List, [], ◌∷◌, Option, Some, None, refl, sym, ap, ◌∙◌, subst}
+use Rattle.std.proofs.Common.{arith}
 use Rattle.std.specs.Prelude.{◌&&◌, nat_le, nat_lt, not, slice_get, Result, Ok, Err}
 use Rattle.std.proofs.lemmas.Bool.{and_parts, leb-true, ltb-true}
 use Rattle.halide_pipeline.specs.declared.definitions.Func.{Func}
@@ -41,16 +42,21 @@ front_stays false own behind found e = absurd cc
 
 module _ (pipeline : Pipeline) (schedule : Schedule) (flags : List Bool) where
   near_step : (at : ℕ) (func : Func) (others : List Func) (rest : Option (List (Option SourceBox))) (found : List (Option SourceBox))
-      → ((behind : List (Option SourceBox)) → rest ≡ Some behind → (before : ℕ) (own : SourceBox) → slice_get behind before ≡ Some (Some own) → is_near own ≡ true)
-      → with_func pipeline schedule flags at func rest ≡ Some found → (before : ℕ) (own : SourceBox) → slice_get found before ≡ Some (Some own) → is_near own ≡ true
+      → ((behind : List (Option SourceBox)) → rest ≡ Some behind → (before : ℕ) (own : SourceBox) → slice_get behind before ≡ Some (Some own)
+      → is_near own ≡ true)
+      → with_func pipeline schedule flags at func rest ≡ Some found → (before : ℕ) (own : SourceBox) → slice_get found before ≡ Some (Some own)
+      → is_near own ≡ true
   near_step at func others None found next e before own there = absurd cc
   near_step at func others (Some behind) found next e before own there =
-      by_place before (ap (λ (l : List (Option SourceBox)). slice_get l before) (in_front_is (func_box pipeline schedule flags at func behind (slice_get schedule.standings at)) behind found e) ∙ there)
+      by_place before (ap (λ (l : List (Option SourceBox)). slice_get l before) (in_front_is (func_box pipeline schedule flags at func behind
+      (slice_get schedule.standings at)) behind found e) ∙ there)
     where
-      by_place : (k : ℕ) → slice_get (func_box pipeline schedule flags at func behind (slice_get schedule.standings at) ∷ behind) k ≡ Some (Some own) → is_near own ≡ true
+      by_place : (k : ℕ) → slice_get (func_box pipeline schedule flags at func behind (slice_get schedule.standings at) ∷ behind) k ≡ Some (Some own)
+          → is_near own ≡ true
       by_place zero is =
           ap stays (sym (got (func_box pipeline schedule flags at func behind (slice_get schedule.standings at)) (Some own) is))
-          ∙ front_stays (stays (func_box pipeline schedule flags at func behind (slice_get schedule.standings at))) (func_box pipeline schedule flags at func behind (slice_get schedule.standings at)) behind found e
+          ∙ front_stays (stays (func_box pipeline schedule flags at func behind (slice_get schedule.standings at))) (func_box pipeline schedule flags at func
+          behind (slice_get schedule.standings at)) behind found e
       by_place (suc k) is = next behind refl k own is
 
   nothing_there : (found : List (Option SourceBox)) → [] ≡ found → (before : ℕ) (own : Option SourceBox) → slice_get found before ≡ Some own → ⊥
@@ -82,56 +88,62 @@ pub record HasBox (pipeline : Pipeline) (schedule : Schedule) (boxes : Boxes) (p
   pub near : is_near own ≡ true
   pub lasts : own.lasts ≡ lasts_of (consumer_in schedule boxes.funcs standing.place)
 
-module _ (pipeline : Pipeline) (schedule : Schedule) (boxes : Boxes) (accepted : IsAccepted pipeline schedule) (is : inferred pipeline schedule ≡ Ok boxes) where
-  flags : List Bool
-  flags = flags_of schedule.standings
+module _ (pipeline : Pipeline) (schedule : Schedule) (boxes : Boxes) (accepted : IsAccepted pipeline schedule) (is : inferred pipeline schedule ≡ Ok boxes)
+  where
+    flags : List Bool
+    flags = flags_of schedule.standings
 
-  produced : (place : ℕ) (own : Standing) → slice_get schedule.standings place ≡ Some own → IsProduced pipeline schedule.funcs place own
-  produced place own found =
-      let here : 0 + place ≡ place = omega arith in
-      subst (λ (n : ℕ). IsProduced pipeline schedule.funcs n own) here (numbered_at (IsProduced pipeline schedule.funcs) 0 schedule.standings accepted.consumers place own found)
+    produced : (place : ℕ) (own : Standing) → slice_get schedule.standings place ≡ Some own → IsProduced pipeline schedule.funcs place own
+    produced place own found =
+        let here : 0 + place ≡ place = omega arith in
+        subst (λ (n : ℕ). IsProduced pipeline schedule.funcs n own) here (numbered_at (IsProduced pipeline schedule.funcs) 0 schedule.standings
+        accepted.consumers
+        place own found)
 
-  placed_so : (place : ℕ) (own : Standing) → slice_get schedule.standings place ≡ Some own → (func : Func) (behind : List (Option SourceBox)) (box : SourceBox)
-      → (where_ : Place) → own.place ≡ where_ → Some box ≡ placed_box pipeline schedule flags place func behind where_ → IsComputed place where_
-  placed_so place own found func behind box places.Root e some = tt
-  placed_so place own found func behind box (places.At consumer) e some = (produced place own found consumer e).later
-  placed_so place own found func behind box places.Inlined e some = absurd cc
-  placed_so place own found func behind box places.Nowhere e some = absurd cc
+    placed_so : (place : ℕ) (own : Standing) → slice_get schedule.standings place ≡ Some own
+        → (func : Func) (behind : List (Option SourceBox)) (box : SourceBox)
+        → (where_ : Place) → own.place ≡ where_ → Some box ≡ placed_box pipeline schedule flags place func behind where_ → IsComputed place where_
+    placed_so place own found func behind box places.Root e some = tt
+    placed_so place own found func behind box (places.At consumer) e some = (produced place own found consumer e).later
+    placed_so place own found func behind box places.Inlined e some = absurd cc
+    placed_so place own found func behind box places.Nowhere e some = absurd cc
 
-  module _ (place : ℕ) (own : SourceBox) (at : IsAt pipeline schedule flags 0 place pipeline.funcs boxes.funcs (Some own)) (near : is_near own ≡ true) where
-    by_reached : (standing : Standing) → slice_get schedule.standings place ≡ Some standing → (reached : Bool) → standing.is_reached ≡ reached
-        → Some own ≡ cond reached (placed_box pipeline schedule flags place at.func at.behind standing.place) None → HasBox pipeline schedule boxes place own
-    by_reached standing found false r e = absurd cc
-    by_reached standing found true r e =
-        let computed = placed_so place standing found at.func at.behind own standing.place refl e in
-        let consumer = consumer_in schedule boxes.funcs standing.place in
-        let spread = read_from pipeline schedule flags (place + 1) consumer (sources.Func place) at.behind (own_updates pipeline flags place consumer (wanted pipeline.output place consumer) at.func.updates) in
-        record {
-          func = at.func;
-          func_is = at.func_is;
-          standing = standing;
-          there = record { standing = found; reached = r };
-          computed = computed;
-          near = near;
-          lasts = lasts_by (lasts_of consumer) spread.x spread.y own
-              (sym (e ∙ sym (ap (λ (s : Option Standing). func_box pipeline schedule flags place at.func at.behind s) found
-              ∙ ap (λ (test : Bool). cond test (placed_box pipeline schedule flags place at.func at.behind standing.place) None) r)
-              ∙ sought_is pipeline schedule flags boxes.funcs place at.func at.behind at.later standing found r computed));
-        }
+    module _ (place : ℕ) (own : SourceBox) (at : IsAt pipeline schedule flags 0 place pipeline.funcs boxes.funcs (Some own)) (near : is_near own ≡ true) where
+      by_reached : (standing : Standing) → slice_get schedule.standings place ≡ Some standing → (reached : Bool) → standing.is_reached ≡ reached
+          → Some own ≡ cond reached (placed_box pipeline schedule flags place at.func at.behind standing.place) None → HasBox pipeline schedule boxes place own
+      by_reached standing found false r e = absurd cc
+      by_reached standing found true r e =
+          let computed = placed_so place standing found at.func at.behind own standing.place refl e in
+          let consumer = consumer_in schedule boxes.funcs standing.place in
+          let spread = read_from pipeline schedule flags (place + 1) consumer (sources.Func place) at.behind (own_updates pipeline flags place consumer
+          (wanted pipeline.output place consumer) at.func.updates) in
+          record {
+            func = at.func;
+            func_is = at.func_is;
+            standing = standing;
+            there = record { standing = found; reached = r };
+            computed = computed;
+            near = near;
+            lasts = lasts_by (lasts_of consumer) spread.x spread.y own
+                (sym (e ∙ sym (ap (λ (s : Option Standing). func_box pipeline schedule flags place at.func at.behind s) found
+                ∙ ap (λ (test : Bool). cond test (placed_box pipeline schedule flags place at.func at.behind standing.place) None) r)
+                ∙ sought_is pipeline schedule flags boxes.funcs place at.func at.behind at.later standing found r computed));
+          }
 
-    by_standing : (standing : Option Standing) → slice_get schedule.standings place ≡ standing → Some own ≡ func_box pipeline schedule flags place at.func at.behind standing → HasBox pipeline schedule boxes place own
-    by_standing None found e = absurd cc
-    by_standing (Some standing) found e = by_reached standing found standing.is_reached refl e
+      by_standing : (standing : Option Standing) → slice_get schedule.standings place ≡ standing
+          → Some own ≡ func_box pipeline schedule flags place at.func at.behind standing → HasBox pipeline schedule boxes place own
+      by_standing None found e = absurd cc
+      by_standing (Some standing) found e = by_reached standing found standing.is_reached refl e
 
-  pub has_box : (place : ℕ) (own : SourceBox) → slice_get boxes.funcs place ≡ Some (Some own) → HasBox pipeline schedule boxes place own
-  unfolding flags
-  has_box place own there =
-      let found = are_found pipeline schedule boxes is in
-      let at = boxes_at pipeline schedule flags 0 pipeline.funcs boxes.funcs found.funcs place (Some own) there in
-      let near = near_in pipeline schedule flags 0 pipeline.funcs boxes.funcs found.funcs place own there in
-      let here : 0 + place ≡ place = omega arith in
-      by_standing place own at near (slice_get schedule.standings place) refl
-      (at.own_is ∙ ap (λ (n : ℕ). func_box pipeline schedule flags n at.func at.behind (slice_get schedule.standings n)) here)
+    pub has_box : (place : ℕ) (own : SourceBox) → slice_get boxes.funcs place ≡ Some (Some own) → HasBox pipeline schedule boxes place own
+    unfolding flags
+    has_box place own there =
+        let found = are_found pipeline schedule boxes is in
+        let at = boxes_at pipeline schedule flags 0 pipeline.funcs boxes.funcs found.funcs place (Some own) there in
+        let near = near_in pipeline schedule flags 0 pipeline.funcs boxes.funcs found.funcs place own there in
+        let here : 0 + place ≡ place = omega arith in
+        by_standing place own at near (slice_get schedule.standings place) refl
+        (at.own_is ∙ ap (λ (n : ℕ). func_box pipeline schedule flags n at.func at.behind (slice_get schedule.standings n)) here)
 
 -- ---- points of a box are near
 
@@ -151,7 +163,8 @@ near_points own values x y below near l =
 
 -- ---- what is judged
 
-passed_test : (test : Bool) (wrong : BoundsFault) (next : Result Boxes BoundsFault) (boxes : Boxes) → cond (not test) (Err wrong) next ≡ Ok boxes → (test ≡ true) × (next ≡ Ok boxes)
+passed_test : (test : Bool) (wrong : BoundsFault) (next : Result Boxes BoundsFault) (boxes : Boxes) → cond (not test) (Err wrong) next ≡ Ok boxes
+    → (test ≡ true) × (next ≡ Ok boxes)
 passed_test true wrong next boxes e = (refl, e)
 passed_test false wrong next boxes e = absurd cc
 
@@ -167,7 +180,8 @@ pub record IsJudged (pipeline : Pipeline) (schedule : Schedule) (boxes : Boxes) 
 module _ (pipeline : Pipeline) (schedule : Schedule) (boxes : Boxes) where
   judged_so : (funcs inputs : List (Option SourceBox)) → judged pipeline schedule funcs inputs ≡ Ok boxes → IsJudged pipeline schedule boxes
   judged_so funcs inputs e =
-      let a = passed_test (inputs_hold pipeline.inputs inputs) faults.InputExtents (cond (not (shifts_hold schedule.funcs funcs)) (Err faults.ShortShift) (sized (boxes_of pipeline schedule funcs inputs))) boxes e in
+      let a = passed_test (inputs_hold pipeline.inputs inputs) faults.InputExtents (cond (not (shifts_hold schedule.funcs funcs)) (Err faults.ShortShift)
+      (sized (boxes_of pipeline schedule funcs inputs))) boxes e in
       let b = passed_test (shifts_hold schedule.funcs funcs) faults.ShortShift (sized (boxes_of pipeline schedule funcs inputs)) boxes a.1 in
       let own = boxes_of pipeline schedule funcs inputs in
       let c = kept_is (have_few_points own.inputs && (have_few_points own.funcs && nat_le own.layout.size 33554432)) own boxes faults.TooLarge b.1 in
@@ -177,7 +191,8 @@ module _ (pipeline : Pipeline) (schedule : Schedule) (boxes : Boxes) where
         few = ap (λ (l : Boxes). have_few_points l.inputs && (have_few_points l.funcs && nat_le l.layout.size 33554432)) (sym c.1) ∙ c.0;
       }
 
-  inputs_so : (funcs : List (Option SourceBox)) (inputs : Option (List (Option SourceBox))) → with_inputs pipeline schedule funcs inputs ≡ Ok boxes → IsJudged pipeline schedule boxes
+  inputs_so : (funcs : List (Option SourceBox)) (inputs : Option (List (Option SourceBox))) → with_inputs pipeline schedule funcs inputs ≡ Ok boxes
+      → IsJudged pipeline schedule boxes
   inputs_so funcs None e = absurd cc
   inputs_so funcs (Some inputs) e = judged_so funcs inputs e
 
@@ -200,16 +215,20 @@ input_at (first ∷ inputs) (None ∷ boxes) (suc place) input own held i b = in
 input_at (first ∷ inputs) (Some other ∷ boxes) zero input own held i b =
     let same_input = got first input i in
     let same_box = got other own (got (Some other) (Some own) b) in
-    ap (λ (n : Input). input_holds n own) (sym same_input) ∙ ap (λ (c : SourceBox). input_holds first c) (sym same_box) ∙ (and_parts (input_holds first other) (inputs_hold inputs boxes) held).0
-input_at (first ∷ inputs) (Some other ∷ boxes) (suc place) input own held i b = input_at inputs boxes place input own (and_parts (input_holds first other) (inputs_hold inputs boxes) held).1 i b
+    ap (λ (n : Input). input_holds n own) (sym same_input) ∙ ap (λ (c : SourceBox). input_holds first c) (sym same_box)
+    ∙ (and_parts (input_holds first other) (inputs_hold inputs boxes) held).0
+input_at (first ∷ inputs) (Some other ∷ boxes) (suc place) input own held i b = input_at inputs boxes place input own (and_parts (input_holds first other)
+    (inputs_hold inputs boxes) held).1 i b
 
-one_within : (lasts values : List ℕ) (range : Range) (x extent : ℕ) → Below values lasts → is_within lasts range extent ≡ true → Lies lasts values range x → x < extent
+one_within : (lasts values : List ℕ) (range : Range) (x extent : ℕ) → Below values lasts → is_within lasts range extent ≡ true → Lies lasts values range x
+    → x < extent
 one_within lasts values range x extent below within l =
     let s = widened_stands lasts values below range x l in
     let k = and_parts (nat_le origin (widened lasts range).low) (nat_lt (widened lasts range).high (origin + extent)) within in
     omega (arith, s.low, s.high, leb-true origin (widened lasts range).low k.0, ltb-true (widened lasts range).high (origin + extent) k.1, l.word)
 
-pub points_within : (input : Input) (own : SourceBox) (values : List ℕ) (x y : ℕ) → Below values own.lasts → input_holds input own ≡ true → LiesIn values own x y → (x < input.width) × (y < input.height)
+pub points_within : (input : Input) (own : SourceBox) (values : List ℕ) (x y : ℕ) → Below values own.lasts → input_holds input own ≡ true
+    → LiesIn values own x y → (x < input.width) × (y < input.height)
 points_within input own values x y below held l =
     let k = and_parts (is_within own.lasts own.x input.width) (is_within own.lasts own.y input.height) held in
     (one_within own.lasts values own.x x input.width below k.0 l.first, one_within own.lasts values own.y y input.height below k.1 l.second)
@@ -225,7 +244,8 @@ shifts_at (first ∷ plans) (None ∷ boxes) (suc place) plan own held p b = shi
 shifts_at (first ∷ plans) (Some other ∷ boxes) zero plan own held p b =
     let same_plan = got first plan p in
     let same_box = got other own (got (Some other) (Some own) b) in
-    ap (λ (q : FuncPlan). shifts_fit (extents_of own) q.pure.splits) (sym same_plan) ∙ ap (λ (c : SourceBox). shifts_fit (extents_of c) first.pure.splits) (sym same_box)
+    ap (λ (q : FuncPlan). shifts_fit (extents_of own) q.pure.splits) (sym same_plan) ∙ ap (λ (c : SourceBox). shifts_fit (extents_of c) first.pure.splits)
+    (sym same_box)
     ∙ (and_parts (shifts_fit (extents_of other) first.pure.splits) (shifts_hold plans boxes) held).0
 shifts_at (first ∷ plans) (Some other ∷ boxes) (suc place) plan own held p b =
     shifts_at plans boxes place plan own (and_parts (shifts_fit (extents_of other) first.pure.splits) (shifts_hold plans boxes) held).1 p b

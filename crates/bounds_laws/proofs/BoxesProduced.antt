@@ -1,5 +1,6 @@
 -- Boxes have two ends, are near and are over the loops of their consumers; what stages visit lies in them.
-use Rattle.std.proofs.Common.{◌≡◌, ℕ, zero, suc, ◌+◌, ◌-◌, ◌^◌, ◌<◌, Bool, true, false, cond, List, [], ◌∷◌, Option, Some, None, refl, sym, ap, ◌∙◌, subst, arith}
+use Rattle.std.proofs.Common.{◌≡◌, ℕ, zero, suc, ◌+◌, ◌-◌, ◌^◌, ◌<◌, Bool, true, false, cond, List, [], ◌∷◌, Option, Some, None, refl, sym, ap, ◌∙◌, subst}
+use Rattle.std.proofs.Common.{arith}
 use Rattle.std.specs.Prelude.{nat_le, nat_lt, slice_get}
 use Rattle.std.proofs.lemmas.Bool.{and_parts, leb-true, ltb-true}
 use Rattle.halide_pipeline.specs.declared.definitions.Func.{Func}
@@ -41,7 +42,8 @@ over_by lasts (Some a) (Some b) own e fa fb =
     let same : own ≡ record { x = a; y = b; lasts = lasts } = cc in
     subst (λ (o : SourceBox). IsOver lasts o) (sym same) (record { lasts_are = refl; x = fa; y = fb })
 
-over : (consumer : Option ConsumerLoop) (spread : Spread) (own : SourceBox) → IsSpread (lasts_of consumer) spread → Some own ≡ spread_box consumer spread → IsOver (lasts_of consumer) own
+over : (consumer : Option ConsumerLoop) (spread : Spread) (own : SourceBox) → IsSpread (lasts_of consumer) spread → Some own ≡ spread_box consumer spread
+    → IsOver (lasts_of consumer) own
 over consumer spread own fits e = over_by (lasts_of consumer) spread.x spread.y own e fits.x fits.y
 
 -- ---- near
@@ -50,7 +52,8 @@ module _ (pipeline : Pipeline) (schedule : Schedule) (flags : List Bool) where
   abbrev Near : List (Option SourceBox) → Type 0
   Near found = (before : ℕ) (own : Option SourceBox) → slice_get found before ≡ Some own → stays own ≡ true
 
-  front_by : (test : Bool) (own : Option SourceBox) (behind found : List (Option SourceBox)) → stays own ≡ test → cond test (Some (own ∷ behind)) None ≡ Some found → Near behind → Near (own ∷ behind)
+  front_by : (test : Bool) (own : Option SourceBox) (behind found : List (Option SourceBox)) → stays own ≡ test
+      → cond test (Some (own ∷ behind)) None ≡ Some found → Near behind → Near (own ∷ behind)
   front_by false own behind found t e near before other there = absurd cc
   front_by true own behind found t e near zero other there = ap stays (got other own (sym there)) ∙ t
   front_by true own behind found t e near (suc before) other there = near before other there
@@ -60,7 +63,8 @@ module _ (pipeline : Pipeline) (schedule : Schedule) (flags : List Bool) where
   nothing [] e (suc before) own there = absurd cc
   nothing (other ∷ found) e before own there = absurd cc
 
-  step : (at : ℕ) (func : Func) (rest : Option (List (Option SourceBox))) (found : List (Option SourceBox)) → ((behind : List (Option SourceBox)) → rest ≡ Some behind → Near behind)
+  step : (at : ℕ) (func : Func) (rest : Option (List (Option SourceBox))) (found : List (Option SourceBox)) → ((behind : List (Option SourceBox))
+      → rest ≡ Some behind → Near behind)
       → with_func pipeline schedule flags at func rest ≡ Some found → Near found
   step at func None found next e = absurd cc
   step at func (Some behind) found next e =
@@ -69,7 +73,8 @@ module _ (pipeline : Pipeline) (schedule : Schedule) (flags : List Bool) where
 
   near_from : (at : ℕ) (funcs : List Func) (found : List (Option SourceBox)) → boxes_from pipeline schedule flags at funcs ≡ Some found → Near found
   near_from at [] found e = nothing found (got [] found e)
-  near_from at (func ∷ others) found e = step at func (boxes_from pipeline schedule flags (at + 1) others) found (λ behind is. near_from (at + 1) others behind is) e
+  near_from at (func ∷ others) found e = step at func (boxes_from pipeline schedule flags (at + 1) others) found (λ behind is. near_from (at + 1) others behind
+      is) e
 
 pub boxes_are_produced : BoxesAreProduced
 boxes_are_produced pipeline schedule boxes is place sought there reached computed own own_is =
@@ -78,16 +83,23 @@ boxes_are_produced pipeline schedule boxes is place sought there reached compute
     let found = gathered_at pipeline schedule boxes is place sought there reached computed consumer refl (Some own) own_is in
     let begun = own_updates pipeline flags place consumer (wanted pipeline.output place consumer) found.func.updates in
     let fits : IsSpread (lasts_of consumer) (read_from pipeline schedule flags (place + 1) consumer (sources.Func place) found.behind begun) =
-    from_fits pipeline schedule flags consumer (sources.Func place) (place + 1) found.behind begun (updates_fit pipeline flags place consumer (wanted pipeline.output place consumer) found.func.updates (wanted_fits pipeline.output place consumer)) in
+    from_fits pipeline schedule flags consumer (sources.Func place) (place + 1) found.behind begun (updates_fit pipeline flags place consumer
+    (wanted pipeline.output place consumer) found.func.updates (wanted_fits pipeline.output place consumer)) in
     let over_it = over consumer (read_from pipeline schedule flags (place + 1) consumer (sources.Func place) found.behind begun) own fits found.box_is in
     record {
-      box = record { x = over_it.x; y = over_it.y; near = near_from pipeline schedule flags 0 pipeline.funcs boxes.funcs (are_found pipeline schedule boxes is).funcs place (Some own) own_is };
+      box = record {
+        x = over_it.x;
+        y = over_it.y;
+        near = near_from pipeline schedule flags 0 pipeline.funcs boxes.funcs (are_found pipeline schedule boxes
+            is).funcs place (Some own) own_is;
+      };
       lasts = over_it.lasts_are;
     }
 
 -- ---- points
 
-one_near : (lasts values : List ℕ) → Below values lasts → (range : Range) → are_near (widened lasts range) ≡ true → (x : ℕ) → Lies lasts values range x → IsNear x
+one_near : (lasts values : List ℕ) → Below values lasts → (range : Range) → are_near (widened lasts range) ≡ true → (x : ℕ) → Lies lasts values range x
+    → IsNear x
 one_near lasts values below range near x lies =
     let ends = widened lasts range in
     let parts = and_parts (nat_le (origin - 2 ^ 24) ends.low) (nat_le ends.high (origin + 2 ^ 24)) near in
@@ -104,7 +116,8 @@ points_are_near own is values below x y lies =
 
 -- ---- visits
 
-one_visited : (lasts values : List ℕ) (range : Range) → IsFit lasts range → (has : Bool) (far : ℕ) → far < cond has (extent range) 1 → (x : ℕ) → IsFrom values range far x → Lies lasts values range x
+one_visited : (lasts values : List ℕ) (range : Range) → IsFit lasts range → (has : Bool) (far : ℕ) → far < cond has (extent range) 1 → (x : ℕ)
+    → IsFrom values range far x → Lies lasts values range x
 one_visited lasts values range fits true far l x at = record {
   word = at.word;
   low = omega (arith, at.is);
@@ -123,11 +136,14 @@ one_visited lasts values range fits false far l x at = record {
 pub visits_lie : VisitsLie
 visits_lie func update own is values below extents first_is second_is visit visited x y at_x at_y =
     let start = first_loops func update in
-    let parts = and_parts (nat_lt visit.x (extent_in func update extents variables.FirstArgument)) (nat_lt visit.y (extent_in func update extents variables.SecondArgument)) visited.slice in
+    let parts = and_parts (nat_lt visit.x (extent_in func update extents variables.FirstArgument))
+    (nat_lt visit.y (extent_in func update extents variables.SecondArgument)) visited.slice in
     let first : visit.x < cond (has_variable variables.FirstArgument start) (extent own.x) 1 =
-    subst (λ (n : ℕ). visit.x < cond (has_variable variables.FirstArgument start) n 1) first_is (ltb-true visit.x (extent_in func update extents variables.FirstArgument) parts.0) in
+    subst (λ (n : ℕ). visit.x < cond (has_variable variables.FirstArgument start) n 1) first_is
+    (ltb-true visit.x (extent_in func update extents variables.FirstArgument) parts.0) in
     let second : visit.y < cond (has_variable variables.SecondArgument start) (extent own.y) 1 =
-    subst (λ (n : ℕ). visit.y < cond (has_variable variables.SecondArgument start) n 1) second_is (ltb-true visit.y (extent_in func update extents variables.SecondArgument) parts.1) in
+    subst (λ (n : ℕ). visit.y < cond (has_variable variables.SecondArgument start) n 1) second_is
+    (ltb-true visit.y (extent_in func update extents variables.SecondArgument) parts.1) in
     record {
       first = one_visited own.lasts values own.x is.x (has_variable variables.FirstArgument start) visit.x first x at_x;
       second = one_visited own.lasts values own.y is.y (has_variable variables.SecondArgument start) visit.y second y at_y;

@@ -1,5 +1,6 @@
 -- What is read is of Funcs that the reader calls, also through inlined ones.
-use Rattle.std.proofs.Common.{◌≡◌, ℕ, zero, suc, ◌<◌, ◌≤◌, Bool, true, false, List, [], ◌∷◌, ◌++◌, Option, None, Some, ◌⊎◌, refl, sym, ap, subst, ◌∙◌, arith, inl, inr, true≢false}
+use Rattle.std.proofs.Common.{◌≡◌, ℕ, zero, suc, ◌<◌, ◌≤◌, Bool, true, false, List, [], ◌∷◌, ◌++◌, Option, None, Some, ◌⊎◌, refl, sym, ap, subst, ◌∙◌, arith}
+use Rattle.std.proofs.Common.{inl, inr, true≢false}
 use Rattle.std.specs.Prelude.{◌==◌, ◌||◌, nat_lt, slice_get, is_some}
 use Rattle.std.specs.List.{AllByRecursion}
 use Rattle.std.proofs.lemmas.Bool.{and_parts, ltb-true, cases_eq, cases_lt, eq-eqb}
@@ -13,7 +14,8 @@ use Rattle.halide_pipeline.specs.declared.expressions.Source.{Source}
 use Rattle.halide_pipeline.specs.declared.expressions.Source.TheVariants as sources
 use Rattle.halide_pipeline.specs.declared.expressions.Variable.{Variable}
 use Rattle.halide_pipeline.specs.declared.expressions.Variable.TheVariants as variables
-use Rattle.halide_pipeline.specs.WellFormed.{dimensions, keeps, keeps_index, is_read, is_input_of, is_func_of, is_argument, is_update_variable, IsWellFormed, IsUpdate}
+use Rattle.halide_pipeline.specs.WellFormed.{dimensions, keeps, keeps_index, is_read, is_input_of, is_func_of, is_argument, is_update_variable, IsWellFormed}
+use Rattle.halide_pipeline.specs.WellFormed.{IsUpdate}
 use Rattle.halide_pipeline.specs.Pipelines.{Pipeline}
 use Rattle.halide_pipeline.specs.declared.environments.Environment.{Environment}
 use Rattle.halide_pipeline.specs.Pixel.{Reads, at_point, at_reduction}
@@ -60,9 +62,11 @@ module _ (reads : Source → ℕ → Bool) (has : Variable → Bool) (func : ℕ
   same_levels (layer.Binary op a b) kept = either (a.left func) (b.left func) a.right b.right a.is b.is
   same_levels (layer.Divide a n) kept = a.is
   same_levels (layer.Remainder a n) kept = a.is
-  same_levels (layer.Select c a b) kept = either (c.left func || a.left func) (b.left func) (c.right || a.right) b.right (either (c.left func) (a.left func) c.right a.right c.is a.is) b.is
+  same_levels (layer.Select c a b) kept = either (c.left func || a.left func) (b.left func) (c.right || a.right) b.right (either (c.left func) (a.left func)
+      c.right a.right c.is a.is) b.is
   same_levels (layer.Call1 s a) kept = ap (λ (t : Bool). is_func func s || t) a.is
-  same_levels (layer.Call2 s a b) kept = either (is_func func s || a.left func) (b.left func) (is_func func s || a.right) b.right (ap (λ (t : Bool). is_func func s || t) a.is) b.is
+  same_levels (layer.Call2 s a b) kept = either (is_func func s || a.left func) (b.left func) (is_func func s || a.right) b.right
+      (ap (λ (t : Bool). is_func func s || t) a.is) b.is
 
   pub callers_are : (e : Expr) → keeps reads has e ≡ true → callers e func ≡ calls func e
   unfolding calls
@@ -84,13 +88,16 @@ module _ (pipeline : Pipeline) (standings : List Standing) (rules : IsWellFormed
   both_good reader count a b f g = all_both (Good reader count) a b f g
 
   -- what an inlined Func reads that the reader calls, the reader reads
-  lifted : (reader count place : ℕ) → place < count → place < reader → is_inlined place ≡ true → place_calls pipeline reader place ≡ true → (s : Source) → IsReadThrough pipeline standings place place s
+  lifted : (reader count place : ℕ) → place < count → place < reader → is_inlined place ≡ true → place_calls pipeline reader place ≡ true → (s : Source)
+      → IsReadThrough pipeline standings place place s
       → IsReadThrough pipeline standings reader count s
   lifted reader count place few before flag called (sources.Input other) good = good
   lifted reader count place few before flag called (sources.Func other) (plain, (below, inl e)) = absurd (omega (arith, e, below))
-  lifted reader count place few before flag called (sources.Func other) (plain, (below, inr r)) = (plain, (omega (arith, few, below), inr (Through reader place other before flag called r)))
+  lifted reader count place few before flag called (sources.Func other) (plain, (below, inr r)) =
+      (plain, (omega (arith, few, below), inr (Through reader place other before flag called r)))
 
-  all_lifted : (reader count place : ℕ) → place < count → place < reader → is_inlined place ≡ true → place_calls pipeline reader place ≡ true → (points : List Point) → AllGood place place points → AllGood reader count points
+  all_lifted : (reader count place : ℕ) → place < count → place < reader → is_inlined place ≡ true → place_calls pipeline reader place ≡ true
+      → (points : List Point) → AllGood place place points → AllGood reader count points
   all_lifted reader count place few before flag called [] good = tt
   all_lifted reader count place few before flag called (point ∷ points) good =
       (lifted reader count place few before flag called point.source good.0, all_lifted reader count place few before flag called points good.1)
@@ -109,7 +116,8 @@ module _ (pipeline : Pipeline) (standings : List Standing) (rules : IsWellFormed
 
   abbrev Claim : ℕ → ℕ → Type 0
   Claim reader count =
-      (vars : Variable → Seen) → ((v : Variable) → AllGood reader count (vars v).points) → (has : Variable → Bool) (e : Expr) → keeps (is_read pipeline.inputs pipeline.funcs count) has e ≡ true
+      (vars : Variable → Seen) → ((v : Variable) → AllGood reader count (vars v).points) → (has : Variable → Bool) (e : Expr)
+      → keeps (is_read pipeline.inputs pipeline.funcs count) has e ≡ true
       → ((func : ℕ) → calls func e ≡ true → place_calls pipeline reader func ≡ true)
       → AllGood reader count (through (seeing reads) (inside (seeing reads) is_inlined pipeline.funcs count) vars e).points
 
@@ -118,7 +126,8 @@ module _ (pipeline : Pipeline) (standings : List Standing) (rules : IsWellFormed
   Precede count reader = (place : ℕ) → place < count → is_inlined place ≡ true → place < reader
 
   made_good : (reader count place : ℕ) → place < count → place < reader → is_inlined place ≡ true → place_calls pipeline reader place ≡ true → Claim place place
-      → (found : Option Func) → slice_get pipeline.funcs place ≡ found → (n : ℕ) → is_func_of found n ≡ true → (a x : Seen) (y : Option Seen) → AllGood reader count x.points → AllGood reader count (second_points y)
+      → (found : Option Func) → slice_get pipeline.funcs place ≡ found → (n : ℕ) → is_func_of found n ≡ true → (a x : Seen) (y : Option Seen)
+      → AllGood reader count x.points → AllGood reader count (second_points y)
       → AllGood reader count (answered a x y (made_in (seeing reads) (inside (seeing reads) is_inlined pipeline.funcs place) found)).points
   unfolding seeing place_calls func_calls
   made_good reader count place few before flag called claim None is n some a x y gx gy = absurd cc
@@ -127,7 +136,8 @@ module _ (pipeline : Pipeline) (standings : List Standing) (rules : IsWellFormed
       let v = through (seeing reads) (inside (seeing reads) is_inlined pipeline.funcs place) vars func.pure in
       both_good reader count x.points (second_points y ++ v.points) gx
       (both_good reader count (second_points y) v.points gy
-      (all_lifted reader count place few before flag called v.points (claim vars nothing (is_argument (dimensions func)) func.pure (rules.funcs place func is).pure calling)))
+      (all_lifted reader count place few before flag called v.points (claim vars nothing (is_argument (dimensions func)) func.pure
+      (rules.funcs place func is).pure calling)))
     where
       nothing : (v : Variable) → AllGood place place (arguments (none (seeing reads)) (unread x) (unread (second_of (none (seeing reads)) y)) v).points
       nothing variables.FirstArgument = tt
@@ -138,9 +148,12 @@ module _ (pipeline : Pipeline) (standings : List Standing) (rules : IsWellFormed
       calling : (other : ℕ) → calls other func.pure ≡ true → place_calls pipeline place other ≡ true
       calling other e = ap (place_calls_of other) is ∙ or_left (calls other func.pure) (updates_call other func.updates) e
 
-  module _ (reader count : ℕ) (few : count ≤ suc reader) (precede : Precede count reader) (claims : (place : ℕ) → place < count → is_inlined place ≡ true → Claim place place) where
-    answered_good : (s : Source) (n : ℕ) → is_read pipeline.inputs pipeline.funcs count s n ≡ true → ((func : ℕ) → is_func func s ≡ true → place_calls pipeline reader func ≡ true)
-        → (a x : Seen) (y : Option Seen) → (IsReadThrough pipeline standings reader count s → AllGood reader count a.points) → AllGood reader count x.points → AllGood reader count (second_points y)
+  module _ (reader count : ℕ) (few : count ≤ suc reader) (precede : Precede count reader) (claims : (place : ℕ) → place < count → is_inlined place ≡ true
+      → Claim place place) where
+    answered_good : (s : Source) (n : ℕ) → is_read pipeline.inputs pipeline.funcs count s n ≡ true → ((func : ℕ) → is_func func s ≡ true
+        → place_calls pipeline reader func ≡ true)
+        → (a x : Seen) (y : Option Seen) → (IsReadThrough pipeline standings reader count s → AllGood reader count a.points) → AllGood reader count x.points
+        → AllGood reader count (second_points y)
         → AllGood reader count (answered a x y (answer (inside (seeing reads) is_inlined pipeline.funcs count) s)).points
     answered_good (sources.Input place) n read called a x y ga gx gy = ga (input_some (slice_get pipeline.inputs place) n read)
     answered_good (sources.Func place) n read called a x y ga gx gy = by_flag (is_inlined place) refl
@@ -163,41 +176,51 @@ module _ (pipeline : Pipeline) (standings : List Standing) (rules : IsWellFormed
         own_read : is_inlined place ≡ false → IsReadThrough pipeline standings reader count (sources.Func place)
         own_read flag = (flag, (before, by_place))
 
-        by_flag : (flag : Bool) → is_inlined place ≡ flag → AllGood reader count (answered a x y (inside (seeing reads) is_inlined pipeline.funcs count place)).points
+        by_flag : (flag : Bool) → is_inlined place ≡ flag
+            → AllGood reader count (answered a x y (inside (seeing reads) is_inlined pipeline.funcs count place)).points
         by_flag false f = rw (inside_computed (seeing reads) is_inlined pipeline.funcs count place f) (ga (own_read f))
         by_flag true f =
             rw (inside_before (seeing reads) is_inlined pipeline.funcs count place before f)
-            (made_good reader count place before (precede place before f) f own_call (claims place before f) (slice_get pipeline.funcs place) refl n parts.1 a x y gx gy)
+            (made_good reader count place before (precede place before f) f own_call (claims place before f) (slice_get pipeline.funcs place) refl n parts.1 a x
+            y gx gy)
 
     abbrev Reach : (ℕ → Bool) → Seen → Type 0
     Reach f s = ((func : ℕ) → f func ≡ true → place_calls pipeline reader func ≡ true) → AllGood reader count s.points
 
     module _ (vars : Variable → Seen) (quiet : (v : Variable) → AllGood reader count (vars v).points) (has : Variable → Bool) where
-      levels : KeptLevels Reach (is_read pipeline.inputs pipeline.funcs count) has callers_at (through_at (seeing reads) (inside (seeing reads) is_inlined pipeline.funcs count) vars)
+      levels : KeptLevels Reach (is_read pipeline.inputs pipeline.funcs count) has callers_at (through_at (seeing reads) (inside (seeing reads) is_inlined
+          pipeline.funcs count) vars)
       unfolding seeing
       levels (layer.Number n) kept = λ called. tt
       levels (layer.Variable v) kept = λ called. quiet v
       levels (layer.Binary op a b) kept = λ called.
-          both_good reader count a.right.points b.right.points (a.is (λ f e. called f (or_left (a.left f) (b.left f) e))) (b.is (λ f e. called f (or_right (a.left f) (b.left f) e)))
+          both_good reader count a.right.points b.right.points (a.is (λ f e. called f (or_left (a.left f) (b.left f) e)))
+          (b.is (λ f e. called f (or_right (a.left f) (b.left f) e)))
       levels (layer.Divide a n) kept = λ called. a.is called
       levels (layer.Remainder a n) kept = λ called. a.is called
       levels (layer.Select c a b) kept = λ called.
-          both_good reader count c.right.points (a.right.points ++ b.right.points) (c.is (λ f e. called f (or_left (c.left f || a.left f) (b.left f) (or_left (c.left f) (a.left f) e))))
-          (both_good reader count a.right.points b.right.points (a.is (λ f e. called f (or_left (c.left f || a.left f) (b.left f) (or_right (c.left f) (a.left f) e)))) (b.is (λ f e. called f (or_right (c.left f || a.left f) (b.left f) e))))
+          both_good reader count c.right.points (a.right.points ++ b.right.points)
+          (c.is (λ f e. called f (or_left (c.left f || a.left f) (b.left f) (or_left (c.left f) (a.left f) e))))
+          (both_good reader count a.right.points b.right.points
+          (a.is (λ f e. called f (or_left (c.left f || a.left f) (b.left f) (or_right (c.left f) (a.left f) e))))
+          (b.is (λ f e. called f (or_right (c.left f || a.left f) (b.left f) e))))
       levels (layer.Call1 s a) kept = λ called.
           let ga = a.is (λ f e. called f (or_right (is_func f s) (a.left f) e)) in
-          answered_good s 1 kept (λ f e. called f (or_left (is_func f s) (a.left f) e)) _ a.right None (λ own. both_good reader count a.right.points _ ga (own, tt)) ga tt
+          answered_good s 1 kept (λ f e. called f (or_left (is_func f s) (a.left f) e)) _ a.right None (λ own. both_good reader count a.right.points _ ga
+          (own, tt)) ga tt
       levels (layer.Call2 s a b) kept = λ called.
           let ga = a.is (λ f e. called f (or_left (is_func f s || a.left f) (b.left f) (or_right (is_func f s) (a.left f) e))) in
           let gb = b.is (λ f e. called f (or_right (is_func f s || a.left f) (b.left f) e)) in
           answered_good s 2 kept (λ f e. called f (or_left (is_func f s || a.left f) (b.left f) (or_left (is_func f s) (a.left f) e))) _ a.right (Some b.right)
           (λ own. both_good reader count (a.right.points ++ b.right.points) _ (both_good reader count a.right.points b.right.points ga gb) (own, tt)) ga gb
 
-      claimed : (e : Expr) → keeps (is_read pipeline.inputs pipeline.funcs count) has e ≡ true → ((func : ℕ) → calls func e ≡ true → place_calls pipeline reader func ≡ true)
+      claimed : (e : Expr) → keeps (is_read pipeline.inputs pipeline.funcs count) has e ≡ true → ((func : ℕ) → calls func e ≡ true
+          → place_calls pipeline reader func ≡ true)
           → AllGood reader count (through (seeing reads) (inside (seeing reads) is_inlined pipeline.funcs count) vars e).points
       unfolding through
       claimed e kept called =
-          kept_folds_related Reach (is_read pipeline.inputs pipeline.funcs count) has callers_at (through_at (seeing reads) (inside (seeing reads) is_inlined pipeline.funcs count) vars) levels e kept
+          kept_folds_related Reach (is_read pipeline.inputs pipeline.funcs count) has callers_at (through_at (seeing reads) (inside (seeing reads) is_inlined
+          pipeline.funcs count) vars) levels e kept
           (λ f is. called f (sym (callers_are (is_read pipeline.inputs pipeline.funcs count) has f e kept) ∙ is))
 
   -- of all Funcs before a place
@@ -206,23 +229,27 @@ module _ (pipeline : Pipeline) (standings : List Standing) (rules : IsWellFormed
   claims_below (suc most) place below =
       claimed place place (omega arith) (λ other before flag. before) (λ other before flag. claims_below most other (omega (arith, before, below)))
 
-  pub expression_good : (reader count : ℕ) → count ≤ suc reader → Precede count reader → (environment : Environment) (has : Variable → Bool) (e : Expr) → keeps (is_read pipeline.inputs pipeline.funcs count) has e ≡ true
+  pub expression_good : (reader count : ℕ) → count ≤ suc reader → Precede count reader → (environment : Environment) (has : Variable → Bool) (e : Expr)
+      → keeps (is_read pipeline.inputs pipeline.funcs count) has e ≡ true
       → ((func : ℕ) → calls func e ≡ true → place_calls pipeline reader func ≡ true)
       → AllGood reader count (inlined (seeing reads) is_inlined pipeline.funcs count (seen_variable environment) e).points
   expression_good reader count few precede environment has e kept called =
-      claimed reader count few precede (λ place before flag. claims_below (suc place) place (omega arith)) (seen_variable environment) (λ v. tt) has e kept called
+      claimed reader count few precede (λ place before flag. claims_below (suc place) place (omega arith)) (seen_variable environment) (λ v. tt) has e kept
+      called
 
 pub pure_points_are_read_through : PurePointsAreReadThrough
 unfolding place_calls func_calls
 pure_points_are_read_through pipeline schedule rules reader func func_is reads x y =
-    expression_good pipeline schedule.standings rules reads reader reader (omega arith) (λ place before flag. before) (at_point x y) (is_argument (dimensions func)) func.pure (rules.funcs reader func func_is).pure calling
+    expression_good pipeline schedule.standings rules reads reader reader (omega arith) (λ place before flag. before) (at_point x y)
+    (is_argument (dimensions func)) func.pure (rules.funcs reader func func_is).pure calling
   where
     calling : (other : ℕ) → calls other func.pure ≡ true → place_calls pipeline reader other ≡ true
     calling other e = ap (place_calls_of other) func_is ∙ or_left (calls other func.pure) (updates_call other func.updates) e
 
 -- ---- updates
 
-pub updates_one : (func : ℕ) (updates : List Update) (at : ℕ) (update : Update) → slice_get updates at ≡ Some update → update_calls func update ≡ true → updates_call func updates ≡ true
+pub updates_one : (func : ℕ) (updates : List Update) (at : ℕ) (update : Update) → slice_get updates at ≡ Some update → update_calls func update ≡ true
+    → updates_call func updates ≡ true
 updates_one func [] at update is e = absurd cc
 updates_one func (first ∷ others) zero update is e =
     or_left (update_calls func first) (updates_call func others) (ap (update_calls func) (first_is first update is) ∙ e)
@@ -234,8 +261,11 @@ updates_one func (first ∷ others) (suc at) update is e = or_right (update_call
 pub update_points_are_read_through : UpdatePointsAreReadThrough
 unfolding place_calls func_calls
 update_points_are_read_through pipeline schedule rules reader func func_is plain at update update_is reads number x y =
-    both_good pipeline schedule.standings rules reads reader (suc reader) (seen_in pipeline schedule reads reader point update.left_x).points _ (more_good pipeline schedule.standings rules reads reader (seen_in pipeline schedule reads reader point update.left_x).points left_x)
-    (both_good pipeline schedule.standings rules reads reader (suc reader) (second_seen pipeline schedule reads reader point update.left_y).points _ (more_good pipeline schedule.standings rules reads reader (second_seen pipeline schedule reads reader point update.left_y).points (second update.left_y refl formed.left_y))
+    both_good pipeline schedule.standings rules reads reader (suc reader) (seen_in pipeline schedule reads reader point update.left_x).points
+    _ (more_good pipeline schedule.standings rules reads reader (seen_in pipeline schedule reads reader point update.left_x).points left_x)
+    (both_good pipeline schedule.standings rules reads reader (suc reader) (second_seen pipeline schedule reads reader point update.left_y).points
+    _ (more_good pipeline schedule.standings rules reads reader (second_seen pipeline schedule reads reader point update.left_y).points
+    (second update.left_y refl formed.left_y))
     ((plain, (omega arith, inl refl)), right))
   where
     point : Environment
@@ -248,14 +278,17 @@ update_points_are_read_through pipeline schedule rules reader func func_is plain
     has = is_update_variable (dimensions func) update.second
 
     calling : (other : ℕ) → update_calls other update ≡ true → place_calls pipeline reader other ≡ true
-    calling other e = ap (place_calls_of other) func_is ∙ or_right (calls other func.pure) (updates_call other func.updates) (updates_one other func.updates at update update_is e)
+    calling other e = ap (place_calls_of other) func_is ∙ or_right (calls other func.pure) (updates_call other func.updates) (updates_one other func.updates at
+        update update_is e)
 
     left_x : AreReadThrough pipeline schedule.standings reader reader (seen_in pipeline schedule reads reader point update.left_x).points
     left_x =
         expression_good pipeline schedule.standings rules reads reader reader (omega arith) (λ place before flag. before) point has update.left_x formed.left_x
-        (λ other e. calling other (or_left (calls other update.left_x || second_calls other update.left_y) (calls other update.right) (or_left (calls other update.left_x) (second_calls other update.left_y) e)))
+        (λ other e. calling other (or_left (calls other update.left_x || second_calls other update.left_y) (calls other update.right)
+        (or_left (calls other update.left_x) (second_calls other update.left_y) e)))
 
-    second : (index : Option Expr) → index ≡ update.left_y → keeps_index (is_read pipeline.inputs pipeline.funcs reader) has (dimensions func) index ≡ true → AreReadThrough pipeline schedule.standings reader reader (second_seen pipeline schedule reads reader point index).points
+    second : (index : Option Expr) → index ≡ update.left_y → keeps_index (is_read pipeline.inputs pipeline.funcs reader) has (dimensions func) index ≡ true
+        → AreReadThrough pipeline schedule.standings reader reader (second_seen pipeline schedule reads reader point index).points
     second None is kept = tt
     second (Some index) is kept =
         expression_good pipeline schedule.standings rules reads reader reader (omega arith) (λ place before flag. before) point has index
@@ -265,7 +298,8 @@ update_points_are_read_through pipeline schedule rules reader func func_is plain
 
     precede : (place : ℕ) → place < suc reader → flagged (flags_of schedule.standings) place ≡ true → place < reader
     precede place below flag = elim (cases_eq place reader) [
-      | inl e ↦ let wrong : flagged (flags_of schedule.standings) reader ≡ true = subst (λ (n : ℕ). flagged (flags_of schedule.standings) n ≡ true) e flag in absurd (true≢false (sym wrong ∙ plain))
+      | inl e ↦ let wrong : flagged (flags_of schedule.standings) reader ≡ true = subst (λ (n : ℕ). flagged (flags_of schedule.standings) n ≡ true) e flag in
+          absurd (true≢false (sym wrong ∙ plain))
       | inr d ↦ omega (arith, d, below)
     ]
 

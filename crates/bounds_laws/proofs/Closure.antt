@@ -1,5 +1,6 @@
 -- Boxes hold all that the output's pixels read, with all that these read in turn.
-use Rattle.std.proofs.Common.{◌≡◌, ℕ, zero, suc, ◌+◌, ◌^◌, ◌<◌, Bool, true, false, cond, not, List, [], ◌∷◌, length, Option, None, Some, refl, sym, ap, subst, ◌∙◌, arith, inl, inr, true≢false}
+use Rattle.std.proofs.Common.{◌≡◌, ℕ, zero, suc, ◌+◌, ◌^◌, ◌<◌, Bool, true, false, cond, not, List, [], ◌∷◌, length, Option, None, Some, refl, sym, ap, subst}
+use Rattle.std.proofs.Common.{◌∙◌, arith, inl, inr, true≢false}
 use Rattle.std.specs.Prelude.{◌==◌, ◌&&◌, ◌||◌, nat_lt, slice_get, is_some, Ok}
 use Rattle.std.proofs.lemmas.Bool.{and_parts, and_from, lt-ltb, ltb-true, eq-eqb, ne_eqb, cases_lt}
 use Rattle.std.proofs.lemmas.Option.{slice_get_past}
@@ -10,7 +11,8 @@ use Rattle.halide_pipeline.specs.declared.expressions.Expr.{Expr}
 use Rattle.halide_pipeline.specs.declared.expressions.Source.{Source}
 use Rattle.halide_pipeline.specs.declared.expressions.Source.TheVariants as sources
 use Rattle.halide_pipeline.specs.declared.expressions.Variable.{Variable}
-use Rattle.halide_pipeline.specs.WellFormed.{dimensions, is_first_in_place, is_second_in_place, keeps, keeps_index, is_read, is_func_of, is_argument, is_update_variable, IsWellFormed, IsUpdate}
+use Rattle.halide_pipeline.specs.WellFormed.{dimensions, is_first_in_place, is_second_in_place, keeps, keeps_index, is_read, is_func_of, is_argument}
+use Rattle.halide_pipeline.specs.WellFormed.{is_update_variable, IsWellFormed, IsUpdate}
 use Rattle.halide_pipeline.specs.Pipelines.{Pipeline}
 use Rattle.halide_pipeline.specs.declared.environments.Environment.{Environment}
 use Rattle.halide_pipeline.specs.Pixel.{Planes, Reads, reads_of, with_plane, pixels, stage, after, at_point, at_reduction, points}
@@ -44,7 +46,8 @@ use Rattle.bounds.specs.Boxes.{no_loops, lasts_of, no_spread, spread_box, same_s
 use Rattle.bounds_laws.specs.Callers.{ReadsThrough, IsReadThrough, AreReadThrough}
 use Rattle.bounds_laws.specs.Closure.{is_put_in, is_boxed, is_within, held_at, is_held, AllReadsAreHeld, lies_in}
 use Rattle.bounds.specs.Inference.{input_box, with_input, with_func, boxes_from, func_box, inputs_from, read_from}
-use Rattle.bounds_laws.specs.Laws.{LiesIn, LiesPartly, IsBoxed, AreBoxed, IsNear, values_for, consumer_in, IsComputed, pure_points, update_points, seen_in, second_seen}
+use Rattle.bounds_laws.specs.Laws.{LiesIn, LiesPartly, IsBoxed, AreBoxed, IsNear, values_for, consumer_in, IsComputed, pure_points, update_points, seen_in}
+use Rattle.bounds_laws.specs.Laws.{second_seen}
 use Rattle.bounds.specs.Verdict.{inferred}
 use Rattle.bounds_laws.proofs.BoxFacts.{HasBox, has_box, near_points, is_judged, input_at, points_within, lasts_by}
 use Rattle.bounds_laws.proofs.Callers.{pure_points_are_read_through, update_points_are_read_through, or_left, or_right, updates_one}
@@ -68,54 +71,68 @@ same_self (sources.Func place) = eq-eqb place place refl
 -- ---- boxes of inputs
 
 inputs_some : (pipeline : Pipeline) (schedule : Schedule) (boxes : List (Option SourceBox)) (place : ℕ) (inputs : List Input) (found : List (Option SourceBox))
-    → inputs_from pipeline schedule (flags_of schedule.standings) boxes place inputs ≡ Some found → (k : ℕ) (input : Input) → slice_get inputs k ≡ Some input → IsSome (slice_get found k)
+    → inputs_from pipeline schedule (flags_of schedule.standings) boxes place inputs ≡ Some found → (k : ℕ) (input : Input) → slice_get inputs k ≡ Some input
+    → IsSome (slice_get found k)
 inputs_some pipeline schedule boxes place [] found e k input there = absurd cc
-inputs_some pipeline schedule boxes place (first ∷ others) found e k input there = by_rest (inputs_from pipeline schedule (flags_of schedule.standings) boxes (place + 1) others) refl e k there (inputs_some pipeline schedule boxes (place + 1) others)
+inputs_some pipeline schedule boxes place (first ∷ others) found e k input there = by_rest (inputs_from pipeline schedule (flags_of schedule.standings) boxes
+    (place + 1) others) refl e k there (inputs_some pipeline schedule boxes (place + 1) others)
   where
     own : Option SourceBox
     own = input_box pipeline schedule (flags_of schedule.standings) boxes place
 
-    by_place : (behind : List (Option SourceBox)) (n : ℕ) → slice_get (first ∷ others) n ≡ Some input → ((m : ℕ) → slice_get others m ≡ Some input → IsSome (slice_get behind m)) → IsSome (slice_get (own ∷ behind) n)
+    by_place : (behind : List (Option SourceBox)) (n : ℕ) → slice_get (first ∷ others) n ≡ Some input → ((m : ℕ) → slice_get others m ≡ Some input
+        → IsSome (slice_get behind m)) → IsSome (slice_get (own ∷ behind) n)
     by_place behind zero is next = record { value = own; is = refl }
     by_place behind (suc n) is next = next n is
 
     by_rest : (rest : Option (List (Option SourceBox))) → inputs_from pipeline schedule (flags_of schedule.standings) boxes (place + 1) others ≡ rest
         → with_input pipeline schedule (flags_of schedule.standings) boxes place rest ≡ Some found → (n : ℕ) → slice_get (first ∷ others) n ≡ Some input
-        → ((f : List (Option SourceBox)) → inputs_from pipeline schedule (flags_of schedule.standings) boxes (place + 1) others ≡ Some f → (m : ℕ) (i : Input) → slice_get others m ≡ Some i → IsSome (slice_get f m))
+        → ((f : List (Option SourceBox)) → inputs_from pipeline schedule (flags_of schedule.standings) boxes (place + 1) others ≡ Some f → (m : ℕ) (i : Input)
+        → slice_get others m ≡ Some i → IsSome (slice_get f m))
         → IsSome (slice_get found n)
     by_rest None is w n at next = absurd cc
     by_rest (Some behind) is w n at next =
-        subst (λ (l : List (Option SourceBox)). IsSome (slice_get l n)) (in_front_is own behind found w) (by_place behind n at (λ m there_m. next behind is m input there_m))
+        subst (λ (l : List (Option SourceBox)). IsSome (slice_get l n)) (in_front_is own behind found w) (by_place behind n at (λ m there_m. next behind is m
+        input there_m))
 
-funcs_some : (pipeline : Pipeline) (schedule : Schedule) (at : ℕ) (funcs : List Func) (found : List (Option SourceBox)) → boxes_from pipeline schedule (flags_of schedule.standings) at funcs ≡ Some found
+funcs_some : (pipeline : Pipeline) (schedule : Schedule) (at : ℕ) (funcs : List Func) (found : List (Option SourceBox))
+    → boxes_from pipeline schedule (flags_of schedule.standings) at funcs ≡ Some found
     → (k : ℕ) (func : Func) → slice_get funcs k ≡ Some func → IsSome (slice_get found k)
 funcs_some pipeline schedule at [] found e k func there = absurd cc
-funcs_some pipeline schedule at (first ∷ others) found e k func there = by_rest (boxes_from pipeline schedule (flags_of schedule.standings) (at + 1) others) refl e k there (funcs_some pipeline schedule (at + 1) others)
+funcs_some pipeline schedule at (first ∷ others) found e k func there = by_rest (boxes_from pipeline schedule (flags_of schedule.standings) (at + 1) others)
+    refl e k there (funcs_some pipeline schedule (at + 1) others)
   where
-    by_place : (own : Option SourceBox) (behind : List (Option SourceBox)) (n : ℕ) → slice_get (first ∷ others) n ≡ Some func → ((m : ℕ) → slice_get others m ≡ Some func → IsSome (slice_get behind m)) → IsSome (slice_get (own ∷ behind) n)
+    by_place : (own : Option SourceBox) (behind : List (Option SourceBox)) (n : ℕ) → slice_get (first ∷ others) n ≡ Some func
+        → ((m : ℕ) → slice_get others m ≡ Some func → IsSome (slice_get behind m)) → IsSome (slice_get (own ∷ behind) n)
     by_place own behind zero is next = record { value = own; is = refl }
     by_place own behind (suc n) is next = next n is
 
     by_rest : (rest : Option (List (Option SourceBox))) → boxes_from pipeline schedule (flags_of schedule.standings) (at + 1) others ≡ rest
         → with_func pipeline schedule (flags_of schedule.standings) at first rest ≡ Some found → (n : ℕ) → slice_get (first ∷ others) n ≡ Some func
-        → ((f : List (Option SourceBox)) → boxes_from pipeline schedule (flags_of schedule.standings) (at + 1) others ≡ Some f → (m : ℕ) (g : Func) → slice_get others m ≡ Some g → IsSome (slice_get f m))
+        → ((f : List (Option SourceBox)) → boxes_from pipeline schedule (flags_of schedule.standings) (at + 1) others ≡ Some f → (m : ℕ) (g : Func)
+        → slice_get others m ≡ Some g → IsSome (slice_get f m))
         → IsSome (slice_get found n)
     by_rest None is w n place next = absurd cc
     by_rest (Some behind) is w n place next =
         let own = func_box pipeline schedule (flags_of schedule.standings) at first behind (slice_get schedule.standings at) in
-        subst (λ (l : List (Option SourceBox)). IsSome (slice_get l n)) (in_front_is own behind found w) (by_place own behind n place (λ m there_m. next behind is m func there_m))
+        subst (λ (l : List (Option SourceBox)). IsSome (slice_get l n)) (in_front_is own behind found w) (by_place own behind n place (λ m there_m. next behind
+        is m func there_m))
 
-boxes_some : (pipeline : Pipeline) (schedule : Schedule) (boxes : Boxes) → inferred pipeline schedule ≡ Ok boxes → (place : ℕ) (func : Func) → slice_get pipeline.funcs place ≡ Some func → IsSome (slice_get boxes.funcs place)
-boxes_some pipeline schedule boxes is place func there = funcs_some pipeline schedule 0 pipeline.funcs boxes.funcs (are_found pipeline schedule boxes is).funcs place func there
+boxes_some : (pipeline : Pipeline) (schedule : Schedule) (boxes : Boxes) → inferred pipeline schedule ≡ Ok boxes → (place : ℕ) (func : Func)
+    → slice_get pipeline.funcs place ≡ Some func → IsSome (slice_get boxes.funcs place)
+boxes_some pipeline schedule boxes is place func there = funcs_some pipeline schedule 0 pipeline.funcs boxes.funcs (are_found pipeline schedule boxes is).funcs
+    place func there
 
 -- ---- what lies in its box is held
 
-boxed_true : (values : List ℕ) (answer : Option (Option SourceBox)) (x y : ℕ) → IsSome answer → IsBoxed values answer x y → ((own : SourceBox) → answer ≡ Some (Some own) → Below values own.lasts) → is_boxed answer x y ≡ true
+boxed_true : (values : List ℕ) (answer : Option (Option SourceBox)) (x y : ℕ) → IsSome answer → IsBoxed values answer x y
+    → ((own : SourceBox) → answer ≡ Some (Some own) → Below values own.lasts) → is_boxed answer x y ≡ true
 boxed_true values None x y some boxed below = let is = some.is in absurd cc
 boxed_true values (Some None) x y some boxed below = absurd boxed
 boxed_true values (Some (Some own)) x y some boxed below = values_given own.lasts (lies_in own x y) values (below own refl) (lies_in_of own values x y boxed)
 
-module _ (pipeline : Pipeline) (schedule : Schedule) (boxes : Boxes) (rules : IsWellFormed pipeline) (accepted : IsAccepted pipeline schedule) (is : inferred pipeline schedule ≡ Ok boxes) where
+module _ (pipeline : Pipeline) (schedule : Schedule) (boxes : Boxes) (rules : IsWellFormed pipeline) (accepted : IsAccepted pipeline schedule)
+    (is : inferred pipeline schedule ≡ Ok boxes) where
   abbrev test : Point → Bool
   test = is_held pipeline schedule boxes
 
@@ -124,9 +141,11 @@ module _ (pipeline : Pipeline) (schedule : Schedule) (boxes : Boxes) (rules : Is
   produced_later : (place : ℕ) (own : Standing) → slice_get schedule.standings place ≡ Some own → IsProduced pipeline schedule.funcs place own
   produced_later place own found =
       let here : 0 + place ≡ place = omega arith in
-      subst (λ (n : ℕ). IsProduced pipeline schedule.funcs n own) here (numbered_at (IsProduced pipeline schedule.funcs) 0 schedule.standings accepted.consumers place own found)
+      subst (λ (n : ℕ). IsProduced pipeline schedule.funcs n own) here (numbered_at (IsProduced pipeline schedule.funcs) 0 schedule.standings accepted.consumers
+      place own found)
 
-  computed_so : (place : ℕ) (func : Func) → slice_get pipeline.funcs place ≡ Some func → (own : Standing) → IsReached schedule.standings place own → flags pipeline schedule place ≡ false → IsComputed place own.place
+  computed_so : (place : ℕ) (func : Func) → slice_get pipeline.funcs place ≡ Some func → (own : Standing) → IsReached schedule.standings place own
+      → flags pipeline schedule place ≡ false → IsComputed place own.place
   computed_so place func func_is own there plain = by_place own.place refl
     where
       plan : IsSome (slice_get schedule.funcs place)
@@ -160,7 +179,8 @@ module _ (pipeline : Pipeline) (schedule : Schedule) (boxes : Boxes) (rules : Is
 
   -- ---- a Func that has a box
 
-  module _ (reader : ℕ) (own : SourceBox) (own_is : slice_get boxes.funcs reader ≡ Some (Some own)) (values : List ℕ) (below : Below values own.lasts) (x y : ℕ) (lies : LiesIn values own x y) where
+  module _ (reader : ℕ) (own : SourceBox) (own_is : slice_get boxes.funcs reader ≡ Some (Some own)) (values : List ℕ) (below : Below values own.lasts) (x y : ℕ)
+      (lies : LiesIn values own x y) where
     abbrev box : HasBox pipeline schedule boxes reader own
     box = has_box pipeline schedule boxes accepted is reader own own_is
 
@@ -170,7 +190,8 @@ module _ (pipeline : Pipeline) (schedule : Schedule) (boxes : Boxes) (rules : Is
     -- what is known of points that the reader reads
     record AreRead (count : ℕ) (points : List Point) : Type 0 where
       inputs : (place : ℕ) → AreBoxed no_loops (sources.Input place) (slice_get boxes.inputs place) points
-      funcs : (place : ℕ) (sought : Standing) → place < reader → slice_get schedule.standings place ≡ Some sought → sought.is_reached ≡ true → IsComputed place sought.place
+      funcs : (place : ℕ) (sought : Standing) → place < reader → slice_get schedule.standings place ≡ Some sought → sought.is_reached ≡ true
+          → IsComputed place sought.place
           → (s : Seen_so sought.place) → AreBoxed (values_for s.consumer s.values) (sources.Func place) (slice_get boxes.funcs place) points
       own_points : reader < count → AreBoxed values (sources.Func reader) (Some (Some own)) points
       through : AreReadThrough pipeline schedule.standings reader count points
@@ -183,13 +204,15 @@ module _ (pipeline : Pipeline) (schedule : Schedule) (boxes : Boxes) (rules : Is
       through = r.through.1;
     }
 
-    pub input_held : (place a b : ℕ) → is_some (slice_get pipeline.inputs place) ≡ true → IsBoxed no_loops (slice_get boxes.inputs place) a b → is_within (slice_get pipeline.inputs place) a b ≡ true
+    pub input_held : (place a b : ℕ) → is_some (slice_get pipeline.inputs place) ≡ true → IsBoxed no_loops (slice_get boxes.inputs place) a b
+        → is_within (slice_get pipeline.inputs place) a b ≡ true
     input_held place a b some boxed = by_input (slice_get pipeline.inputs place) refl some
       where
         found : AreFound pipeline schedule boxes
         found = are_found pipeline schedule boxes is
 
-        by_box : (input : Input) → slice_get pipeline.inputs place ≡ Some input → (answer : Option (Option SourceBox)) → slice_get boxes.inputs place ≡ answer → IsSome answer → IsBoxed no_loops answer a b
+        by_box : (input : Input) → slice_get pipeline.inputs place ≡ Some input → (answer : Option (Option SourceBox)) → slice_get boxes.inputs place ≡ answer
+            → IsSome answer → IsBoxed no_loops answer a b
             → (nat_lt a input.width && nat_lt b input.height) ≡ true
         by_box input i None e s boxed_so = let wrong = s.is in absurd cc
         by_box input i (Some None) e s boxed_so = absurd boxed_so
@@ -200,12 +223,14 @@ module _ (pipeline : Pipeline) (schedule : Schedule) (boxes : Boxes) (rules : Is
             sym (inputs_at pipeline schedule (flags_of schedule.standings) boxes.funcs 0 pipeline.inputs boxes.inputs found.inputs place (Some other) e
             ∙ ap (λ (n : ℕ). input_box pipeline schedule (flags_of schedule.standings) boxes.funcs n) here) in
             let lasts = lasts_by no_loops spread.x spread.y other box_is in
-            let k = points_within input other no_loops a b (subst (λ (l : List ℕ). Below no_loops l) (sym lasts) no_below) (input_at pipeline.inputs boxes.inputs place input other (is_judged pipeline schedule boxes is).inputs i e) boxed_so in
+            let k = points_within input other no_loops a b (subst (λ (l : List ℕ). Below no_loops l) (sym lasts) no_below) (input_at pipeline.inputs
+            boxes.inputs place input other (is_judged pipeline schedule boxes is).inputs i e) boxed_so in
             and_from (nat_lt a input.width) (nat_lt b input.height) (lt-ltb a input.width k.0) (lt-ltb b input.height k.1)
 
         by_input : (input : Option Input) → slice_get pipeline.inputs place ≡ input → is_some input ≡ true → is_within input a b ≡ true
         by_input None i s = absurd cc
-        by_input (Some input) i s = by_box input i (slice_get boxes.inputs place) refl (inputs_some pipeline schedule boxes.funcs 0 pipeline.inputs boxes.inputs found.inputs place input i) boxed
+        by_input (Some input) i s = by_box input i (slice_get boxes.inputs place) refl (inputs_some pipeline schedule boxes.funcs 0 pipeline.inputs boxes.inputs
+            found.inputs place input i) boxed
 
     func_held : (place a b : ℕ) → is_boxed (slice_get boxes.funcs place) a b ≡ true → test (point_at (sources.Func place) a b) ≡ true
     func_held place a b e = or_right (put pipeline schedule place) (is_boxed (slice_get boxes.funcs place) a b) e
@@ -221,7 +246,8 @@ module _ (pipeline : Pipeline) (schedule : Schedule) (boxes : Boxes) (rules : Is
         let computed = computed_so place func.value func.is w.own w.there plain in
         let s = sees pipeline schedule boxes rules accepted is reader own own_is values below x y lies place w computed in
         func_held place a b
-        (boxed_true (values_for s.consumer s.values) (slice_get boxes.funcs place) a b entry (boxed_so w.own w.before w.there.standing w.there.reached computed s)
+        (boxed_true (values_for s.consumer s.values) (slice_get boxes.funcs place) a b entry (boxed_so w.own w.before w.there.standing w.there.reached computed
+        s)
         (λ other e.
         let theirs = has_box pipeline schedule boxes accepted is place other e in
         let same_standing : theirs.standing ≡ w.own = let p = theirs.there.standing in let q = w.there.standing in cc in
@@ -229,15 +255,18 @@ module _ (pipeline : Pipeline) (schedule : Schedule) (boxes : Boxes) (rules : Is
         theirs.lasts ∙ ap (λ (t : Standing). lasts_of (consumer_in schedule boxes.funcs t.place)) same_standing ∙ ap lasts_of s.consumer_is in
         subst (λ (l : List ℕ). Below (values_for s.consumer s.values) l) (sym lasts) s.below_consumer))
 
-    point_held : (count : ℕ) (s : Source) (a b : ℕ) (points : List Point) → AreRead count (point_at s a b ∷ points) → IsReadThrough pipeline schedule.standings reader count s → test (point_at s a b) ≡ true
+    point_held : (count : ℕ) (s : Source) (a b : ℕ) (points : List Point) → AreRead count (point_at s a b ∷ points)
+        → IsReadThrough pipeline schedule.standings reader count s → test (point_at s a b) ≡ true
     point_held count (sources.Input place) a b points r through = input_held place a b through ((r.inputs place).0 (same_self (sources.Input place)))
     point_held count (sources.Func place) a b points r (plain, (few, inl e)) =
         let own_entry : slice_get boxes.funcs place ≡ Some (Some own) = ap (λ (n : ℕ). slice_get boxes.funcs n) e ∙ own_is in
         let same : same_source (sources.Func place) (sources.Func reader) ≡ true = eq-eqb place reader e in
         let inside = (r.own_points (subst (λ (n : ℕ). n < count) e few)).0 same in
-        func_held place a b (ap (λ (o : Option (Option SourceBox)). is_boxed o a b) own_entry ∙ values_given own.lasts (lies_in own a b) values below (lies_in_of own values a b inside))
+        func_held place a b (ap (λ (o : Option (Option SourceBox)). is_boxed o a b) own_entry
+        ∙ values_given own.lasts (lies_in own a b) values below (lies_in_of own values a b inside))
     point_held count (sources.Func place) a b points r (plain, (few, inr through)) =
-        other_held place a b plain through (λ sought before found reached_so computed s. (r.funcs place sought before found reached_so computed s).0 (same_self (sources.Func place)))
+        other_held place a b plain through (λ sought before found reached_so computed s. (r.funcs place sought before found reached_so computed s).0
+        (same_self (sources.Func place)))
 
     all_held : (count : ℕ) (points : List Point) → AreRead count points → Hold test points
     all_held count [] r = tt
@@ -248,12 +277,14 @@ module _ (pipeline : Pipeline) (schedule : Schedule) (boxes : Boxes) (rules : Is
     near : IsNear x × IsNear y
     near = near_points own values x y below box.near lies
 
-    pub pure_held : (reads : Reads) → AnswerWords pipeline.inputs reads → (func : Func) → slice_get pipeline.funcs reader ≡ Some func → Hold test (pure_points pipeline schedule reads reader func x y)
+    pub pure_held : (reads : Reads) → AnswerWords pipeline.inputs reads → (func : Func) → slice_get pipeline.funcs reader ≡ Some func
+        → Hold test (pure_points pipeline schedule reads reader func x y)
     pure_held reads words func func_is =
         all_held reader (pure_points pipeline schedule reads reader func x y) (record {
           inputs = λ place. pure_reads_of_inputs_lie pipeline schedule boxes rules is reader func own func_is own_is reads words values below x y lies place;
           funcs = λ place sought before found reached_so computed s.
-              pure_reads_of_funcs_lie pipeline schedule boxes rules is reader func own func_is own_is place sought before found reached_so computed s.consumer s.consumer_is s.view s.view_is reads words s.values s.below_view s.below_consumer x y s.lies;
+              pure_reads_of_funcs_lie pipeline schedule boxes rules is reader func own func_is own_is place sought before found reached_so computed s.consumer
+              s.consumer_is s.view s.view_is reads words s.values s.below_view s.below_consumer x y s.lies;
           own_points = λ l. absurd (omega (arith, l));
           through = pure_points_are_read_through pipeline schedule rules reader func func_is reads x y;
         })
@@ -264,22 +295,27 @@ module _ (pipeline : Pipeline) (schedule : Schedule) (boxes : Boxes) (rules : Is
     values_same None e = sym (zero_values values (subst (λ (l : List ℕ). Below values l) e below))
     values_same (Some consumer) e = refl
 
-    pub update_held : (reads : Reads) → AnswerWords pipeline.inputs reads → (func : Func) → slice_get pipeline.funcs reader ≡ Some func → flags pipeline schedule reader ≡ false
+    pub update_held : (reads : Reads) → AnswerWords pipeline.inputs reads → (func : Func) → slice_get pipeline.funcs reader ≡ Some func
+        → flags pipeline schedule reader ≡ false
         → (at : ℕ) (update : Update) → slice_get func.updates at ≡ Some update → (number : ℕ) → number < points update
         → Hold test (update_points pipeline schedule reads reader update number x y)
     update_held reads words func func_is plain at update update_is number few =
         let consumer = consumer_in schedule boxes.funcs box.standing.place in
         let same = values_same consumer box.lasts in
         all_held (suc reader) (update_points pipeline schedule reads reader update number x y) (record {
-          inputs = λ place. update_reads_of_inputs_lie pipeline schedule boxes rules is reader func own func_is own_is at update update_is reads words values below x y lies near.0 near.1 number few place;
+          inputs = λ place. update_reads_of_inputs_lie pipeline schedule boxes rules is reader func own func_is own_is at update update_is reads words values
+              below x y lies near.0 near.1 number few place;
           funcs = λ place sought before found reached_so computed s.
-              update_reads_of_funcs_lie pipeline schedule boxes rules is reader func own func_is own_is at update update_is place sought before found reached_so computed s.consumer s.consumer_is s.view s.view_is reads words s.values s.below_view s.below_consumer x y s.lies near.0 near.1 number few;
+              update_reads_of_funcs_lie pipeline schedule boxes rules is reader func own func_is own_is at update update_is place sought before found reached_so
+              computed s.consumer s.consumer_is s.view s.view_is reads words s.values s.below_view s.below_consumer x y s.lies near.0 near.1 number few;
           own_points = λ l.
               subst (λ (v : List ℕ). AreBoxed v (sources.Func reader) (Some (Some own)) (update_points pipeline schedule reads reader update number x y)) same
-              (own_points_lie pipeline schedule boxes rules is reader func box.standing func_is box.there.standing box.there.reached box.computed consumer refl values
+              (own_points_lie pipeline schedule boxes rules is reader func box.standing func_is box.there.standing box.there.reached box.computed consumer refl
+              values
               (subst (λ (v : List ℕ). Below v (lasts_of consumer)) (sym same) (subst (λ (t : List ℕ). Below values t) box.lasts below))
               own own_is at update update_is reads words x y lies.first.word lies.second.word near.0 near.1 number few
-              (subst (λ (v : List ℕ). LiesPartly v own (is_first_in_place update) (is_second_in_place update) x y) (sym same) (record { first = λ t. lies.first; second = λ t. lies.second })));
+              (subst (λ (v : List ℕ). LiesPartly v own (is_first_in_place update) (is_second_in_place update) x y) (sym same)
+              (record { first = λ t. lies.first; second = λ t. lies.second })));
           through = update_points_are_read_through pipeline schedule rules reader func func_is plain at update update_is reads number x y;
         })
 
@@ -312,7 +348,8 @@ module _ (pipeline : Pipeline) (schedule : Schedule) (boxes : Boxes) (rules : Is
 
     in_box : (place x y : ℕ) → put pipeline schedule place ≡ false → passing (point_at (sources.Func place) x y) ≡ true → IsInBox place x y
     in_box place x y plain passed =
-        let tested : test (point_at (sources.Func place) x y) ≡ true = sym (passes_tested test (put pipeline schedule) pipeline.funcs inputs (length pipeline.funcs) (sources.Func place) x y (ap not plain)) ∙ passed in
+        let tested : test (point_at (sources.Func place) x y) ≡ true = sym (passes_tested test (put pipeline schedule) pipeline.funcs inputs
+        (length pipeline.funcs) (sources.Func place) x y (ap not plain)) ∙ passed in
         in_box_by place x y (slice_get boxes.funcs place) refl (ap (λ (b : Bool). b || is_boxed (slice_get boxes.funcs place) x y) (sym plain) ∙ tested)
 
     module _ (place : ℕ) (func : Func) (func_is : slice_get pipeline.funcs place ≡ Some func) (plain : put pipeline schedule place ≡ false) where
@@ -343,10 +380,12 @@ module _ (pipeline : Pipeline) (schedule : Schedule) (boxes : Boxes) (rules : Is
         unfolding place_calls func_calls
         calling_pure other e = ap (place_calls_of other) func_is ∙ or_left (calls other func.pure) (updates_call other func.updates) e
 
-        calling : (at : ℕ) (update : Update) → slice_get func.updates at ≡ Some update → (other : ℕ) → update_calls other update ≡ true → place_calls pipeline place other ≡ true
+        calling : (at : ℕ) (update : Update) → slice_get func.updates at ≡ Some update → (other : ℕ) → update_calls other update ≡ true
+            → place_calls pipeline place other ≡ true
         unfolding place_calls func_calls
         calling at update update_is other e =
-            ap (place_calls_of other) func_is ∙ or_right (calls other func.pure) (updates_call other func.updates) (updates_one other func.updates at update update_is e)
+            ap (place_calls_of other) func_is ∙ or_right (calls other func.pure) (updates_call other func.updates) (updates_one other func.updates at update
+            update_is e)
 
         -- what an expression reads in its text passes, where what it reads through inlined Funcs is held
         text_passes : (environment : Environment) (has : Variable → Bool) (e : Expr) → keeps (is_read pipeline.inputs pipeline.funcs place) has e ≡ true
@@ -354,8 +393,10 @@ module _ (pipeline : Pipeline) (schedule : Schedule) (boxes : Boxes) (rules : Is
             → Hold test (inlined (seeing (found_by place)) (flags pipeline schedule) pipeline.funcs place (seen_variable environment) e).points
             → Hold passing (points_read (found_by place) environment e)
         text_passes environment has e kept called held =
-            seen_points_pass test (found_by place) (put pipeline schedule) pipeline.inputs pipeline.funcs inputs rules.funcs (put_simple pipeline schedule accepted) place (λ s n a b computed read. refl) has environment e kept
-            (subst (λ s. Hold test s.points) (same_seen pipeline schedule rules accepted (found_by place) place environment has e kept (reaching pipeline schedule rules accepted (found_by place) place reached_here e called)) held)
+            seen_points_pass test (found_by place) (put pipeline schedule) pipeline.inputs pipeline.funcs inputs rules.funcs (put_simple pipeline schedule
+            accepted) place (λ s n a b computed read. refl) has environment e kept
+            (subst (λ s. Hold test s.points) (same_seen pipeline schedule rules accepted (found_by place) place environment has e kept
+            (reaching pipeline schedule rules accepted (found_by place) place reached_here e called)) held)
             (length pipeline.funcs) (omega (arith, few))
 
         pure_passes : Hold passing (points_read (found_by place) (at_point x y) func.pure)
@@ -375,14 +416,17 @@ module _ (pipeline : Pipeline) (schedule : Schedule) (boxes : Boxes) (rules : Is
 
           parts_held : (reads : Reads) → AnswerWords pipeline.inputs reads
               → Hold test (seen_in pipeline schedule reads place point update.left_x).points
-              × (Hold test (second_seen pipeline schedule reads place point update.left_y).points × Hold test (seen_in pipeline schedule reads (suc place) point update.right).points)
+              × (Hold test (second_seen pipeline schedule reads place point update.left_y).points × Hold test (seen_in pipeline schedule reads (suc place) point
+              update.right).points)
           parts_held reads are_words =
-              let all = update_held place at_box.own at_box.own_is at_box.values at_box.below x y at_box.lies reads are_words func func_is unflagged at update update_is number inside in
+              let all = update_held place at_box.own at_box.own_is at_box.values at_box.below x y at_box.lies reads are_words func func_is unflagged at update
+              update_is number inside in
               let a = all_parts (λ (p : Point). test p ≡ true) (seen_in pipeline schedule reads place point update.left_x).points _ all in
               let b = all_parts (λ (p : Point). test p ≡ true) (second_seen pipeline schedule reads place point update.left_y).points _ a.1 in
               (a.0, (b.0, b.1.1))
 
-          index_passes : (index : Option Expr) → index ≡ update.left_y → keeps_index (is_read pipeline.inputs pipeline.funcs place) has (dimensions func) index ≡ true
+          index_passes : (index : Option Expr) → index ≡ update.left_y → keeps_index (is_read pipeline.inputs pipeline.funcs place) has (dimensions func) index
+              ≡ true
               → Hold test (second_seen pipeline schedule (found_by place) place point index).points → Hold passing (index_points (found_by place) point index)
           unfolding has
           index_passes None e kept held = tt
@@ -398,7 +442,8 @@ module _ (pipeline : Pipeline) (schedule : Schedule) (boxes : Boxes) (rules : Is
               let held = parts_held (found_by place) (words place) in
               all_both (λ (p : Point). passing p ≡ true) (points_read (found_by place) point update.left_x) (index_points (found_by place) point update.left_y)
               (text_passes point has update.left_x formed.left_x
-              (λ other c. calling at update update_is other (or_left (calls other update.left_x || second_calls other update.left_y) (calls other update.right) (or_left (calls other update.left_x) (second_calls other update.left_y) c)))
+              (λ other c. calling at update update_is other (or_left (calls other update.left_x || second_calls other update.left_y) (calls other update.right)
+              (or_left (calls other update.left_x) (second_calls other update.left_y) c)))
               held.0)
               (index_passes update.left_y refl formed.left_y held.1.0)
 
@@ -409,12 +454,14 @@ module _ (pipeline : Pipeline) (schedule : Schedule) (boxes : Boxes) (rules : Is
           standing_reads = reads_of inputs (with_plane place plane (pixels pipeline.funcs inputs place))
 
           plane_words : (a b : ℕ) → a < 2 ^ 32 → b < 2 ^ 32 → plane a b < 2 ^ 32
-          plane_words a b la lb = stages_are_words pipeline.inputs pipeline.funcs inputs rules.funcs place func func_is (words place) at update update_is number a b la lb
+          plane_words a b la lb = stages_are_words pipeline.inputs pipeline.funcs inputs rules.funcs place func func_is (words place) at update update_is number
+              a b la lb
 
           all_words : AnswerWords pipeline.inputs standing_reads
           all_words = with_words pipeline.inputs pipeline.funcs rules.funcs inputs place plane (pixels pipeline.funcs inputs place) plane_words (words place)
 
-          answers : (s : Source) (n a b : ℕ) → is_computed (put pipeline schedule) s ≡ true → is_read pipeline.inputs pipeline.funcs place s n ≡ true → standing_reads s a b ≡ found_by place s a b
+          answers : (s : Source) (n a b : ℕ) → is_computed (put pipeline schedule) s ≡ true → is_read pipeline.inputs pipeline.funcs place s n ≡ true
+              → standing_reads s a b ≡ found_by place s a b
           answers (sources.Input other) n a b computed read = refl
           answers (sources.Func other) n a b computed read =
               let before : other < place = ltb-true other place (and_parts (nat_lt other place) (is_func_of (slice_get pipeline.funcs other) n) read).0 in
@@ -435,8 +482,10 @@ module _ (pipeline : Pipeline) (schedule : Schedule) (boxes : Boxes) (rules : Is
           right_passes : Hold passing (points_read standing_reads point update.right)
           unfolding has
           right_passes =
-              seen_points_pass_in_updates test standing_reads (put pipeline schedule) pipeline.inputs pipeline.funcs inputs rules.funcs (put_simple pipeline schedule accepted) place plane plain answers own_answers has point update.right formed.right
-              (subst (λ s. Hold test s.points) (same_seen pipeline schedule rules accepted standing_reads (suc place) point has update.right formed.right reaching_right) (parts_held standing_reads all_words).1.1)
+              seen_points_pass_in_updates test standing_reads (put pipeline schedule) pipeline.inputs pipeline.funcs inputs rules.funcs
+              (put_simple pipeline schedule accepted) place plane plain answers own_answers has point update.right formed.right
+              (subst (λ s. Hold test s.points) (same_seen pipeline schedule rules accepted standing_reads (suc place) point has update.right formed.right
+              reaching_right) (parts_held standing_reads all_words).1.1)
               (length pipeline.funcs) few
 
       pub reads_hold : ReadsHold passing place func inputs (pixels pipeline.funcs inputs place)
@@ -451,9 +500,11 @@ module _ (pipeline : Pipeline) (schedule : Schedule) (boxes : Boxes) (rules : Is
     closed : (place x y : ℕ) → passing (point_at (sources.Func place) x y) ≡ true → Hold passing (direct_trace pipeline.funcs inputs place x y)
     closed place x y passed = by_func (slice_get pipeline.funcs place) refl
       where
-        by_flag : (func : Func) → slice_get pipeline.funcs place ≡ Some func → (flag : Bool) → put pipeline schedule place ≡ flag → Hold passing (direct_trace pipeline.funcs inputs place x y)
+        by_flag : (func : Func) → slice_get pipeline.funcs place ≡ Some func → (flag : Bool) → put pipeline schedule place ≡ flag
+            → Hold passing (direct_trace pipeline.funcs inputs place x y)
         by_flag func func_is true f =
-            passing_is_closed test (put pipeline schedule) pipeline.inputs pipeline.funcs inputs rules.funcs (put_simple pipeline schedule accepted) (length pipeline.funcs) place x y (below_length func func_is) f passed
+            passing_is_closed test (put pipeline schedule) pipeline.inputs pipeline.funcs inputs rules.funcs (put_simple pipeline schedule accepted)
+            (length pipeline.funcs) place x y (below_length func func_is) f passed
           where
             below_length : (g : Func) → slice_get pipeline.funcs place ≡ Some g → place < length pipeline.funcs
             below_length g found = elim (cases_lt place (length pipeline.funcs)) [
@@ -471,13 +522,16 @@ module _ (pipeline : Pipeline) (schedule : Schedule) (boxes : Boxes) (rules : Is
     held_of point passed = by_source point.source refl
       where
         by_flag : (place : ℕ) → point.source ≡ sources.Func place → (flag : Bool) → put pipeline schedule place ≡ flag → test point ≡ true
-        by_flag place e true f = ap (λ (s : Source). held_at pipeline schedule boxes s point.x point.y) e ∙ or_left (put pipeline schedule place) (is_boxed (slice_get boxes.funcs place) point.x point.y) f
+        by_flag place e true f = ap (λ (s : Source). held_at pipeline schedule boxes s point.x point.y) e
+            ∙ or_left (put pipeline schedule place) (is_boxed (slice_get boxes.funcs place) point.x point.y) f
         by_flag place e false f =
-            sym (passes_tested test (put pipeline schedule) pipeline.funcs inputs (length pipeline.funcs) point.source point.x point.y (ap (is_computed (put pipeline schedule)) e ∙ ap not f)) ∙ passed
+            sym (passes_tested test (put pipeline schedule) pipeline.funcs inputs (length pipeline.funcs) point.source point.x point.y
+            (ap (is_computed (put pipeline schedule)) e ∙ ap not f)) ∙ passed
 
         by_source : (s : Source) → point.source ≡ s → test point ≡ true
         by_source (sources.Input place) e =
-            sym (passes_tested test (put pipeline schedule) pipeline.funcs inputs (length pipeline.funcs) point.source point.x point.y (ap (is_computed (put pipeline schedule)) e)) ∙ passed
+            sym (passes_tested test (put pipeline schedule) pipeline.funcs inputs (length pipeline.funcs) point.source point.x point.y
+            (ap (is_computed (put pipeline schedule)) e)) ∙ passed
         by_source (sources.Func place) e = by_flag place e (put pipeline schedule place) refl
 
     all_of : (points : List Point) → Hold passing points → Hold test points
@@ -502,37 +556,44 @@ module _ (pipeline : Pipeline) (schedule : Schedule) (boxes : Boxes) (rules : Is
       own_standing : IsSome (slice_get schedule.standings place)
       own_standing =
           let plan = pair_there IsPlan pipeline.funcs schedule.funcs place drawn.value accepted.plans drawn.is in
-          subst (λ (l : List Standing). IsSome (slice_get l place)) (sym all_standings) (standing_some pipeline schedule.funcs 0 schedule.funcs place plan.value plan.is)
+          subst (λ (l : List Standing). IsSome (slice_get l place)) (sym all_standings) (standing_some pipeline schedule.funcs 0 schedule.funcs place plan.value
+          plan.is)
 
       known : (own_standing.value.is_reached ≡ true) × (own_standing.value.place ≡ places.Root)
       known = output_standing pipeline schedule.funcs own_standing.value (ap (λ (l : List Standing). slice_get l place) (sym all_standings) ∙ own_standing.is)
 
-      entry_by : (answer : Option (Option SourceBox)) → slice_get boxes.funcs place ≡ answer → IsBoxed no_loops answer x y → IsSome answer → is_boxed answer x y ≡ true
+      entry_by : (answer : Option (Option SourceBox)) → slice_get boxes.funcs place ≡ answer → IsBoxed no_loops answer x y → IsSome answer
+          → is_boxed answer x y ≡ true
       entry_by answer e boxed some =
           boxed_true no_loops answer x y some boxed
           (λ own f.
           let theirs = has_box pipeline schedule boxes accepted is place own (e ∙ f) in
           let same_standing : theirs.standing ≡ own_standing.value = let p = theirs.there.standing in let q = own_standing.is in cc in
-          let lasts : own.lasts ≡ no_loops = theirs.lasts ∙ ap (λ (t : Standing). lasts_of (consumer_in schedule boxes.funcs t.place)) same_standing ∙ ap (λ (p : Place). lasts_of (consumer_in schedule boxes.funcs p)) known.1 in
+          let lasts : own.lasts ≡ no_loops = theirs.lasts ∙ ap (λ (t : Standing). lasts_of (consumer_in schedule boxes.funcs t.place)) same_standing
+          ∙ ap (λ (p : Place). lasts_of (consumer_in schedule boxes.funcs p)) known.1 in
           subst (λ (l : List ℕ). Below no_loops l) (sym lasts) no_below)
 
       output_held : test (point_at (sources.Func place) x y) ≡ true
       output_held =
           or_right (put pipeline schedule place) (is_boxed (slice_get boxes.funcs place) x y)
-          (entry_by (slice_get boxes.funcs place) refl (output_lies pipeline schedule boxes rules is own_standing.value own_standing.is known.0 known.1 x y inside_x inside_y)
+          (entry_by (slice_get boxes.funcs place) refl (output_lies pipeline schedule boxes rules is own_standing.value own_standing.is known.0 known.1 x y
+          inside_x inside_y)
           (boxes_some pipeline schedule boxes is place drawn.value drawn.is))
 
       plain_output : put pipeline schedule place ≡ false
       plain_output = ap is_put_in own_standing.is ∙ (ap (λ (b : Bool). b && is_inlined own_standing.value.place) known.0 ∙ ap is_inlined known.1)
 
       output_passes : passing (point_at (sources.Func place) x y) ≡ true
-      output_passes = passes_tested test (put pipeline schedule) pipeline.funcs inputs (length pipeline.funcs) (sources.Func place) x y (ap not plain_output) ∙ output_held
+      output_passes = passes_tested test (put pipeline schedule) pipeline.funcs inputs (length pipeline.funcs) (sources.Func place) x y (ap not plain_output)
+          ∙ output_held
 
       pub all_reads : Hold test (point_at (sources.Func place) x y ∷ pixel_trace pipeline.funcs inputs (length pipeline.funcs) place x y)
       all_reads = (
         output_held,
-        all_of (pixel_trace pipeline.funcs inputs (length pipeline.funcs) place x y) (closed_points_hold_reads pipeline.funcs inputs passing closed (length pipeline.funcs) place x y output_passes),
+        all_of (pixel_trace pipeline.funcs inputs (length pipeline.funcs) place x y) (closed_points_hold_reads pipeline.funcs inputs passing closed
+            (length pipeline.funcs) place x y output_passes),
       )
 
 pub all_reads_are_held : AllReadsAreHeld
-all_reads_are_held pipeline schedule boxes rules accepted is inputs begun x y inside_x inside_y = all_reads pipeline schedule boxes rules accepted is inputs begun x y inside_x inside_y
+all_reads_are_held pipeline schedule boxes rules accepted is inputs begun x y inside_x inside_y = all_reads pipeline schedule boxes rules accepted is inputs
+    begun x y inside_x inside_y

@@ -1,5 +1,6 @@
 -- What loops visit of an argument lies in its view.
-use Rattle.std.proofs.Common.{◌≡◌, ℕ, zero, suc, ◌+◌, ◌-◌, ◌*◌, ◌<◌, ◌≤◌, Bool, true, false, cond, List, [], ◌∷◌, ◌++◌, length, take, drop, Option, Some, None, refl, sym, subst, ap, ◌∙◌, arith}
+use Rattle.std.proofs.Common.{◌≡◌, ℕ, zero, suc, ◌+◌, ◌-◌, ◌*◌, ◌<◌, ◌≤◌, Bool, true, false, cond, List, [], ◌∷◌, ◌++◌, length, take, drop, Option, Some, None}
+use Rattle.std.proofs.Common.{refl, sym, subst, ap, ◌∙◌, arith}
 use Rattle.std.specs.Prelude.{◌&&◌, ◌||◌, slice_get, nat_lt}
 use Rattle.std.specs.List.{AllByRecursion}
 use Rattle.std.proofs.lemmas.Bool.{ltb-false, or_parts, false≢true}
@@ -27,7 +28,8 @@ use Rattle.bounds_ranges.proofs.Lying.{fit_lies, plain_lies}
 use Rattle.bounds.specs.Extents.{extent, extents_of}
 use Rattle.bounds_laws.specs.ConsumerLaws.{turn_of, turn_at, turns_from, gone, IsGone, IsTakenTo, ConsumerArgumentsLie}
 use Rattle.bounds_laws.specs.Laws.{LiesIn}
-use Rattle.bounds.specs.Views.{last_of, last_at, lasts_in, consumer_loop, consumer_loop_in, consumer_view, consumer_view_in, multiple_of, multiple_at, base_in, argument, inner_count}
+use Rattle.bounds.specs.Views.{last_of, last_at, lasts_in, consumer_loop, consumer_loop_in, consumer_view, consumer_view_in, multiple_of, multiple_at, base_in}
+use Rattle.bounds.specs.Views.{argument, inner_count}
 
 take_front : {A : Type 0} (xs ys : List A) → take (length xs) (xs ++ ys) ≡ xs
 take_front [] ys = refl
@@ -65,11 +67,13 @@ module _ (splits : List Split) (variable : Variable) (turns : Values) where
       let l : nat_lt at n ≡ true = below_at at n (omega (arith, e)) in
       rw l (omega (arith, masked_is n (at + 1) inside outside (omega (arith, e))))
 
-  term_same : (same : Bool) (stride turn : ℕ) → (cond {A = Multiple} same (record { more = stride; less = 0 }) zero_multiple).more * turn ≡ cond same (stride * turn) 0
+  term_same : (same : Bool) (stride turn : ℕ) → (cond {A = Multiple} same (record { more = stride; less = 0 }) zero_multiple).more * turn
+      ≡ cond same (stride * turn) 0
   term_same true stride turn = refl
   term_same false stride turn = omega arith
 
-  term_at : (first : Bool) (own : Loop) → (cond first zero_multiple (multiple_of splits variable (Some own))).more * cond first 0 (turns own.id) ≡ cond first 0 (value own)
+  term_at : (first : Bool) (own : Loop) → (cond first zero_multiple (multiple_of splits variable (Some own))).more * cond first 0 (turns own.id)
+      ≡ cond first 0 (value own)
   unfolding value
   term_at true own = omega arith
   term_at false own = term_same (same_variable own.variable variable) (strides splits own.id) (turns own.id)
@@ -94,8 +98,24 @@ module _ (splits : List Split) (variable : Variable) (turns : Values) where
   more_is n [] few = omega (arith, none_at (nat_lt 0 n), none_at (nat_lt 1 n), none_at (nat_lt 2 n), none_at (nat_lt 3 n), none_at (nat_lt 4 n))
   more_is n (a ∷ []) few = omega (arith, term_at (nat_lt 0 n) a, none_at (nat_lt 1 n), none_at (nat_lt 2 n), none_at (nat_lt 3 n), none_at (nat_lt 4 n))
   more_is n (a ∷ b ∷ []) few = omega (arith, term_at (nat_lt 0 n) a, term_at (nat_lt 1 n) b, none_at (nat_lt 2 n), none_at (nat_lt 3 n), none_at (nat_lt 4 n))
-  more_is n (a ∷ b ∷ c ∷ []) few = omega (arith, term_at (nat_lt 0 n) a, term_at (nat_lt 1 n) b, term_at (nat_lt 2 n) c, none_at (nat_lt 3 n), none_at (nat_lt 4 n))
-  more_is n (a ∷ b ∷ c ∷ d ∷ []) few = omega (arith, term_at (nat_lt 0 n) a, term_at (nat_lt 1 n) b, term_at (nat_lt 2 n) c, term_at (nat_lt 3 n) d, none_at (nat_lt 4 n))
+  more_is n (a ∷ b ∷ c ∷ []) few = omega (
+    arith,
+    term_at (nat_lt 0 n) a,
+    term_at (nat_lt 1 n) b,
+    term_at (nat_lt 2 n) c,
+    none_at (nat_lt 3 n),
+    none_at
+        (nat_lt 4 n),
+  )
+  more_is n (a ∷ b ∷ c ∷ d ∷ []) few = omega (
+    arith,
+    term_at (nat_lt 0 n) a,
+    term_at (nat_lt 1 n) b,
+    term_at (nat_lt 2 n) c,
+    term_at (nat_lt 3 n) d,
+    none_at
+        (nat_lt 4 n),
+  )
   more_is n (a ∷ b ∷ c ∷ d ∷ e ∷ []) few =
       omega (arith, term_at (nat_lt 0 n) a, term_at (nat_lt 1 n) b, term_at (nat_lt 2 n) c, term_at (nat_lt 3 n) d, term_at (nat_lt 4 n) e)
   more_is n (a ∷ b ∷ c ∷ d ∷ e ∷ f ∷ loops) few = absurd (omega (arith, few))
@@ -133,7 +153,8 @@ module _ (extents : Extents) (splits : List Split) (turns : Values) where
   turns_at (first ∷ inside) outside are (suc at) l own e = turns_at inside outside are at (omega (arith, l)) own e
 
   turn_below : (n : ℕ) (loops : List Loop) → ((at : ℕ) → n ≤ at → (own : Loop) → slice_get loops at ≡ Some own → turns own.id < counts extents splits own.id)
-      → (at : ℕ) (test : Bool) → nat_lt at n ≡ test → (found : Option Loop) → slice_get loops at ≡ found → cond test 0 (turn_of turns found) ≤ last_of extents splits found
+      → (at : ℕ) (test : Bool) → nat_lt at n ≡ test → (found : Option Loop) → slice_get loops at ≡ found
+      → cond test 0 (turn_of turns found) ≤ last_of extents splits found
   turn_below n loops are at test t None e = few_none test
   turn_below n loops are at test t (Some own) e = few_first test (turns own.id) (counts extents splits own.id) (λ f. are at (ltb-false at n (t ∙ f)) own e)
 
@@ -159,7 +180,8 @@ none_first variable (own ∷ others) none =
     let rest : has_variable variable others ≡ false = (or_parts (same_variable own.variable variable) (has_variable variable others) none).1 in
     rw one (omega (arith, none_first variable others rest))
 
-none_stays : (is_update : Bool) (start : List Loop) (variable : Variable) → total (over variable) start ≡ 0 → Stays is_update start (λ loops splits. total (over variable) loops ≡ 0)
+none_stays : (is_update : Bool) (start : List Loop) (variable : Variable) → total (over variable) start ≡ 0
+    → Stays is_update start (λ loops splits. total (over variable) loops ≡ 0)
 unfolding over
 none_stays is_update start variable none = record {
   begun = none;
@@ -169,7 +191,8 @@ none_stays is_update start variable none = record {
   moved = λ loops new splits same order is. omega (arith, is, same (over variable));
 }
 
-none_made : (func : Func) (stage : Stage) (variable : Variable) → IsStageOf func None stage → has_variable variable (first_loops func None) ≡ false → total (over variable) stage.loops ≡ 0
+none_made : (func : Func) (stage : Stage) (variable : Variable) → IsStageOf func None stage → has_variable variable (first_loops func None) ≡ false
+    → total (over variable) stage.loops ≡ 0
 none_made func stage variable is none =
     by_making (λ loops splits. total (over variable) loops ≡ 0)
     (none_stays false (first_loops func None) variable (none_first variable (first_loops func None) none)) is.made
@@ -178,11 +201,13 @@ one_none : (test : Bool) (rest value more : ℕ) → cond test 1 0 + rest ≡ 0 
 one_none true rest value more e f = absurd (omega (arith, e))
 one_none false rest value more e f = omega (arith, f)
 
-base_none : (splits : List Split) (variable : Variable) (turns : Values) (loops : List Loop) → total (over variable) loops ≡ 0 → base splits variable turns loops ≡ 0
+base_none : (splits : List Split) (variable : Variable) (turns : Values) (loops : List Loop) → total (over variable) loops ≡ 0
+    → base splits variable turns loops ≡ 0
 unfolding over
 base_none splits variable turns [] none = refl
 base_none splits variable turns (own ∷ others) none =
-    one_none (same_variable own.variable variable) (total (over variable) others) (strides splits own.id * turns own.id) (base splits variable turns others) none
+    one_none (same_variable own.variable variable) (total (over variable) others) (strides splits own.id * turns own.id) (base splits variable turns others)
+    none
     (base_none splits variable turns others (omega (arith, none)))
 
 odd_none : (test odd more : Bool) (rest : ℕ) → cond test 1 0 + rest ≡ 0 → more ≡ false → ((test && odd) || more) ≡ false
@@ -208,8 +233,10 @@ every P all (x ∷ xs) = (all x, every P all xs)
 
 -- ---- one argument
 
-module _ (func : Func) (stage : Stage) (extents : Extents) (inside outside : List Loop) (turns : Values) (is : IsStageOf func None stage) (loops_are : stage.loops ≡ inside ++ outside)
-    (are : AreTurns (counts extents stage.splits) outside turns) (lasts : List ℕ) (below : Below (turns_from (length inside) turns stage.loops) lasts) (variable : Variable) where
+module _ (func : Func) (stage : Stage) (extents : Extents) (inside outside : List Loop) (turns : Values) (is : IsStageOf func None stage)
+    (loops_are : stage.loops ≡ inside ++ outside)
+    (are : AreTurns (counts extents stage.splits) outside turns) (lasts : List ℕ) (below : Below (turns_from (length inside) turns stage.loops) lasts)
+    (variable : Variable) where
   abbrev Has : Bool
   Has = has_variable variable (first_loops func None)
 
@@ -225,15 +252,21 @@ module _ (func : Func) (stage : Stage) (extents : Extents) (inside outside : Lis
   visited = wholes extents stage.splits inside turns
 
   visits_by : (has odd : Bool) → Has ≡ has → Odd ≡ odd → AllByRecursion IsVisited visited
-  visits_by false odd h o = every IsVisited (λ whole. record { bounded = λ e. absurd (false≢true (sym h ∙ e)); between = λ e none. absurd (false≢true (sym h ∙ e)) }) visited
+  visits_by false odd h o = every IsVisited (λ whole. record {
+    bounded = λ e. absurd (false≢true (sym h ∙ e));
+    between = λ e none. absurd (false≢true (sym h
+        ∙ e));
+  }) visited
   visits_by true true h o =
       each (λ (whole : Values). whole (ids.Whole variable) < extent_of extents variable) (λ (whole : Values). Unit {0}) IsVisited
       (λ whole l u. record { bounded = λ e. l; between = λ e none. absurd (false≢true (sym none ∙ o)) }) visited
       (within func None extents stage inside outside variable turns is loops_are h are) (every (λ (whole : Values). Unit {0}) (λ whole. tt) visited)
   visits_by true false h o =
-      each (λ (whole : Values). whole (ids.Whole variable) < extent_of extents variable) (IsReached extents stage.splits variable inside outside turns) IsVisited
+      each (λ (whole : Values). whole (ids.Whole variable) < extent_of extents variable) (IsReached extents stage.splits variable inside outside turns)
+      IsVisited
       (λ whole l r. record { bounded = λ e. l; between = λ e none. r }) visited
-      (within func None extents stage inside outside variable turns is loops_are h are) (reached func None extents stage inside outside variable turns is loops_are h are o)
+      (within func None extents stage inside outside variable turns is loops_are h are) (reached func None extents stage inside outside variable turns is
+      loops_are h are o)
 
   visits : AllByRecursion IsVisited visited
   visits = visits_by Has Odd refl refl
@@ -254,42 +287,64 @@ module _ (func : Func) (stage : Stage) (extents : Extents) (inside outside : Lis
   abbrev Parted : Range → Bool → Range
   Parted range odd =
       cond odd (fit lasts no_base (ends_of range))
-      (fit lasts (base_in stage.splits stage.loops variable (length inside)) (record { low = range.low; high = range.low + reach extents stage.splits variable inside }))
+      (fit lasts (base_in stage.splits stage.loops variable (length inside)) (record {
+        low = range.low;
+        high = range.low + reach extents stage.splits variable
+            inside;
+      }))
 
   parted : (range : Range) → argument lasts extents stage.splits stage.loops (length inside) variable range ≡ Parted range Odd
   parted range =
       let outer : drop (length inside) stage.loops ≡ outside = ap (λ (l : List Loop). drop (length inside) l) loops_are ∙ drop_front inside outside in
       let inner : take (length inside) stage.loops ≡ inside = ap (λ (l : List Loop). take (length inside) l) loops_are ∙ take_front inside outside in
       ap (λ (o : List Loop). cond (has_uneven stage.splits variable o) (fit lasts no_base (ends_of range))
-      (fit lasts (base_in stage.splits stage.loops variable (length inside)) (record { low = range.low; high = range.low + reach extents stage.splits variable (take (length inside) stage.loops) }))) outer
+      (fit lasts (base_in stage.splits stage.loops variable (length inside)) (record {
+        low = range.low;
+        high = range.low + reach extents stage.splits variable
+            (take (length inside) stage.loops);
+      }))) outer
       ∙ ap (λ (i : List Loop). cond (has_uneven stage.splits variable outside) (fit lasts no_base (ends_of range))
-      (fit lasts (base_in stage.splits stage.loops variable (length inside)) (record { low = range.low; high = range.low + reach extents stage.splits variable i }))) inner
+      (fit lasts (base_in stage.splits stage.loops variable (length inside)) (record {
+        low = range.low;
+        high = range.low + reach extents stage.splits variable i;
+      }))) inner
 
   none_outside : Has ≡ false → total (over variable) outside ≡ 0
   none_outside none =
-      let all : total (over variable) (inside ++ outside) ≡ 0 = ap (λ (l : List Loop). total (over variable) l) (sym loops_are) ∙ none_made func stage variable is none in
+      let all : total (over variable) (inside ++ outside) ≡ 0 = ap (λ (l : List Loop). total (over variable) l) (sym loops_are)
+      ∙ none_made func stage variable is none in
       omega (arith, all, total-append (over variable) inside outside)
 
   -- the value goes from the least number so far
   abbrev Far : Bool → Values → ℕ
   Far has whole = cond has (whole (ids.Whole variable)) 0
 
-  one_by : (has odd : Bool) → Has ≡ has → Odd ≡ odd → (range : Range) → extent_of extents variable ≡ extent range → (whole : Values) → IsVisited whole → (x : ℕ) → IsGone range (Far has whole) x
+  one_by : (has odd : Bool) → Has ≡ has → Odd ≡ odd → (range : Range) → extent_of extents variable ≡ extent range → (whole : Values) → IsVisited whole → (x : ℕ)
+      → IsGone range (Far has whole) x
       → Lies lasts Turns (Parted range odd) x
   one_by true true h o range extent_is whole is_visited x at =
       let l = is_visited.bounded h in
       plain_lies lasts Turns below (ends_of range) x at.word (λ least great. (omega (arith, at.is), omega (arith, at.is, l, extent_is)))
   one_by true false h o range extent_is whole is_visited x at =
       let r = is_visited.between h o in
-      fit_lies lasts Turns below (base_in stage.splits stage.loops variable (length inside)) (record { low = range.low; high = range.low + reach extents stage.splits variable inside }) x at.word
+      fit_lies lasts Turns below (base_in stage.splits stage.loops variable (length inside)) (record {
+        low = range.low;
+        high = range.low + reach extents
+            stage.splits variable inside;
+      }) x at.word
       (λ least great. (omega (arith, at.is, more, less, r.low), omega (arith, at.is, more, less, r.high)))
   one_by false true h o range extent_is whole is_visited x at = absurd (false≢true (sym (uneven_none stage.splits variable outside (none_outside h)) ∙ o))
   one_by false false h o range extent_is whole is_visited x at =
       let z = base_none stage.splits variable turns outside (none_outside h) in
-      fit_lies lasts Turns below (base_in stage.splits stage.loops variable (length inside)) (record { low = range.low; high = range.low + reach extents stage.splits variable inside }) x at.word
+      fit_lies lasts Turns below (base_in stage.splits stage.loops variable (length inside)) (record {
+        low = range.low;
+        high = range.low + reach extents
+            stage.splits variable inside;
+      }) x at.word
       (λ least great. (omega (arith, at.is, more, less, z), omega (arith, at.is, more, less, z)))
 
-  one_lies : (range : Range) → extent_of extents variable ≡ extent range → (whole : Values) → IsVisited whole → (x : ℕ) → IsGone range (gone func variable whole) x
+  one_lies : (range : Range) → extent_of extents variable ≡ extent range → (whole : Values) → IsVisited whole → (x : ℕ)
+      → IsGone range (gone func variable whole) x
       → Lies lasts Turns (argument lasts extents stage.splits stage.loops (length inside) variable range) x
   one_lies range extent_is whole is_visited x at =
       subst (λ (r : Range). Lies lasts Turns r x) (sym (parted range)) (one_by Has Odd refl refl range extent_is whole is_visited x at)
@@ -300,11 +355,15 @@ pub consumer_arguments_lie : ConsumerArgumentsLie
 unfolding consumer_loop_in consumer_view_in
 consumer_arguments_lie func plan own id inside outside turns is loops_are count_is are = (
   below,
-  each (IsVisited func stage extents inside outside turns is loops_are are lasts below variables.FirstArgument) (IsVisited func stage extents inside outside turns is loops_are are lasts below variables.SecondArgument)
-      (λ whole. (x y : ℕ) → IsTakenTo func own whole x y → LiesIn (turns_from (length inside) turns stage.loops) (consumer_view stage own (consumer_loop plan own id)) x y)
+  each (IsVisited func stage extents inside outside turns is loops_are are lasts below variables.FirstArgument) (IsVisited func stage extents inside outside
+      turns is loops_are are lasts below variables.SecondArgument)
+      (λ whole. (x y : ℕ) → IsTakenTo func own whole x y
+      → LiesIn (turns_from (length inside) turns stage.loops) (consumer_view stage own (consumer_loop plan own id)) x y)
       (λ whole first second x y at.
-      let at_count : (n : ℕ) → n ≡ length inside → LiesIn (turns_from (length inside) turns stage.loops) (consumer_view_in extents stage.splits stage.loops n own (consumer_loop plan own id)) x y =
-      λ n e. subst (λ (m : ℕ). LiesIn (turns_from (length inside) turns stage.loops) (consumer_view_in extents stage.splits stage.loops m own (consumer_loop plan own id)) x y) (sym e)
+      let at_count : (n : ℕ) → n ≡ length inside → LiesIn (turns_from (length inside) turns stage.loops) (consumer_view_in extents stage.splits stage.loops n
+      own (consumer_loop plan own id)) x y =
+      λ n e. subst (λ (m : ℕ). LiesIn (turns_from (length inside) turns stage.loops) (consumer_view_in extents stage.splits stage.loops m own
+      (consumer_loop plan own id)) x y) (sym e)
       (record {
         first = one_lies func stage extents inside outside turns is loops_are are lasts below variables.FirstArgument own.x refl whole first x at.first;
         second = one_lies func stage extents inside outside turns is loops_are are lasts below variables.SecondArgument own.y refl whole second y at.second;

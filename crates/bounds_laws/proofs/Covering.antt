@@ -18,7 +18,8 @@ use Rattle.bounds_laws.proofs.Hulls.{every_fits, fit_fits, hull_fits, hull_first
 
 -- ---- one range, over the loops of the consumer
 
-fits_over : (consumer : Option ConsumerLoop) (lasts : List ℕ) (range : Range) → range.low ≤ range.high → IsFit (lasts_of consumer) (taken_over consumer lasts range)
+fits_over : (consumer : Option ConsumerLoop) (lasts : List ℕ) (range : Range) → range.low ≤ range.high
+    → IsFit (lasts_of consumer) (taken_over consumer lasts range)
 fits_over None lasts range ordered = fit_fits no_loops no_base (widened lasts range) (omega (arith, ordered))
 fits_over (Some consumer) lasts range ordered = fit_fits consumer.lasts range.base (ends_of range) ordered
 
@@ -32,7 +33,8 @@ taken_fits consumer lasts range = taken_by consumer lasts range (nat_le range.lo
 
 -- ---- what is joined keeps to the words
 
-joined_fits : (lasts : List ℕ) (counts : Bool) (own : Option Range) (range : Range) → IsFitOrNone lasts own → IsFit lasts range → IsFitOrNone lasts (joined lasts counts own range)
+joined_fits : (lasts : List ℕ) (counts : Bool) (own : Option Range) (range : Range) → IsFitOrNone lasts own → IsFit lasts range
+    → IsFitOrNone lasts (joined lasts counts own range)
 joined_fits lasts false own range fits other = fits
 joined_fits lasts true None range fits other = other
 joined_fits lasts true (Some own) range fits other = hull_fits lasts own range fits other
@@ -44,16 +46,19 @@ read_fits consumer lasts first second spread read fits = record {
   y = joined_fits (lasts_of consumer) second spread.y (taken consumer lasts read.y) fits.y (taken_fits consumer lasts read.y);
 }
 
-pub next_fits : (consumer : Option ConsumerLoop) (lasts : List ℕ) (first second test : Bool) (spread : Spread) (read : Asked) → IsSpread (lasts_of consumer) spread
+pub next_fits : (consumer : Option ConsumerLoop) (lasts : List ℕ) (first second test : Bool) (spread : Spread) (read : Asked)
+    → IsSpread (lasts_of consumer) spread
     → IsSpread (lasts_of consumer) (if test then with_read consumer lasts first second spread read else spread)
 next_fits consumer lasts first second true spread read fits = read_fits consumer lasts first second spread read fits
 next_fits consumer lasts first second false spread read fits = fits
 
-pub gathered_fits : (consumer : Option ConsumerLoop) (lasts : List ℕ) (source : Source) (first second : Bool) (spread : Spread) (asked : List Asked) → IsSpread (lasts_of consumer) spread
+pub gathered_fits : (consumer : Option ConsumerLoop) (lasts : List ℕ) (source : Source) (first second : Bool) (spread : Spread) (asked : List Asked)
+    → IsSpread (lasts_of consumer) spread
     → IsSpread (lasts_of consumer) (gathered consumer lasts source first second spread asked)
 gathered_fits consumer lasts source first second spread [] fits = fits
 gathered_fits consumer lasts source first second spread (read ∷ others) fits =
-    gathered_fits consumer lasts source first second (if same_source read.source source then with_read consumer lasts first second spread read else spread) others
+    gathered_fits consumer lasts source first second (if same_source read.source source then with_read consumer lasts first second spread read else spread)
+    others
     (next_fits consumer lasts first second (same_source read.source source) spread read fits)
 
 -- ---- what lies there
@@ -66,23 +71,31 @@ pub record InSpread (lasts values : List ℕ) (spread : Spread) (x y : ℕ) : Ty
   pub first : IsIn lasts values spread.x x
   pub second : IsIn lasts values spread.y y
 
-pub joined_keeps : (lasts values : List ℕ) → Below values lasts → (counts : Bool) (own : Option Range) (range : Range) (x : ℕ) → IsIn lasts values own x → IsIn lasts values (joined lasts counts own range) x
+pub joined_keeps : (lasts values : List ℕ) → Below values lasts → (counts : Bool) (own : Option Range) (range : Range) (x : ℕ) → IsIn lasts values own x
+    → IsIn lasts values (joined lasts counts own range) x
 joined_keeps lasts values below false own range x lies = lies
 joined_keeps lasts values below true None range x lies = absurd lies
 joined_keeps lasts values below true (Some own) range x lies = hull_first lasts values below own range x lies
 
-pub joined_takes : (lasts values : List ℕ) → Below values lasts → (own : Option Range) (range : Range) (x : ℕ) → IsFitOrNone lasts own → Lies lasts values range x → IsIn lasts values (joined lasts true own range) x
+pub joined_takes : (lasts values : List ℕ) → Below values lasts → (own : Option Range) (range : Range) (x : ℕ) → IsFitOrNone lasts own
+    → Lies lasts values range x → IsIn lasts values (joined lasts true own range) x
 joined_takes lasts values below None range x fits lies = lies
 joined_takes lasts values below (Some own) range x fits lies = hull_second lasts values below own range x fits lies
 
 -- a list of points, of which those of the source lie there
 abbrev pub HoldsAll : List ℕ → List ℕ → Source → Spread → List Point → Type 0
-HoldsAll lasts values source spread points = AllByRecursion (λ point. same_source point.source source ≡ true → InSpread lasts values spread point.x point.y) points
+HoldsAll lasts values source spread points = AllByRecursion (λ point. same_source point.source source ≡ true → InSpread lasts values spread point.x point.y)
+    points
 
-pub holds_more : (lasts values : List ℕ) (source : Source) (spread other : Spread) → ((x y : ℕ) → InSpread lasts values spread x y → InSpread lasts values other x y)
+pub holds_more : (lasts values : List ℕ) (source : Source) (spread other : Spread) → ((x y : ℕ) → InSpread lasts values spread x y
+    → InSpread lasts values other x y)
     → (points : List Point) → HoldsAll lasts values source spread points → HoldsAll lasts values source other points
 holds_more lasts values source spread other keeps [] all = tt
-holds_more lasts values source spread other keeps (point ∷ points) all = (λ e. keeps point.x point.y (all.0 e), holds_more lasts values source spread other keeps points all.1)
+holds_more lasts values source spread other keeps (point ∷ points) all = (
+  λ e. keeps point.x point.y (all.0 e),
+  holds_more lasts values source spread other
+      keeps points all.1,
+)
 
 module _ (consumer : Option ConsumerLoop) (lasts values : List ℕ) (below : Below (values_for consumer values) (lasts_of consumer)) where
   next_keeps : (first second test : Bool) (spread : Spread) (read : Asked) (x y : ℕ) → InSpread (lasts_of consumer) (values_for consumer values) spread x y
@@ -93,7 +106,8 @@ module _ (consumer : Option ConsumerLoop) (lasts values : List ℕ) (below : Bel
   }
   next_keeps first second false spread read x y lies = lies
 
-  pub gathered_keeps : (source : Source) (first second : Bool) (spread : Spread) (asked : List Asked) (x y : ℕ) → InSpread (lasts_of consumer) (values_for consumer values) spread x y
+  pub gathered_keeps : (source : Source) (first second : Bool) (spread : Spread) (asked : List Asked) (x y : ℕ)
+      → InSpread (lasts_of consumer) (values_for consumer values) spread x y
       → InSpread (lasts_of consumer) (values_for consumer values) (gathered consumer lasts source first second spread asked) x y
   gathered_keeps source first second spread [] x y lies = lies
   gathered_keeps source first second spread (read ∷ others) x y lies =
@@ -101,45 +115,59 @@ module _ (consumer : Option ConsumerLoop) (lasts values : List ℕ) (below : Bel
       (next_keeps first second (same_source read.source source) spread read x y lies)
 
 pub gathered_both : (consumer : Option ConsumerLoop) (lasts : List ℕ) (source : Source) (first second : Bool) (spread : Spread) (some more : List Asked)
-    → gathered consumer lasts source first second spread (some ++ more) ≡ gathered consumer lasts source first second (gathered consumer lasts source first second spread some) more
+    → gathered consumer lasts source first second spread (some ++ more) ≡ gathered consumer lasts source first second (gathered consumer lasts source first
+    second spread some) more
 gathered_both consumer lasts source first second spread [] more = refl
 gathered_both consumer lasts source first second spread (read ∷ others) more =
-    gathered_both consumer lasts source first second (if same_source read.source source then with_read consumer lasts first second spread read else spread) others more
+    gathered_both consumer lasts source first second (if same_source read.source source then with_read consumer lasts first second spread read else spread)
+    others more
 
 -- ---- what is asked lies in what is gathered
 
-lies_over : (consumer : Option ConsumerLoop) (lasts values : List ℕ) → Below values lasts → Below (values_for consumer values) (lasts_of consumer) → (range : Range) (x : ℕ) → Lies lasts values range x
+lies_over : (consumer : Option ConsumerLoop) (lasts values : List ℕ) → Below values lasts → Below (values_for consumer values) (lasts_of consumer)
+    → (range : Range) (x : ℕ) → Lies lasts values range x
     → Lies (lasts_of consumer) (values_for consumer values) (taken_over consumer lasts range) x
 lies_over None lasts values own below range x lies =
     let stands = widened_stands lasts values own range x lies in
     plain_lies no_loops no_loops below (widened lasts range) x lies.word (λ l h. (stands.low, stands.high))
-lies_over (Some consumer) lasts values own below range x lies = fit_lies consumer.lasts values below range.base (ends_of range) x lies.word (λ l h. (lies.low, lies.high))
+lies_over (Some consumer) lasts values own below range x lies = fit_lies consumer.lasts values below range.base (ends_of range) x lies.word
+    (λ l h. (lies.low, lies.high))
 
-pub taken_lies : (consumer : Option ConsumerLoop) (lasts values : List ℕ) → Below values lasts → Below (values_for consumer values) (lasts_of consumer) → (range : Range) (x : ℕ) → Lies lasts values range x
+pub taken_lies : (consumer : Option ConsumerLoop) (lasts values : List ℕ) → Below values lasts → Below (values_for consumer values) (lasts_of consumer)
+    → (range : Range) (x : ℕ) → Lies lasts values range x
     → Lies (lasts_of consumer) (values_for consumer values) (taken consumer lasts range) x
 taken_lies consumer lasts values own below range x lies =
     subst (λ (test : Bool). Lies (lasts_of consumer) (values_for consumer values) (if test then taken_over consumer lasts range else every) x)
     (sym (le-leb range.low range.high (omega (arith, lies.low, lies.high))))
     (lies_over consumer lasts values own below range x lies)
 
-read_takes : (consumer : Option ConsumerLoop) (lasts values : List ℕ) → Below values lasts → Below (values_for consumer values) (lasts_of consumer) → (spread : Spread) (read : Asked) (point : Point)
-    → IsSpread (lasts_of consumer) spread → LiesAt lasts values read point → InSpread (lasts_of consumer) (values_for consumer values) (with_read consumer lasts true true spread read) point.x point.y
+read_takes : (consumer : Option ConsumerLoop) (lasts values : List ℕ) → Below values lasts → Below (values_for consumer values) (lasts_of consumer)
+    → (spread : Spread) (read : Asked) (point : Point)
+    → IsSpread (lasts_of consumer) spread → LiesAt lasts values read point
+    → InSpread (lasts_of consumer) (values_for consumer values) (with_read consumer lasts true true spread read) point.x point.y
 read_takes consumer lasts values own below spread read point fits lies = record {
-  first = joined_takes (lasts_of consumer) (values_for consumer values) below spread.x (taken consumer lasts read.x) point.x fits.x (taken_lies consumer lasts values own below read.x point.x lies.x);
-  second = joined_takes (lasts_of consumer) (values_for consumer values) below spread.y (taken consumer lasts read.y) point.y fits.y (taken_lies consumer lasts values own below read.y point.y lies.y);
+  first = joined_takes (lasts_of consumer) (values_for consumer values) below spread.x (taken consumer lasts read.x) point.x fits.x (taken_lies consumer lasts
+      values own below read.x point.x lies.x);
+  second = joined_takes (lasts_of consumer) (values_for consumer values) below spread.y (taken consumer lasts read.y) point.y fits.y (taken_lies consumer lasts
+      values own below read.y point.y lies.y);
 }
 
-pub gathered_takes : (consumer : Option ConsumerLoop) (lasts values : List ℕ) → Below values lasts → Below (values_for consumer values) (lasts_of consumer) → (source : Source) (spread : Spread) (asked : List Asked) (points : List Point)
-    → IsSpread (lasts_of consumer) spread → AllLie lasts values asked points → HoldsAll (lasts_of consumer) (values_for consumer values) source (gathered consumer lasts source true true spread asked) points
+pub gathered_takes : (consumer : Option ConsumerLoop) (lasts values : List ℕ) → Below values lasts → Below (values_for consumer values) (lasts_of consumer)
+    → (source : Source) (spread : Spread) (asked : List Asked) (points : List Point)
+    → IsSpread (lasts_of consumer) spread → AllLie lasts values asked points
+    → HoldsAll (lasts_of consumer) (values_for consumer values) source (gathered consumer lasts source true true spread asked) points
 gathered_takes consumer lasts values own below source spread [] [] fits all = tt
 gathered_takes consumer lasts values own below source spread [] (point ∷ points) fits all = absurd all
 gathered_takes consumer lasts values own below source spread (read ∷ others) [] fits all = absurd all
 gathered_takes consumer lasts values own below source spread (read ∷ others) (point ∷ points) fits all = (
   λ e.
-      gathered_keeps consumer lasts values below source true true (if same_source read.source source then with_read consumer lasts true true spread read else spread) others point.x point.y
-      (subst (λ (test : Bool). InSpread (lasts_of consumer) (values_for consumer values) (if test then with_read consumer lasts true true spread read else spread) point.x point.y)
+      gathered_keeps consumer lasts values below source true true (if same_source read.source source then with_read consumer lasts true true spread read
+      else spread) others point.x point.y
+      (subst (λ (test : Bool). InSpread (lasts_of consumer) (values_for consumer values) (if test then with_read consumer lasts true true spread read
+      else spread) point.x point.y)
       (sym e ∙ ap (λ (s : Source). same_source s source) all.0.source)
       (read_takes consumer lasts values own below spread read point fits all.0)),
-  gathered_takes consumer lasts values own below source (if same_source read.source source then with_read consumer lasts true true spread read else spread) others points
+  gathered_takes consumer lasts values own below source (if same_source read.source source then with_read consumer lasts true true spread read else spread)
+      others points
       (next_fits consumer lasts true true (same_source read.source source) spread read fits) all.1,
 )

@@ -1,5 +1,6 @@
 -- The box of a Func of one dimension has one row.
-use Rattle.std.proofs.Common.{◌≡◌, ℕ, zero, suc, ◌+◌, ◌-◌, ◌<◌, Bool, true, false, cond, List, [], ◌∷◌, ◌++◌, Option, None, Some, refl, sym, ap, ◌∙◌, arith, inl, inr}
+use Rattle.std.proofs.Common.{◌≡◌, ℕ, zero, suc, ◌+◌, ◌-◌, ◌<◌, Bool, true, false, cond, List, [], ◌∷◌, ◌++◌, Option, None, Some, refl, sym, ap, ◌∙◌, arith}
+use Rattle.std.proofs.Common.{inl, inr}
 use Rattle.std.specs.Prelude.{◌==◌, ◌&&◌, not, nat_lt, nat_le, slice_get}
 use Rattle.std.specs.List.{AllByRecursion}
 use Rattle.std.proofs.lemmas.Bool.{and_parts, ltb-true, eqb-true, or_cases}
@@ -13,7 +14,8 @@ use Rattle.halide_pipeline.specs.declared.expressions.Source.{Source}
 use Rattle.halide_pipeline.specs.declared.expressions.Source.TheVariants as sources
 use Rattle.halide_pipeline.specs.declared.expressions.Variable.{Variable}
 use Rattle.halide_pipeline.specs.declared.expressions.Variable.TheVariants as variables
-use Rattle.halide_pipeline.specs.WellFormed.{dimensions, is_first_in_place, is_second_in_place, keeps, keeps_index, is_read, is_input_of, is_func_of, is_argument, is_update_variable, are_dimensions, IsWellFormed, IsUpdate}
+use Rattle.halide_pipeline.specs.WellFormed.{dimensions, is_first_in_place, is_second_in_place, keeps, keeps_index, is_read, is_input_of, is_func_of}
+use Rattle.halide_pipeline.specs.WellFormed.{is_argument, is_update_variable, are_dimensions, IsWellFormed, IsUpdate}
 use Rattle.halide_pipeline.specs.Pipelines.{Pipeline}
 use Rattle.halide_pipeline.proofs.Seeing.{all_both}
 use Rattle.schedule.specs.declared.schedules.Schedule.{Schedule}
@@ -25,7 +27,8 @@ use Rattle.bounds_ranges.specs.declared.expressions.Asked.{Asked}
 use Rattle.bounds_ranges.specs.declared.expressions.OwnCalls.{OwnCalls}
 use Rattle.bounds_ranges.specs.declared.ranges.Range.{Range}
 use Rattle.bounds_ranges.specs.Ranges.{no_base, more_sum, less_sum, every, fit, literal, together, hull}
-use Rattle.bounds_ranges.specs.Expressions.{Ranged, ranging, second_asked, unasked, unasked_variable, ranges_where, is_anywhere, chosen, ranged_update, range_of, walked}
+use Rattle.bounds_ranges.specs.Expressions.{Ranged, ranging, second_asked, unasked, unasked_variable, ranges_where, is_anywhere, chosen, ranged_update}
+use Rattle.bounds_ranges.specs.Expressions.{range_of, walked}
 use Rattle.bounds_ranges.specs.Numbers.{origin, least, greatest}
 use Rattle.bounds_ranges.proofs.Sums.{no_more, no_less}
 use Rattle.halide_pipeline.specs.Levels.{Both}
@@ -33,7 +36,8 @@ use Rattle.bounds_weights.specs.Weight.{flags_of}
 use Rattle.bounds.specs.declared.boxes.ConsumerLoop.{ConsumerLoop}
 use Rattle.bounds.specs.declared.boxes.SourceBox.{SourceBox}
 use Rattle.bounds.specs.declared.boxes.Spread.{Spread}
-use Rattle.bounds.specs.Inference.{pure_variables, update_variables, own_calls, left, second_left, right, left_read, update_asked, updates_asked, func_asked, unplaced, pixels_range, wanted, own_update, own_updates, read_in, read_of, read_by_box, read_from, computed_box}
+use Rattle.bounds.specs.Inference.{pure_variables, update_variables, own_calls, left, second_left, right, left_read, update_asked, updates_asked, func_asked}
+use Rattle.bounds.specs.Inference.{unplaced, pixels_range, wanted, own_update, own_updates, read_in, read_of, read_by_box, read_from, computed_box}
 use Rattle.bounds.specs.Boxes.{no_loops, lasts_of, taken, with_range, joined, with_read, gathered, box_of, same_source}
 use Rattle.bounds_laws.specs.Closure.{flat, OneRowBoxes}
 use Rattle.bounds.specs.Views.{view_of}
@@ -85,7 +89,8 @@ module _ (pipeline : Pipeline) where
 
   not_two : (count : ℕ) (s : Source) → is_read pipeline.inputs pipeline.funcs count s 2 ≡ true → is_one s ≡ true → ⊥
   not_two count (sources.Input place) e f = one_input (slice_get pipeline.inputs place) f e
-  not_two count (sources.Func place) e f = one_func (slice_get pipeline.funcs place) f (and_parts (nat_lt place count) (is_func_of (slice_get pipeline.funcs place) 2) e).1
+  not_two count (sources.Func place) e f = one_func (slice_get pipeline.funcs place) f (and_parts (nat_lt place count)
+      (is_func_of (slice_get pipeline.funcs place) 2) e).1
 
   -- what is asked of such a source is asked of its row
   abbrev pub IsFlat : Asked → Type 0
@@ -103,11 +108,13 @@ module _ (pipeline : Pipeline) where
 
     abbrev Claim : ℕ → Type 0
     Claim count =
-        (vars : Variable → Ranged) → ((v : Variable) → AreFlat (vars v).asked) → (has : Variable → Bool) (e : Expr) → keeps (is_read pipeline.inputs pipeline.funcs count) has e ≡ true
+        (vars : Variable → Ranged) → ((v : Variable) → AreFlat (vars v).asked) → (has : Variable → Bool) (e : Expr)
+        → keeps (is_read pipeline.inputs pipeline.funcs count) has e ≡ true
         → AreFlat (through (ranging lasts pipeline.inputs) (within count) vars e).asked
 
     made_flat : (place : ℕ) → Claim place → (found : Option Func) → slice_get pipeline.funcs place ≡ found → (n : ℕ) → is_func_of found n ≡ true
-        → (a x : Ranged) (y : Option Ranged) → AreFlat x.asked → AreFlat (second_asked y) → AreFlat (answered a x y (made_in (ranging lasts pipeline.inputs) (within place) found)).asked
+        → (a x : Ranged) (y : Option Ranged) → AreFlat x.asked → AreFlat (second_asked y)
+        → AreFlat (answered a x y (made_in (ranging lasts pipeline.inputs) (within place) found)).asked
     unfolding ranging
     made_flat place claim None is n some a x y fx fy = absurd cc
     made_flat place claim (Some func) is n some a x y fx fy =
@@ -116,14 +123,16 @@ module _ (pipeline : Pipeline) where
         both_flat x.asked (second_asked y ++ v.asked) fx
         (both_flat (second_asked y) v.asked fy (claim vars nothing (is_argument (dimensions func)) func.pure (rules.funcs place func is).pure))
       where
-        nothing : (v : Variable) → AreFlat (arguments (none (ranging lasts pipeline.inputs)) (unasked x.range) (unasked (second_of (none (ranging lasts pipeline.inputs)) y).range) v).asked
+        nothing : (v : Variable) → AreFlat (arguments (none (ranging lasts pipeline.inputs)) (unasked x.range)
+            (unasked (second_of (none (ranging lasts pipeline.inputs)) y).range) v).asked
         nothing variables.FirstArgument = tt
         nothing variables.SecondArgument = tt
         nothing variables.FirstReduction = tt
         nothing variables.SecondReduction = tt
 
     module _ (count : ℕ) (claims : (place : ℕ) → place < count → Claim place) where
-      answered_flat : (s : Source) (n : ℕ) → is_read pipeline.inputs pipeline.funcs count s n ≡ true → (a x : Ranged) (y : Option Ranged) → AreFlat a.asked → AreFlat x.asked → AreFlat (second_asked y)
+      answered_flat : (s : Source) (n : ℕ) → is_read pipeline.inputs pipeline.funcs count s n ≡ true → (a x : Ranged) (y : Option Ranged) → AreFlat a.asked
+          → AreFlat x.asked → AreFlat (second_asked y)
           → AreFlat (answered a x y (answer (within count) s)).asked
       answered_flat (sources.Input place) n read a x y fa fx fy = fa
       answered_flat (sources.Func place) n read a x y fa fx fy = by_flag (flagged flags place) refl
@@ -144,7 +153,8 @@ module _ (pipeline : Pipeline) where
       Flat r u = AreFlat r.asked
 
       module _ (vars : Variable → Ranged) (quiet : (v : Variable) → AreFlat (vars v).asked) (has : Variable → Bool) where
-        pub flat_levels : KeptLevels Flat (is_read pipeline.inputs pipeline.funcs count) has (through_at (ranging lasts pipeline.inputs) (within count) vars) (λ level. tt)
+        pub flat_levels : KeptLevels Flat (is_read pipeline.inputs pipeline.funcs count) has (through_at (ranging lasts pipeline.inputs) (within count) vars)
+            (λ level. tt)
         unfolding ranging
         flat_levels (layer.Number n) kept = tt
         flat_levels (layer.Variable v) kept = quiet v
@@ -156,11 +166,14 @@ module _ (pipeline : Pipeline) where
             answered_flat s 1 kept _ a.left None (both_flat a.left.asked _ a.is (λ one. literal_flat lasts, tt)) a.is tt
         flat_levels (layer.Call2 s a b) kept =
             answered_flat s 2 kept _ a.left (Some b.left)
-            (both_flat (a.left.asked ++ b.left.asked) _ (both_flat a.left.asked b.left.asked a.is b.is) (λ one. absurd (not_two count s kept one), tt)) a.is b.is
+            (both_flat (a.left.asked ++ b.left.asked) _ (both_flat a.left.asked b.left.asked a.is b.is) (λ one. absurd (not_two count s kept one), tt)) a.is
+            b.is
 
-        claimed : (e : Expr) → keeps (is_read pipeline.inputs pipeline.funcs count) has e ≡ true → AreFlat (through (ranging lasts pipeline.inputs) (within count) vars e).asked
+        claimed : (e : Expr) → keeps (is_read pipeline.inputs pipeline.funcs count) has e ≡ true
+            → AreFlat (through (ranging lasts pipeline.inputs) (within count) vars e).asked
         unfolding through
-        claimed e kept = kept_folds_related Flat (is_read pipeline.inputs pipeline.funcs count) has (through_at (ranging lasts pipeline.inputs) (within count) vars) (λ level. tt) flat_levels e kept
+        claimed e kept = kept_folds_related Flat (is_read pipeline.inputs pipeline.funcs count) has (through_at (ranging lasts pipeline.inputs) (within count)
+            vars) (λ level. tt) flat_levels e kept
 
     claims_below : (most place : ℕ) → place < most → Claim place
     claims_below zero place below = absurd (omega (arith, below))
@@ -186,7 +199,8 @@ module _ (pipeline : Pipeline) where
       one_way around = flat_levels count (all_claims count) (unasked_variable (ranges_where lasts ranges around)) (λ v. tt) has
 
       both_ways : KeptLevels BothWays (is_read pipeline.inputs pipeline.funcs count) has
-          (λ level around. through_at (ranging lasts pipeline.inputs) (within count) (unasked_variable (ranges_where lasts ranges around)) (chosen own around level)) (λ level. tt)
+          (λ level around. through_at (ranging lasts pipeline.inputs) (within count) (unasked_variable (ranges_where lasts ranges around))
+          (chosen own around level)) (λ level. tt)
       both_ways (layer.Number n) kept around = one_way around (layer.Number n) kept
       both_ways (layer.Variable v) kept around = one_way around (layer.Variable v) kept
       both_ways (layer.Binary op a b) kept around = one_way around (layer.Binary op (at around a) (at around b)) kept
@@ -202,21 +216,28 @@ module _ (pipeline : Pipeline) where
       unfolding ranged_update
       update_flat e kept around =
           kept_folds_related BothWays (is_read pipeline.inputs pipeline.funcs count) has
-          (λ level around. through_at (ranging lasts pipeline.inputs) (within count) (unasked_variable (ranges_where lasts ranges around)) (chosen own around level)) (λ level. tt) both_ways e kept around
+          (λ level around. through_at (ranging lasts pipeline.inputs) (within count) (unasked_variable (ranges_where lasts ranges around))
+          (chosen own around level)) (λ level. tt) both_ways e kept around
 
   -- ---- a Func
 
-  module _ (rules : IsWellFormed pipeline) (flags : List Bool) (place : ℕ) (func : Func) (func_is : slice_get pipeline.funcs place ≡ Some func) (view : SourceBox) where
-    one_update : (at : ℕ) (update : Update) → slice_get func.updates at ≡ Some update → AreFlat (update_asked pipeline.inputs pipeline.funcs flags place view update)
+  module _ (rules : IsWellFormed pipeline) (flags : List Bool) (place : ℕ) (func : Func) (func_is : slice_get pipeline.funcs place ≡ Some func)
+      (view : SourceBox) where
+    one_update : (at : ℕ) (update : Update) → slice_get func.updates at ≡ Some update
+        → AreFlat (update_asked pipeline.inputs pipeline.funcs flags place view update)
     unfolding update_asked left right
     one_update at update is =
         both_flat (left pipeline.inputs pipeline.funcs flags place view update update.left_x).asked
-        ((second_left pipeline.inputs pipeline.funcs flags place view update update.left_y).asked ++ (left_read pipeline.inputs pipeline.funcs flags place view update ∷ (right pipeline.inputs pipeline.funcs flags place view update).asked))
-        (update_flat rules flags view.lasts place (own_calls place update) (is_update_variable (dimensions func) update.second) (range_of (update_variables view update)) update.left_x formed.left_x true)
-        (both_flat (second_left pipeline.inputs pipeline.funcs flags place view update update.left_y).asked (left_read pipeline.inputs pipeline.funcs flags place view update ∷ (right pipeline.inputs pipeline.funcs flags place view update).asked)
+        ((second_left pipeline.inputs pipeline.funcs flags place view update update.left_y).asked ++ (left_read pipeline.inputs pipeline.funcs flags place view
+        update ∷ (right pipeline.inputs pipeline.funcs flags place view update).asked))
+        (update_flat rules flags view.lasts place (own_calls place update) (is_update_variable (dimensions func) update.second)
+        (range_of (update_variables view update)) update.left_x formed.left_x true)
+        (both_flat (second_left pipeline.inputs pipeline.funcs flags place view update update.left_y).asked (left_read pipeline.inputs pipeline.funcs flags
+        place view update ∷ (right pipeline.inputs pipeline.funcs flags place view update).asked)
         (second update.left_y formed.left_y).0 (
           (second update.left_y formed.left_y).1,
-          update_flat rules flags view.lasts (suc place) (own_calls place update) (is_update_variable (dimensions func) update.second) (range_of (update_variables view update)) update.right formed.right false,
+          update_flat rules flags view.lasts (suc place) (own_calls place update) (is_update_variable (dimensions func) update.second)
+              (range_of (update_variables view update)) update.right formed.right false,
         ))
       where
         formed : IsUpdate pipeline.inputs pipeline.funcs place (dimensions func) update
@@ -225,17 +246,21 @@ module _ (pipeline : Pipeline) where
         own_one : is_one (sources.Func place) ≡ true → (dimensions func == 1) ≡ true
         own_one e = sym (ap (λ (f : Option Func). is_func_of f 1) func_is) ∙ e
 
-        second : (index : Option Expr) → keeps_index (is_read pipeline.inputs pipeline.funcs place) (is_update_variable (dimensions func) update.second) (dimensions func) index ≡ true
+        second : (index : Option Expr) → keeps_index (is_read pipeline.inputs pipeline.funcs place) (is_update_variable (dimensions func) update.second)
+            (dimensions func) index ≡ true
             → AreFlat (second_left pipeline.inputs pipeline.funcs flags place view update index).asked
             × (is_one (sources.Func place) ≡ true → (second_left pipeline.inputs pipeline.funcs flags place view update index).range ≡ flat)
         second None kept = (tt, λ one. literal_flat view.lasts)
         second (Some index) kept =
-            let k = and_parts (dimensions func == 2) (keeps (is_read pipeline.inputs pipeline.funcs place) (is_update_variable (dimensions func) update.second) index) kept in (
-              update_flat rules flags view.lasts place (own_calls place update) (is_update_variable (dimensions func) update.second) (range_of (update_variables view update)) index k.1 true,
+            let k = and_parts (dimensions func == 2) (keeps (is_read pipeline.inputs pipeline.funcs place) (is_update_variable (dimensions func) update.second)
+            index) kept in (
+              update_flat rules flags view.lasts place (own_calls place update) (is_update_variable (dimensions func) update.second)
+                  (range_of (update_variables view update)) index k.1 true,
               λ one. let a = eqb-true (dimensions func) 1 (own_one one) in let b = eqb-true (dimensions func) 2 k.0 in absurd (omega (arith, a, b)),
             )
 
-    some_updates : (updates : List Update) (before : ℕ) → ((k : ℕ) → slice_get func.updates (before + k) ≡ slice_get updates k) → AreFlat (updates_asked pipeline.inputs pipeline.funcs flags place view updates)
+    some_updates : (updates : List Update) (before : ℕ) → ((k : ℕ) → slice_get func.updates (before + k) ≡ slice_get updates k)
+        → AreFlat (updates_asked pipeline.inputs pipeline.funcs flags place view updates)
     some_updates [] before from = tt
     some_updates (update ∷ others) before from =
         let here : before + 0 ≡ before = omega arith in
@@ -248,11 +273,14 @@ module _ (pipeline : Pipeline) where
     unfolding func_asked
     func_flat =
         let here : (k : ℕ) → 0 + k ≡ k = λ k. omega arith in
-        both_flat (walked view.lasts pipeline.inputs flags pipeline.funcs place (pure_variables view) func.pure).asked (updates_asked pipeline.inputs pipeline.funcs flags place view func.updates)
-        (claim_at rules flags view.lasts place (unasked_variable (range_of (pure_variables view))) (λ v. tt) (is_argument (dimensions func)) func.pure (rules.funcs place func func_is).pure)
+        both_flat (walked view.lasts pipeline.inputs flags pipeline.funcs place (pure_variables view) func.pure).asked (updates_asked pipeline.inputs
+        pipeline.funcs flags place view func.updates)
+        (claim_at rules flags view.lasts place (unasked_variable (range_of (pure_variables view))) (λ v. tt) (is_argument (dimensions func)) func.pure
+        (rules.funcs place func func_is).pure)
         (some_updates func.updates 0 (λ k. ap (λ (n : ℕ). slice_get func.updates n) (here k)))
 
-    pub own_flat : (at : ℕ) (update : Update) → slice_get func.updates at ≡ Some update → AreFlat (update_asked pipeline.inputs pipeline.funcs flags place view update)
+    pub own_flat : (at : ℕ) (update : Update) → slice_get func.updates at ≡ Some update
+        → AreFlat (update_asked pipeline.inputs pipeline.funcs flags place view update)
     own_flat at update is = one_update at update is
 
   -- ---- what is gathered
@@ -270,50 +298,63 @@ module _ (pipeline : Pipeline) where
   module _ (consumer : Option ConsumerLoop) (source : Source) (one : is_one source ≡ true) where
     with_flat : (own : Option Range) (range : Range) → IsFlatOrNone own → range ≡ flat → with_range (lasts_of consumer) own range ≡ flat
     with_flat None range flat_own is = is
-    with_flat (Some own) range flat_own is = ap (λ (r : Range). together (lasts_of consumer) hull own r) is ∙ ap (λ (r : Range). together (lasts_of consumer) hull r flat) flat_own ∙ together_flat (lasts_of consumer)
+    with_flat (Some own) range flat_own is = ap (λ (r : Range). together (lasts_of consumer) hull own r) is
+        ∙ ap (λ (r : Range). together (lasts_of consumer) hull r flat) flat_own ∙ together_flat (lasts_of consumer)
 
-    joined_flat : (counts : Bool) (own : Option Range) (range : Range) → IsFlatOrNone own → range ≡ flat → IsFlatOrNone (joined (lasts_of consumer) counts own range)
+    joined_flat : (counts : Bool) (own : Option Range) (range : Range) → IsFlatOrNone own → range ≡ flat
+        → IsFlatOrNone (joined (lasts_of consumer) counts own range)
     joined_flat true own range flat_own is = with_flat own range flat_own is
     joined_flat false own range flat_own is = flat_own
 
-    one_more : (lasts : List ℕ) (first second : Bool) (spread : Spread) (read : Asked) → IsFlat read → IsFlatOrNone spread.y → (test : Bool) → same_source read.source source ≡ test
+    one_more : (lasts : List ℕ) (first second : Bool) (spread : Spread) (read : Asked) → IsFlat read → IsFlatOrNone spread.y → (test : Bool)
+        → same_source read.source source ≡ test
         → IsFlatOrNone (cond test (with_read consumer lasts first second spread read) spread).y
     one_more lasts first second spread read is begun true e =
         let flat_read = is (ap is_one (same_is read.source source e) ∙ one) in
         joined_flat second spread.y (taken consumer lasts read.y) begun (ap (λ (r : Range). taken consumer lasts r) flat_read ∙ taken_flat consumer lasts)
     one_more lasts first second spread read is begun false e = begun
 
-    gathered_flat : (lasts : List ℕ) (first second : Bool) (spread : Spread) (asked : List Asked) → AreFlat asked → IsFlatOrNone spread.y → IsFlatOrNone (gathered consumer lasts source first second spread asked).y
+    gathered_flat : (lasts : List ℕ) (first second : Bool) (spread : Spread) (asked : List Asked) → AreFlat asked → IsFlatOrNone spread.y
+        → IsFlatOrNone (gathered consumer lasts source first second spread asked).y
     gathered_flat lasts first second spread [] all begun = begun
     gathered_flat lasts first second spread (read ∷ others) all begun =
         gathered_flat lasts first second (cond (same_source read.source source) (with_read consumer lasts first second spread read) spread) others all.1
         (one_more lasts first second spread read all.0 begun (same_source read.source source) refl)
 
     module _ (rules : IsWellFormed pipeline) (schedule : Schedule) (flags : List Bool) where
-      of_flat : (at : ℕ) (view : SourceBox) (spread : Spread) (func : Option Func) → slice_get pipeline.funcs at ≡ func → IsFlatOrNone spread.y → IsFlatOrNone (read_of pipeline flags at view consumer source spread func).y
+      of_flat : (at : ℕ) (view : SourceBox) (spread : Spread) (func : Option Func) → slice_get pipeline.funcs at ≡ func → IsFlatOrNone spread.y
+          → IsFlatOrNone (read_of pipeline flags at view consumer source spread func).y
       unfolding read_in
       of_flat at view spread None is begun = begun
       of_flat at view spread (Some func) is begun =
           gathered_flat view.lasts true true spread (func_asked pipeline.inputs pipeline.funcs flags at view func) (func_flat rules flags at func is view) begun
 
-      box_flat : (at : ℕ) (own : Option SourceBox) (spread : Spread) → IsFlatOrNone spread.y → IsFlatOrNone (read_by_box pipeline schedule flags at own consumer source spread).y
+      box_flat : (at : ℕ) (own : Option SourceBox) (spread : Spread) → IsFlatOrNone spread.y
+          → IsFlatOrNone (read_by_box pipeline schedule flags at own consumer source spread).y
       box_flat at None spread begun = begun
-      box_flat at (Some own) spread begun = of_flat at (view_of (slice_get schedule.funcs at) (slice_get schedule.standings at) own consumer) spread (slice_get pipeline.funcs at) refl begun
+      box_flat at (Some own) spread begun = of_flat at (view_of (slice_get schedule.funcs at) (slice_get schedule.standings at) own consumer) spread
+          (slice_get pipeline.funcs at) refl begun
 
-      pub from_flat : (at : ℕ) (boxes : List (Option SourceBox)) (spread : Spread) → IsFlatOrNone spread.y → IsFlatOrNone (read_from pipeline schedule flags at consumer source boxes spread).y
+      pub from_flat : (at : ℕ) (boxes : List (Option SourceBox)) (spread : Spread) → IsFlatOrNone spread.y
+          → IsFlatOrNone (read_from pipeline schedule flags at consumer source boxes spread).y
       from_flat at [] spread begun = begun
-      from_flat at (own ∷ boxes) spread begun = from_flat (at + 1) boxes (read_by_box pipeline schedule flags at own consumer source spread) (box_flat at own spread begun)
+      from_flat at (own ∷ boxes) spread begun = from_flat (at + 1) boxes (read_by_box pipeline schedule flags at own consumer source spread)
+          (box_flat at own spread begun)
 
-  module _ (rules : IsWellFormed pipeline) (flags : List Bool) (consumer : Option ConsumerLoop) (place : ℕ) (func : Func) (func_is : slice_get pipeline.funcs place ≡ Some func) (one : is_one (sources.Func place) ≡ true) where
-    updates_flat : (updates : List Update) (before : ℕ) → ((k : ℕ) → slice_get func.updates (before + k) ≡ slice_get updates k) → (spread : Spread) → IsFlatOrNone spread.y
+  module _ (rules : IsWellFormed pipeline) (flags : List Bool) (consumer : Option ConsumerLoop) (place : ℕ) (func : Func) (func_is : slice_get pipeline.funcs
+      place ≡ Some func) (one : is_one (sources.Func place) ≡ true) where
+    updates_flat : (updates : List Update) (before : ℕ) → ((k : ℕ) → slice_get func.updates (before + k) ≡ slice_get updates k) → (spread : Spread)
+        → IsFlatOrNone spread.y
         → IsFlatOrNone (own_updates pipeline flags place consumer spread updates).y
     unfolding own_update
     updates_flat [] before from spread begun = begun
     updates_flat (update ∷ others) before from spread begun =
         let here : before + 0 ≡ before = omega arith in
         let next : (k : ℕ) → before + 1 + k ≡ before + suc k = λ k. omega arith in
-        updates_flat others (before + 1) (λ k. ap (λ (n : ℕ). slice_get func.updates n) (next k) ∙ from (suc k)) (own_update pipeline flags place consumer spread update)
-        (gathered_flat consumer (sources.Func place) one no_loops (not (is_first_in_place update)) (not (is_second_in_place update)) spread (update_asked pipeline.inputs pipeline.funcs flags place unplaced update)
+        updates_flat others (before + 1) (λ k. ap (λ (n : ℕ). slice_get func.updates n) (next k)
+        ∙ from (suc k)) (own_update pipeline flags place consumer spread update)
+        (gathered_flat consumer (sources.Func place) one no_loops (not (is_first_in_place update)) (not (is_second_in_place update)) spread
+        (update_asked pipeline.inputs pipeline.funcs flags place unplaced update)
         (own_flat rules flags place func func_is unplaced before update (ap (λ (n : ℕ). slice_get func.updates n) (sym here) ∙ from 0)) begun)
 
     one_row : (count height : ℕ) → count ≡ 1 → are_dimensions count height ≡ true → height ≡ 1
@@ -326,13 +367,15 @@ module _ (pipeline : Pipeline) where
     wanted_by false e = rw e tt
     wanted_by true e =
         let same = eqb-true place pipeline.output.func e in
-        let drawn : is_func_of (Some func) pipeline.output.dimensions ≡ true = ap (λ (f : Option Func). is_func_of f pipeline.output.dimensions) (sym (ap (λ (n : ℕ). slice_get pipeline.funcs n) (sym same) ∙ func_is)) ∙ rules.drawn in
+        let drawn : is_func_of (Some func) pipeline.output.dimensions ≡ true = ap (λ (f : Option Func). is_func_of f pipeline.output.dimensions)
+        (sym (ap (λ (n : ℕ). slice_get pipeline.funcs n) (sym same) ∙ func_is)) ∙ rules.drawn in
         let dims = eqb-true (dimensions func) pipeline.output.dimensions drawn in
         let own = eqb-true (dimensions func) 1 (sym (ap (λ (f : Option Func). is_func_of f 1) func_is) ∙ one) in
         let height = one_row pipeline.output.dimensions pipeline.output.height (sym dims ∙ own) rules.dimensions in
         rw e (ap (λ (n : ℕ). pixels_range (lasts_of consumer) n) height ∙ row_flat (lasts_of consumer))
 
-    pub computed_flat : (schedule : Schedule) (behind : List (Option SourceBox)) (own : SourceBox) → Some own ≡ computed_box pipeline schedule flags place func behind consumer → own.y ≡ flat
+    pub computed_flat : (schedule : Schedule) (behind : List (Option SourceBox)) (own : SourceBox)
+        → Some own ≡ computed_box pipeline schedule flags place func behind consumer → own.y ≡ flat
     computed_flat schedule behind own e =
         let here : (k : ℕ) → 0 + k ≡ k = λ k. omega arith in
         let begun = wanted pipeline.output place consumer in
@@ -352,5 +395,6 @@ one_row_boxes pipeline schedule boxes rules accepted is place func own func_is d
     let box = has_box pipeline schedule boxes accepted is place own there in
     let consumer = consumer_in schedule boxes.funcs box.standing.place in
     let g = gathered_at pipeline schedule boxes is place box.standing box.there.standing box.there.reached box.computed consumer refl (Some own) there in
-    let one : is_one pipeline (sources.Func place) ≡ true = ap (λ (f : Option Func). is_func_of f 1) g.func_is ∙ ap (λ (f : Func). dimensions f == 1) (got g.func func (sym g.func_is ∙ func_is)) ∙ ap (λ (n : ℕ). n == 1) dims in
+    let one : is_one pipeline (sources.Func place) ≡ true = ap (λ (f : Option Func). is_func_of f 1) g.func_is
+    ∙ ap (λ (f : Func). dimensions f == 1) (got g.func func (sym g.func_is ∙ func_is)) ∙ ap (λ (n : ℕ). n == 1) dims in
     computed_flat pipeline rules (flags_of schedule.standings) consumer place g.func g.func_is one schedule g.behind own g.box_is

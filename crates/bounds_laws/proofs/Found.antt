@@ -38,10 +38,13 @@ passed true wrong next boxes e = e
 passed false wrong next boxes e = absurd cc
 
 module _ (pipeline : Pipeline) (schedule : Schedule) where
-  judged_is : (funcs inputs : List (Option SourceBox)) (boxes : Boxes) → judged pipeline schedule funcs inputs ≡ Ok boxes → boxes_of pipeline schedule funcs inputs ≡ boxes
+  judged_is : (funcs inputs : List (Option SourceBox)) (boxes : Boxes) → judged pipeline schedule funcs inputs ≡ Ok boxes
+      → boxes_of pipeline schedule funcs inputs ≡ boxes
   judged_is funcs inputs boxes e =
-      let held = passed (inputs_hold pipeline.inputs inputs) faults.InputExtents (cond (not (shifts_hold schedule.funcs funcs)) (Err faults.ShortShift) (sized (boxes_of pipeline schedule funcs inputs))) boxes e in
-      sized_is (boxes_of pipeline schedule funcs inputs) boxes (passed (shifts_hold schedule.funcs funcs) faults.ShortShift (sized (boxes_of pipeline schedule funcs inputs)) boxes held)
+      let held = passed (inputs_hold pipeline.inputs inputs) faults.InputExtents (cond (not (shifts_hold schedule.funcs funcs)) (Err faults.ShortShift)
+      (sized (boxes_of pipeline schedule funcs inputs))) boxes e in
+      sized_is (boxes_of pipeline schedule funcs inputs) boxes (passed (shifts_hold schedule.funcs funcs) faults.ShortShift
+      (sized (boxes_of pipeline schedule funcs inputs)) boxes held)
 
   -- which boxes are found
   pub record AreFound (boxes : Boxes) : Type 0 where
@@ -49,14 +52,16 @@ module _ (pipeline : Pipeline) (schedule : Schedule) where
     pub inputs : inputs_from pipeline schedule (flags_of schedule.standings) boxes.funcs 0 pipeline.inputs ≡ Some boxes.inputs
     pub layout : boxes.layout ≡ laid_out pipeline schedule boxes.funcs
 
-  with_inputs_is : (funcs : List (Option SourceBox)) (found : Option (List (Option SourceBox))) (boxes : Boxes) → with_inputs pipeline schedule funcs found ≡ Ok boxes
+  with_inputs_is : (funcs : List (Option SourceBox)) (found : Option (List (Option SourceBox))) (boxes : Boxes) → with_inputs pipeline schedule funcs found
+      ≡ Ok boxes
       → (found ≡ Some boxes.inputs) × (funcs ≡ boxes.funcs) × (boxes.layout ≡ laid_out pipeline schedule funcs)
   with_inputs_is funcs None boxes e = absurd cc
   with_inputs_is funcs (Some inputs) boxes e =
       let is = judged_is funcs inputs boxes e in
       (ap (λ (b : Boxes). Some b.inputs) is, ap (λ (b : Boxes). b.funcs) is, sym (ap (λ (b : Boxes). b.layout) is))
 
-  with_funcs_is : (found : Option (List (Option SourceBox))) (boxes : Boxes) → boxes_from pipeline schedule (flags_of schedule.standings) 0 pipeline.funcs ≡ found
+  with_funcs_is : (found : Option (List (Option SourceBox))) (boxes : Boxes) → boxes_from pipeline schedule (flags_of schedule.standings) 0 pipeline.funcs
+      ≡ found
       → with_funcs pipeline schedule found ≡ Ok boxes → AreFound boxes
   with_funcs_is None boxes is e = absurd cc
   with_funcs_is (Some funcs) boxes is e =
@@ -73,7 +78,8 @@ module _ (pipeline : Pipeline) (schedule : Schedule) where
 
 -- ---- one in front
 
-in_front_by : (test : Bool) (own : Option SourceBox) (behind found : List (Option SourceBox)) → cond test (Some (own ∷ behind)) None ≡ Some found → own ∷ behind ≡ found
+in_front_by : (test : Bool) (own : Option SourceBox) (behind found : List (Option SourceBox)) → cond test (Some (own ∷ behind)) None ≡ Some found
+    → own ∷ behind ≡ found
 in_front_by true own behind found e = cc
 in_front_by false own behind found e = absurd cc
 
@@ -90,10 +96,12 @@ module _ (pipeline : Pipeline) (schedule : Schedule) (flags : List Bool) (boxes 
   Is place found = (before : ℕ) (own : Option SourceBox) → slice_get found before ≡ Some own → own ≡ input_box pipeline schedule flags boxes (place + before)
 
   front : (place : ℕ) (behind : List (Option SourceBox)) → Is (place + 1) behind → Is place (input_box pipeline schedule flags boxes place ∷ behind)
-  front place behind next zero own e = sym (got (input_box pipeline schedule flags boxes place) own e) ∙ ap (λ (n : ℕ). input_box pipeline schedule flags boxes n) (omega arith)
+  front place behind next zero own e = sym (got (input_box pipeline schedule flags boxes place) own e)
+      ∙ ap (λ (n : ℕ). input_box pipeline schedule flags boxes n) (omega arith)
   front place behind next (suc before) own e = next before own e ∙ ap (λ (n : ℕ). input_box pipeline schedule flags boxes n) (omega arith)
 
-  step : (place : ℕ) (rest : Option (List (Option SourceBox))) (found : List (Option SourceBox)) → ((behind : List (Option SourceBox)) → rest ≡ Some behind → Is (place + 1) behind)
+  step : (place : ℕ) (rest : Option (List (Option SourceBox))) (found : List (Option SourceBox)) → ((behind : List (Option SourceBox)) → rest ≡ Some behind
+      → Is (place + 1) behind)
       → with_input pipeline schedule flags boxes place rest ≡ Some found → Is place found
   step place None found next e before own there = absurd cc
   step place (Some behind) found next e before own there =
@@ -105,14 +113,16 @@ module _ (pipeline : Pipeline) (schedule : Schedule) (flags : List Bool) (boxes 
   nothing [] e (suc before) own there = cc
   nothing (other ∷ found) e before own there = cc
 
-  pub inputs_at : (place : ℕ) (inputs : List Input) (found : List (Option SourceBox)) → inputs_from pipeline schedule flags boxes place inputs ≡ Some found → Is place found
+  pub inputs_at : (place : ℕ) (inputs : List Input) (found : List (Option SourceBox)) → inputs_from pipeline schedule flags boxes place inputs ≡ Some found
+      → Is place found
   inputs_at place [] found e before own there = absurd (nothing found (got [] found e) before own there)
   inputs_at place (input ∷ others) found e before own there =
       step place (inputs_from pipeline schedule flags boxes (place + 1) others) found (λ behind is. inputs_at (place + 1) others behind is) e before own there
 
 -- ---- a point in what is gathered lies in the box
 
-pub boxed_by : (lasts values : List ℕ) (a b : Option Range) (x y : ℕ) → IsIn lasts values a x → IsIn lasts values b y → IsBoxed values (Some (box_of lasts a b)) x y
+pub boxed_by : (lasts values : List ℕ) (a b : Option Range) (x y : ℕ) → IsIn lasts values a x → IsIn lasts values b y
+    → IsBoxed values (Some (box_of lasts a b)) x y
 boxed_by lasts values None b x y first second = absurd first
 boxed_by lasts values (Some a) None x y first second = absurd second
 boxed_by lasts values (Some a) (Some b) x y first second = record { first = first; second = second }
@@ -121,7 +131,8 @@ pub boxed : (values : List ℕ) (source : Source) (spread : Spread) (points : Li
     → (own : Option SourceBox) → own ≡ spread_box None spread → AreBoxed values source (Some own) points
 boxed values source spread [] all own is = tt
 boxed values source spread (point ∷ points) all own is = (
-  λ e. subst (λ (o : Option SourceBox). IsBoxed values (Some o) point.x point.y) (sym is) (boxed_by no_loops values spread.x spread.y point.x point.y (all.0 e).first (all.0 e).second),
+  λ e. subst (λ (o : Option SourceBox). IsBoxed values (Some o) point.x point.y) (sym is) (boxed_by no_loops values spread.x spread.y point.x point.y
+      (all.0 e).first (all.0 e).second),
   boxed values source spread points all.1 own is,
 )
 
@@ -134,8 +145,10 @@ no_below = (omega arith, (omega arith, (omega arith, (omega arith, (omega arith,
 
 -- whatever what is read of an input holds lies in its box
 pub inputs_lie : (pipeline : Pipeline) (schedule : Schedule) (boxes : Boxes) → inferred pipeline schedule ≡ Ok boxes
-    → (reader : ℕ) (func : Func) (own : SourceBox) → slice_get pipeline.funcs reader ≡ Some func → slice_get boxes.funcs reader ≡ Some (Some own) → (values : List ℕ) (place : ℕ) (points : List Point)
-    → ((spread : Spread) → IsSpread no_loops spread → HoldsAll no_loops no_loops (sources.Input place) (read_in pipeline (flags_of schedule.standings) reader own None (sources.Input place) spread func) points)
+    → (reader : ℕ) (func : Func) (own : SourceBox) → slice_get pipeline.funcs reader ≡ Some func → slice_get boxes.funcs reader ≡ Some (Some own)
+    → (values : List ℕ) (place : ℕ) (points : List Point)
+    → ((spread : Spread) → IsSpread no_loops spread → HoldsAll no_loops no_loops (sources.Input place) (read_in pipeline (flags_of schedule.standings) reader
+    own None (sources.Input place) spread func) points)
     → AreBoxed no_loops (sources.Input place) (slice_get boxes.inputs place) points
 inputs_lie pipeline schedule boxes is reader func own func_is own_is values place points takes = by_found (slice_get boxes.inputs place) refl
   where
@@ -149,10 +162,13 @@ inputs_lie pipeline schedule boxes is reader func own func_is own_is values plac
     by_found None e = none_boxed no_loops (sources.Input place) points
     by_found (Some other) e =
         boxed no_loops (sources.Input place) (read_from pipeline schedule flags 0 None (sources.Input place) boxes.funcs no_spread) points
-        (from_takes pipeline schedule flags None (sources.Input place) values no_below reader func func_is own own refl points takes 0 reader (omega arith) boxes.funcs own_is no_spread (record { x = tt; y = tt }))
-        other (inputs_at pipeline schedule flags boxes.funcs 0 pipeline.inputs boxes.inputs found.inputs place other e ∙ ap (λ (n : ℕ). input_box pipeline schedule flags boxes.funcs n) (omega arith))
+        (from_takes pipeline schedule flags None (sources.Input place) values no_below reader func func_is own own refl points takes 0 reader (omega arith)
+        boxes.funcs own_is no_spread (record { x = tt; y = tt }))
+        other (inputs_at pipeline schedule flags boxes.funcs 0 pipeline.inputs boxes.inputs found.inputs place other e
+        ∙ ap (λ (n : ℕ). input_box pipeline schedule flags boxes.funcs n) (omega arith))
 
 pub pure_reads_of_inputs_lie : PureReadsOfInputsLie
 pure_reads_of_inputs_lie pipeline schedule boxes rules is reader func own func_is own_is reads words values below x y lies place =
     inputs_lie pipeline schedule boxes is reader func own func_is own_is values place (points_of pipeline (flags_of schedule.standings) reads reader func x y)
-    (in_takes pipeline schedule (flags_of schedule.standings) None (sources.Input place) values no_below rules reads words reader func func_is own below x y lies)
+    (in_takes pipeline schedule (flags_of schedule.standings) None (sources.Input place) values no_below rules reads words reader func func_is own below x y
+    lies)

@@ -34,22 +34,30 @@ full_box lasts (Some x) None ex ey = ey
 full_box lasts (Some x) (Some y) ex ey = refl
 
 pub wanted_full : (output : Output) (consumer : Option ConsumerLoop) (test : Bool) → test ≡ true
-    → IsFull (cond test (record { x = Some (pixels_range (lasts_of consumer) output.width); y = Some (pixels_range (lasts_of consumer) output.height) }) no_spread)
+    → IsFull (cond test (record { x = Some (pixels_range (lasts_of consumer) output.width); y = Some (pixels_range (lasts_of consumer) output.height) })
+    no_spread)
 wanted_full output consumer true e = (refl, refl)
 wanted_full output consumer false e = absurd cc
 
 module _ (consumer : Option ConsumerLoop) where
-  next_full : (lasts : List ℕ) (first second test : Bool) (spread : Spread) (read : Asked) → IsFull spread → IsFull (if test then with_read consumer lasts first second spread read else spread)
-  next_full lasts first second true spread read full = (joined_some (lasts_of consumer) first spread.x _ full.0, joined_some (lasts_of consumer) second spread.y _ full.1)
+  next_full : (lasts : List ℕ) (first second test : Bool) (spread : Spread) (read : Asked) → IsFull spread
+      → IsFull (if test then with_read consumer lasts first second spread read else spread)
+  next_full lasts first second true spread read full = (
+    joined_some (lasts_of consumer) first spread.x _ full.0,
+    joined_some (lasts_of consumer) second spread.y
+        _ full.1,
+  )
   next_full lasts first second false spread read full = full
 
-  gathered_full : (lasts : List ℕ) (source : Source) (first second : Bool) (spread : Spread) (asked : List Asked) → IsFull spread → IsFull (gathered consumer lasts source first second spread asked)
+  gathered_full : (lasts : List ℕ) (source : Source) (first second : Bool) (spread : Spread) (asked : List Asked) → IsFull spread
+      → IsFull (gathered consumer lasts source first second spread asked)
   gathered_full lasts source first second spread [] full = full
   gathered_full lasts source first second spread (read ∷ others) full =
       gathered_full lasts source first second (if same_source read.source source then with_read consumer lasts first second spread read else spread) others
       (next_full lasts first second (same_source read.source source) spread read full)
 
-  gathered_asked : (lasts : List ℕ) (sought : ℕ) (spread : Spread) (asked : List Asked) → asks sought asked ≡ true → IsFull (gathered consumer lasts (sources.Func sought) true true spread asked)
+  gathered_asked : (lasts : List ℕ) (sought : ℕ) (spread : Spread) (asked : List Asked) → asks sought asked ≡ true
+      → IsFull (gathered consumer lasts (sources.Func sought) true true spread asked)
   gathered_asked lasts sought spread [] e = absurd cc
   gathered_asked lasts sought spread (read ∷ others) e = elim (or_cases (same_source read.source (sources.Func sought)) (asks sought others) e) [
     | inl l ↦
@@ -67,26 +75,34 @@ module _ (consumer : Option ConsumerLoop) where
     updates_full at spread [] full = full
     updates_full at spread (update ∷ others) full =
         updates_full at (own_update pipeline flags at consumer spread update) others
-        (gathered_full no_loops (sources.Func at) (not (is_first_in_place update)) (not (is_second_in_place update)) spread (update_asked pipeline.inputs pipeline.funcs flags at unplaced update) full)
+        (gathered_full no_loops (sources.Func at) (not (is_first_in_place update)) (not (is_second_in_place update)) spread (update_asked pipeline.inputs
+        pipeline.funcs flags at unplaced update) full)
 
-    of_full : (at : ℕ) (view : SourceBox) (source : Source) (spread : Spread) (func : Option Func) → IsFull spread → IsFull (read_of pipeline flags at view consumer source spread func)
+    of_full : (at : ℕ) (view : SourceBox) (source : Source) (spread : Spread) (func : Option Func) → IsFull spread
+        → IsFull (read_of pipeline flags at view consumer source spread func)
     unfolding read_in
     of_full at view source spread None full = full
-    of_full at view source spread (Some func) full = gathered_full view.lasts source true true spread (func_asked pipeline.inputs pipeline.funcs flags at view func) full
+    of_full at view source spread (Some func) full = gathered_full view.lasts source true true spread (func_asked pipeline.inputs pipeline.funcs flags at view
+        func) full
 
     module _ (schedule : Schedule) where
-      box_full : (at : ℕ) (own : Option SourceBox) (source : Source) (spread : Spread) → IsFull spread → IsFull (read_by_box pipeline schedule flags at own consumer source spread)
+      box_full : (at : ℕ) (own : Option SourceBox) (source : Source) (spread : Spread) → IsFull spread
+          → IsFull (read_by_box pipeline schedule flags at own consumer source spread)
       box_full at None source spread full = full
-      box_full at (Some own) source spread full = of_full at (view_of (slice_get schedule.funcs at) (slice_get schedule.standings at) own consumer) source spread (slice_get pipeline.funcs at) full
+      box_full at (Some own) source spread full = of_full at (view_of (slice_get schedule.funcs at) (slice_get schedule.standings at) own consumer) source
+          spread (slice_get pipeline.funcs at) full
 
-      pub from_full : (at : ℕ) (source : Source) (boxes : List (Option SourceBox)) (spread : Spread) → IsFull spread → IsFull (read_from pipeline schedule flags at consumer source boxes spread)
+      pub from_full : (at : ℕ) (source : Source) (boxes : List (Option SourceBox)) (spread : Spread) → IsFull spread
+          → IsFull (read_from pipeline schedule flags at consumer source boxes spread)
       from_full at source [] spread full = full
-      from_full at source (own ∷ boxes) spread full = from_full (at + 1) source boxes (read_by_box pipeline schedule flags at own consumer source spread) (box_full at own source spread full)
+      from_full at source (own ∷ boxes) spread full = from_full (at + 1) source boxes (read_by_box pipeline schedule flags at own consumer source spread)
+          (box_full at own source spread full)
 
       -- so it is where a Func that has a box asks for it
       module _ (sought reader : ℕ) (func : Func) (func_is : slice_get pipeline.funcs reader ≡ Some func)
           (asking : (view : SourceBox) → asks sought (func_asked pipeline.inputs pipeline.funcs flags reader view func) ≡ true) (own : SourceBox) where
-        pub from_asked : (at before : ℕ) → at + before ≡ reader → (boxes : List (Option SourceBox)) → slice_get boxes before ≡ Some (Some own) → (spread : Spread)
+        pub from_asked : (at before : ℕ) → at + before ≡ reader → (boxes : List (Option SourceBox)) → slice_get boxes before ≡ Some (Some own)
+            → (spread : Spread)
             → IsFull (read_from pipeline schedule flags at consumer (sources.Func sought) boxes spread)
         unfolding read_in
         from_asked at before place [] found spread = absurd cc
@@ -94,7 +110,8 @@ module _ (consumer : Option ConsumerLoop) where
             from_asked (at + 1) before (omega (arith, place)) boxes found (read_by_box pipeline schedule flags at first consumer (sources.Func sought) spread)
         from_asked at zero place (first ∷ boxes) found spread =
             from_full (at + 1) (sources.Func sought) boxes (read_by_box pipeline schedule flags at first consumer (sources.Func sought) spread)
-            (subst (λ (b : Option SourceBox). IsFull (read_by_box pipeline schedule flags at b consumer (sources.Func sought) spread)) (sym (got first (Some own) found))
+            (subst (λ (b : Option SourceBox). IsFull (read_by_box pipeline schedule flags at b consumer (sources.Func sought) spread))
+            (sym (got first (Some own) found))
             (subst (λ (n : ℕ). IsFull (read_by pipeline schedule flags n own consumer (sources.Func sought) spread)) (sym at_is)
             (subst (λ (f : Option Func). IsFull (read_of pipeline flags reader view consumer (sources.Func sought) spread f)) (sym func_is)
             (gathered_asked view.lasts sought spread (func_asked pipeline.inputs pipeline.funcs flags reader view func) (asking view)))))

@@ -30,11 +30,15 @@ use Rattle.bounds_ranges.specs.declared.expressions.OwnCalls.{OwnCalls}
 use Rattle.bounds_ranges.specs.declared.ranges.CommonBase.{CommonBase}
 use Rattle.bounds_ranges.specs.declared.ranges.Ends.{Ends}
 use Rattle.bounds_ranges.specs.declared.ranges.Range.{Range}
-use Rattle.bounds_ranges.specs.Ranges.{no_base, add_base, negated, times_base, same_base, more_sum, less_sum, between, every, ends_of, fit, widened, added, subtracted, aligned, together, lesser, greater, hull, operated, crossed, times_end, ordered, scaled_base, scaled, is_number, multiplied, divided_ends, divided, remainders, literal}
+use Rattle.bounds_ranges.specs.Ranges.{no_base, add_base, negated, times_base, same_base, more_sum, less_sum, between, every, ends_of, fit, widened, added}
+use Rattle.bounds_ranges.specs.Ranges.{subtracted, aligned, together, lesser, greater, hull, operated, crossed, times_end, ordered, scaled_base, scaled}
+use Rattle.bounds_ranges.specs.Ranges.{is_number, multiplied, divided_ends, divided, remainders, literal}
 use Rattle.bounds_ranges.specs.Numbers.{origin, spot, least, greatest}
-use Rattle.bounds_ranges.specs.Expressions.{Ranged, ranging, second_asked, unasked_variable, pixels_of, called, ranges_where, is_anywhere, chosen, ranged, ranged_update, range_of, walked}
+use Rattle.bounds_ranges.specs.Expressions.{Ranged, ranging, second_asked, unasked_variable, pixels_of, called, ranges_where, is_anywhere, chosen, ranged}
+use Rattle.bounds_ranges.specs.Expressions.{ranged_update, range_of, walked}
 use Rattle.bounds.specs.declared.boxes.SourceBox.{SourceBox}
-use Rattle.bounds.specs.Inference.{second_range, pure_variables, update_variables, own_calls, left, second_left, right, update_asked, updates_asked, func_asked, unplaced}
+use Rattle.bounds.specs.Inference.{second_range, pure_variables, update_variables, own_calls, left, second_left, right, update_asked, updates_asked, func_asked}
+use Rattle.bounds.specs.Inference.{unplaced}
 use Rattle.bounds.specs.Boxes.{no_loops}
 
 pub record IsClosed (Holds : List Multiple → Type 0) : Type 0 where
@@ -49,7 +53,8 @@ AreHeld Holds asked = AllByRecursion (λ (read : Asked). Holds read.x.base × Ho
 -- ---- operations
 
 module _ (Holds : List Multiple → Type 0) (closed : IsClosed Holds) (lasts : List ℕ) where
-  fit_by : (test : Bool) (base : List Multiple) (ends : Ends) → Holds base → Holds (cond test (record { base = base; low = ends.low; high = ends.high }) every).base
+  fit_by : (test : Bool) (base : List Multiple) (ends : Ends) → Holds base
+      → Holds (cond test (record { base = base; low = ends.low; high = ends.high }) every).base
   fit_by true base ends e = e
   fit_by false base ends e = closed.none
 
@@ -67,7 +72,12 @@ module _ (Holds : List Multiple → Type 0) (closed : IsClosed Holds) (lasts : L
       (closed.added a.base (negated b.base) ea (closed.opposite b.base eb))
 
   common_base : (test : Bool) (a b : Range) → Holds a.base
-      → Holds (cond {A = CommonBase} test (record { base = a.base; first = ends_of a; second = ends_of b }) (record { base = no_base; first = widened lasts a; second = widened lasts b })).base
+      → Holds (cond {A = CommonBase} test (record { base = a.base; first = ends_of a; second = ends_of b }) (record {
+        base = no_base;
+        first =
+            widened lasts a;
+        second = widened lasts b;
+      })).base
   common_base true a b ea = ea
   common_base false a b ea = closed.none
 
@@ -81,7 +91,8 @@ module _ (Holds : List Multiple → Type 0) (closed : IsClosed Holds) (lasts : L
   scaled_by false n m base e = closed.times m (negated base) (closed.opposite base e)
 
   scaled_held : (a : Range) (c : ℕ) → Holds a.base → Holds (scaled lasts a c).base
-  scaled_held a c ea = fit_held (scaled_base c a.base) (ordered (times_end a.low c) (times_end a.high c)) (scaled_by (nat_le origin c) (c - origin) (origin - c) a.base ea)
+  scaled_held a c ea = fit_held (scaled_base c a.base) (ordered (times_end a.low c) (times_end a.high c)) (scaled_by (nat_le origin c) (c - origin) (origin - c)
+      a.base ea)
 
   one_of : (test : Bool) (a b : Range) → Holds a.base → Holds b.base → Holds (cond test a b).base
   one_of true a b ea eb = ea
@@ -95,11 +106,13 @@ module _ (Holds : List Multiple → Type 0) (closed : IsClosed Holds) (lasts : L
       (fit_held no_base (crossed (widened lasts a) (widened lasts b)) closed.none))
 
   divided_held : (a : Range) (c : ℕ) → Holds (divided lasts a c).base
-  divided_held a c = one_of (c == 0) every (fit lasts no_base (divided_ends (widened lasts a) c)) closed.none (fit_held no_base (divided_ends (widened lasts a) c) closed.none)
+  divided_held a c = one_of (c == 0) every (fit lasts no_base (divided_ends (widened lasts a) c)) closed.none (fit_held no_base (divided_ends (widened lasts a)
+      c) closed.none)
 
   remainders_held : (c : ℕ) → Holds (remainders lasts c).base
   remainders_held c =
-      one_of (c == 0) every (fit lasts no_base (record { low = origin; high = origin + c - 1 })) closed.none (fit_held no_base (record { low = origin; high = origin + c - 1 }) closed.none)
+      one_of (c == 0) every (fit lasts no_base (record { low = origin; high = origin + c - 1 })) closed.none
+      (fit_held no_base (record { low = origin; high = origin + c - 1 }) closed.none)
 
   pub literal_held : (n : ℕ) → Holds (literal lasts n).base
   literal_held n = fit_held no_base (record { low = origin + n; high = origin + n }) closed.none
@@ -144,7 +157,11 @@ module _ (Holds : List Multiple → Type 0) (closed : IsClosed Holds) (lasts : L
     unfolding ranging
     levels (layer.Number n) kept = (literal_held n, tt)
     levels (layer.Variable v) kept = (closed.none, tt)
-    levels (layer.Binary operation a b) kept = (operated_held operation a.left.range b.left.range a.is.0 b.is.0, both_held a.left.asked b.left.asked a.is.1 b.is.1)
+    levels (layer.Binary operation a b) kept = (
+      operated_held operation a.left.range b.left.range a.is.0 b.is.0,
+      both_held a.left.asked b.left.asked a.is.1
+          b.is.1,
+    )
     levels (layer.Divide a n) kept = (divided_held a.left.range n, a.is.1)
     levels (layer.Remainder a n) kept = (remainders_held n, a.is.1)
     levels (layer.Select c a b) kept = (
@@ -157,7 +174,8 @@ module _ (Holds : List Multiple → Type 0) (closed : IsClosed Holds) (lasts : L
     )
     levels (layer.Call2 s a b) kept = (
       called_held s,
-      both_held (a.left.asked ++ b.left.asked) (record { source = s; x = a.left.range; y = b.left.range } ∷ []) (both_held a.left.asked b.left.asked a.is.1 b.is.1) ((a.is.0, b.is.0), tt),
+      both_held (a.left.asked ++ b.left.asked) (record { source = s; x = a.left.range; y = b.left.range } ∷ []) (both_held a.left.asked b.left.asked a.is.1
+          b.is.1) ((a.is.0, b.is.0), tt),
     )
 
     args : RelatesArguments Held (ranging lasts inputs) nothing
@@ -175,7 +193,8 @@ module _ (Holds : List Multiple → Type 0) (closed : IsClosed Holds) (lasts : L
 
     -- ---- an update
 
-    module _ (funcs : List Func) (are : AreFuncs inputs funcs) (count : ℕ) (has : Variable → Bool) (ranges : Variable → Range) (held_so : (v : Variable) → Holds (ranges v).base) where
+    module _ (funcs : List Func) (are : AreFuncs inputs funcs) (count : ℕ) (has : Variable → Bool) (ranges : Variable → Range) (held_so : (v : Variable)
+        → Holds (ranges v).base) where
       abbrev BothWays : (Bool → Ranged) → Unit {0} → Type 0
       BothWays r u = (around : Bool) → Held (r around) u
 
@@ -196,7 +215,8 @@ module _ (Holds : List Multiple → Type 0) (closed : IsClosed Holds) (lasts : L
           (through_at (ranging lasts inputs) within (unasked_variable (ranges_where lasts ranges around)))
           (through_at nothing (inside nothing is_inlined funcs count) (λ v. tt))
       one_way around =
-          levels_related Held (ranging lasts inputs) nothing is_inlined inputs funcs are levels args calls count has (unasked_variable (ranges_where lasts ranges around)) (λ v. tt)
+          levels_related Held (ranging lasts inputs) nothing is_inlined inputs funcs are levels args calls count has
+          (unasked_variable (ranges_where lasts ranges around)) (λ v. tt)
           (λ v held. (where_held around v, tt))
 
       both_ways : (own : OwnCalls) → KeptLevels BothWays (is_read inputs funcs count) has
@@ -222,11 +242,13 @@ module _ (Holds : List Multiple → Type 0) (closed : IsClosed Holds) (lasts : L
 
       pub pure_held : (e : Expr) → keeps (is_read inputs funcs count) has e ≡ true → Held (ranged lasts inputs is_inlined funcs count ranges e) tt
       pure_held e kept =
-          kept_related Held (ranging lasts inputs) nothing is_inlined inputs funcs are levels args calls count has (unasked_variable ranges) (λ v. tt) (λ v is. (held_so v, tt)) e kept
+          kept_related Held (ranging lasts inputs) nothing is_inlined inputs funcs are levels args calls count has (unasked_variable ranges) (λ v. tt)
+          (λ v is. (held_so v, tt)) e kept
 
 -- ---- what a Func asks
 
-module _ (Holds : List Multiple → Type 0) (closed : IsClosed Holds) (pipeline : Pipeline) (flags : List Bool) (rules : IsWellFormed pipeline) (place : ℕ) (func : Func)
+module _ (Holds : List Multiple → Type 0) (closed : IsClosed Holds) (pipeline : Pipeline) (flags : List Bool) (rules : IsWellFormed pipeline) (place : ℕ)
+    (func : Func)
     (func_is : slice_get pipeline.funcs place ≡ Some func) (view : SourceBox) (first : Holds view.x.base) (second : Holds view.y.base) where
   abbrev IsHeld : Asked → Type 0
   IsHeld read = Holds read.x.base × Holds read.y.base
@@ -240,7 +262,8 @@ module _ (Holds : List Multiple → Type 0) (closed : IsClosed Holds) (pipeline 
 
     second_held : (own : Option Reduction) → Holds (second_range view.lasts own).base
     second_held None = literal_held Holds closed view.lasts 0
-    second_held (Some own) = fit_held Holds closed view.lasts no_base (record { low = spot own.minimum; high = spot own.minimum + (own.extent - 1) }) closed.none
+    second_held (Some own) = fit_held Holds closed view.lasts no_base (record { low = spot own.minimum; high = spot own.minimum + (own.extent - 1) })
+        closed.none
 
     variables_held : (v : Variable) → Holds (range_of (update_variables view update) v).base
     variables_held variables.FirstArgument = first
@@ -249,21 +272,25 @@ module _ (Holds : List Multiple → Type 0) (closed : IsClosed Holds) (pipeline 
     variables_held variables.SecondReduction = second_held update.second
 
     left_held : (e : Expr) → keeps (is_read pipeline.inputs pipeline.funcs place) has e ≡ true
-        → Holds (left pipeline.inputs pipeline.funcs flags place view update e).range.base × AreHeld Holds (left pipeline.inputs pipeline.funcs flags place view update e).asked
+        → Holds (left pipeline.inputs pipeline.funcs flags place view update e).range.base × AreHeld Holds (left pipeline.inputs pipeline.funcs flags place view
+        update e).asked
     unfolding left
     left_held e kept =
-        update_held Holds closed view.lasts pipeline.inputs (flagged flags) pipeline.funcs rules.funcs place has (range_of (update_variables view update)) variables_held
+        update_held Holds closed view.lasts pipeline.inputs (flagged flags) pipeline.funcs rules.funcs place has (range_of (update_variables view update))
+        variables_held
         (own_calls place update) e kept true
 
     index_held : (index : Option Expr) → keeps_index (is_read pipeline.inputs pipeline.funcs place) has (dimensions func) index ≡ true
-        → Holds (second_left pipeline.inputs pipeline.funcs flags place view update index).range.base × AreHeld Holds (second_left pipeline.inputs pipeline.funcs flags place view update index).asked
+        → Holds (second_left pipeline.inputs pipeline.funcs flags place view update index).range.base
+        × AreHeld Holds (second_left pipeline.inputs pipeline.funcs flags place view update index).asked
     index_held None kept = (literal_held Holds closed view.lasts 0, tt)
     index_held (Some index) kept = left_held index (and_parts (dimensions func == 2) (keeps (is_read pipeline.inputs pipeline.funcs place) has index) kept).1
 
     right_held : AreHeld Holds (right pipeline.inputs pipeline.funcs flags place view update).asked
     unfolding right
     right_held =
-        (update_held Holds closed view.lasts pipeline.inputs (flagged flags) pipeline.funcs rules.funcs (suc place) has (range_of (update_variables view update)) variables_held
+        (update_held Holds closed view.lasts pipeline.inputs (flagged flags) pipeline.funcs rules.funcs (suc place) has
+        (range_of (update_variables view update)) variables_held
         (own_calls place update) update.right formed_so.right false).1
 
     pub asked_held : AreHeld Holds (update_asked pipeline.inputs pipeline.funcs flags place view update)
@@ -286,7 +313,8 @@ module _ (Holds : List Multiple → Type 0) (closed : IsClosed Holds) (pipeline 
   updates_held (update ∷ others) before from =
       let here : before + 0 ≡ before = omega arith in
       let next : (k : ℕ) → before + 1 + k ≡ before + suc k = λ k. omega arith in
-      all_both IsHeld (update_asked pipeline.inputs pipeline.funcs flags place view update) (updates_asked pipeline.inputs pipeline.funcs flags place view others)
+      all_both IsHeld (update_asked pipeline.inputs pipeline.funcs flags place view update) (updates_asked pipeline.inputs pipeline.funcs flags place view
+      others)
       (asked_held before update (ap (λ (n : ℕ). slice_get func.updates n) (sym here) ∙ from 0))
       (updates_held others (before + 1) (λ k. ap (λ (n : ℕ). slice_get func.updates n) (next k) ∙ from (suc k)))
 
@@ -294,8 +322,10 @@ module _ (Holds : List Multiple → Type 0) (closed : IsClosed Holds) (pipeline 
   unfolding func_asked
   func_held =
       let here : (k : ℕ) → 0 + k ≡ k = λ k. omega arith in
-      all_both IsHeld (walked view.lasts pipeline.inputs flags pipeline.funcs place (pure_variables view) func.pure).asked (updates_asked pipeline.inputs pipeline.funcs flags place view func.updates)
-      (pure_held Holds closed view.lasts pipeline.inputs (flagged flags) pipeline.funcs rules.funcs place (is_argument (dimensions func)) (range_of (pure_variables view)) arguments_held
+      all_both IsHeld (walked view.lasts pipeline.inputs flags pipeline.funcs place (pure_variables view) func.pure).asked (updates_asked pipeline.inputs
+      pipeline.funcs flags place view func.updates)
+      (pure_held Holds closed view.lasts pipeline.inputs (flagged flags) pipeline.funcs rules.funcs place (is_argument (dimensions func))
+      (range_of (pure_variables view)) arguments_held
       func.pure (rules.funcs place func func_is).pure).1
       (updates_held func.updates 0 (λ k. ap (λ (n : ℕ). slice_get func.updates n) (here k)))
 

@@ -31,7 +31,12 @@ fit_fits lasts base ends ordered =
 
 -- the ends of two ranges over one base
 abbrev Common : List ℕ → Range → Range → Bool → CommonBase
-Common lasts a b test = cond test (record { base = a.base; first = ends_of a; second = ends_of b }) (record { base = no_base; first = widened lasts a; second = widened lasts b })
+Common lasts a b test = cond test (record { base = a.base; first = ends_of a; second = ends_of b }) (record {
+  base = no_base;
+  first = widened lasts a;
+  second =
+      widened lasts b;
+})
 
 hull_by : (lasts : List ℕ) (a b : Range) (test : Bool) (both : CommonBase) → both ≡ Common lasts a b test → IsFit lasts a → IsFit lasts b
     → IsFit lasts (fit lasts both.base (hull both.first both.second))
@@ -58,7 +63,8 @@ module _ (lasts values : List ℕ) (below : Below values lasts) where
   pub hull_first : (a b : Range) (x : ℕ) → Lies lasts values a x → Lies lasts values (together lasts hull a b) x
   hull_first a b x la = first_by a b x (same_base a.base b.base) (aligned lasts a b) refl la
 
-  second_by : (a b : Range) (x : ℕ) (test : Bool) (both : CommonBase) → same_base a.base b.base ≡ test → both ≡ Common lasts a b test → IsFit lasts a → Lies lasts values b x
+  second_by : (a b : Range) (x : ℕ) (test : Bool) (both : CommonBase) → same_base a.base b.base ≡ test → both ≡ Common lasts a b test → IsFit lasts a
+      → Lies lasts values b x
       → Lies lasts values (fit lasts both.base (hull both.first both.second)) x
   second_by a b x true both e is fa lb =
       let s = same_sums a.base b.base values lasts below (small_fit lasts a fa) (small_of lasts values below b x lb) e in

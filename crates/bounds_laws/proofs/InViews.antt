@@ -1,5 +1,6 @@
 -- Wherever loops take arguments, they lie in the views with which Funcs at loops are asked.
-use Rattle.std.proofs.Common.{◌≡◌, ℕ, zero, suc, ◌<◌, ◌≤◌, Bool, true, false, cond, List, [], ◌∷◌, length, take, drop, Option, Some, None, refl, sym, ap, ◌∙◌, subst, arith}
+use Rattle.std.proofs.Common.{◌≡◌, ℕ, zero, suc, ◌<◌, ◌≤◌, Bool, true, false, cond, List, [], ◌∷◌, length, take, drop, Option, Some, None, refl, sym, ap, ◌∙◌}
+use Rattle.std.proofs.Common.{subst, arith}
 use Rattle.std.specs.Prelude.{◌==◌, nat_lt, slice_get, slice_index_or}
 use Rattle.std.specs.List.{AllByRecursion}
 use Rattle.std.proofs.lemmas.Bool.{and_parts, eqb-true}
@@ -28,7 +29,8 @@ use Rattle.bounds.specs.declared.boxes.ConsumerLoop.{ConsumerLoop}
 use Rattle.bounds.specs.declared.boxes.SourceBox.{SourceBox}
 use Rattle.bounds.specs.Boxes.{lasts_of}
 use Rattle.bounds.specs.Extents.{box_in, extents_of}
-use Rattle.bounds_laws.specs.ConsumerLaws.{turn_of, turn_at, turns_from, IsTakenTo, AgreeFrom, IsProduced, AreTurnsFrom, values_in, IsReachedIn, MayBeArguments, IsSeenIn, ArgumentsLieInViews}
+use Rattle.bounds_laws.specs.ConsumerLaws.{turn_of, turn_at, turns_from, IsTakenTo, AgreeFrom, IsProduced, AreTurnsFrom, values_in, IsReachedIn, MayBeArguments}
+use Rattle.bounds_laws.specs.ConsumerLaws.{IsSeenIn, ArgumentsLieInViews}
 use Rattle.bounds.specs.Inference.{consumer_of}
 use Rattle.bounds_laws.specs.Laws.{LiesIn, consumer_in, IsComputed}
 use Rattle.bounds.specs.Views.{inner_count, lasts_in, consumer_loop, consumer_loop_in, consumer_view, consumer_view_in, settled_box, view_of}
@@ -46,12 +48,14 @@ all_contain P [] all x k l e = absurd (omega (arith, l))
 all_contain P (first ∷ xs) all x zero l e = subst P e all.0
 all_contain P (first ∷ xs) all x (suc k) l e = all_contain P xs all.1 x k (omega (arith, l)) e
 
-pair_at : (funcs : List Func) (plans : List FuncPlan) → Pairwise IsPlan funcs plans → (k : ℕ) (func : Func) (plan : FuncPlan) → slice_get funcs k ≡ Some func → slice_get plans k ≡ Some plan → IsPlan func plan
+pair_at : (funcs : List Func) (plans : List FuncPlan) → Pairwise IsPlan funcs plans → (k : ℕ) (func : Func) (plan : FuncPlan) → slice_get funcs k ≡ Some func
+    → slice_get plans k ≡ Some plan → IsPlan func plan
 pair_at [] [] all zero func plan f p = absurd cc
 pair_at [] [] all (suc k) func plan f p = absurd cc
 pair_at [] (own ∷ plans) all k func plan f p = absurd all
 pair_at (first ∷ funcs) [] all k func plan f p = absurd all
-pair_at (first ∷ funcs) (own ∷ plans) all zero func plan f p = subst (λ (g : Func). IsPlan g plan) (same first func f) (subst (λ (q : FuncPlan). IsPlan first q) (same own plan p) all.0)
+pair_at (first ∷ funcs) (own ∷ plans) all zero func plan f p = subst (λ (g : Func). IsPlan g plan) (same first func f) (subst (λ (q : FuncPlan). IsPlan first q)
+    (same own plan p) all.0)
 pair_at (first ∷ funcs) (own ∷ plans) all (suc k) func plan f p = pair_at funcs plans all.1 k func plan f p
 
 -- ---- loops inside one, and inside one further out
@@ -72,14 +76,16 @@ first_by false false rest n m e l = let k : n ≤ m = l e in omega (arith, k)
 count_first : (own other : LoopId) (loops : List Loop) → comes_first own other loops ≡ true → inner_count own loops ≤ inner_count other loops
 count_first own other [] e = absurd cc
 count_first own other (first ∷ outside) e =
-    first_by (same_id first.id own) (same_id first.id other) (comes_first own other outside) (inner_count own outside) (inner_count other outside) e (λ r. count_first own other outside r)
+    first_by (same_id first.id own) (same_id first.id other) (comes_first own other outside) (inner_count own outside) (inner_count other outside) e
+    (λ r. count_first own other outside r)
 
 turns_drop : (counts : Values) (n : ℕ) (loops : List Loop) (turns : Values) → AreTurns counts loops turns → AreTurns counts (drop n loops) turns
 turns_drop counts zero loops turns are = are
 turns_drop counts (suc n) [] turns are = are
 turns_drop counts (suc n) (first ∷ others) turns are = turns_drop counts n others turns are.1
 
-turns_further : (counts : Values) (n m : ℕ) (loops : List Loop) (turns : Values) → n ≤ m → AreTurns counts (drop n loops) turns → AreTurns counts (drop m loops) turns
+turns_further : (counts : Values) (n m : ℕ) (loops : List Loop) (turns : Values) → n ≤ m → AreTurns counts (drop n loops) turns
+    → AreTurns counts (drop m loops) turns
 turns_further counts zero m loops turns l are = turns_drop counts m loops turns are
 turns_further counts (suc n) zero loops turns l are = absurd (omega (arith, l))
 turns_further counts (suc n) (suc m) [] turns l are = are
@@ -95,7 +101,19 @@ module _ (turns : Values) (loops : List Loop) (n m : ℕ) (few : n ≤ m) where
       above a b l = grind (arith, l)
 
   agree_by : (k : ℕ) → k ≡ m → AgreeFrom k (turns_from n turns loops) (turns_from m turns loops)
-  agree_by zero e = (agree_at 0 (omega (arith, e)), (agree_at 1 (omega (arith, e)), (agree_at 2 (omega (arith, e)), (agree_at 3 (omega (arith, e)), (agree_at 4 (omega (arith, e)), tt)))))
+  agree_by zero e = (
+    agree_at 0 (omega (arith, e)),
+    (
+      agree_at 1 (omega (arith, e)),
+      (
+        agree_at 2 (omega (arith, e)),
+        (
+          agree_at 3 (omega (arith, e)),
+          (agree_at 4 (omega (arith, e)), tt),
+        ),
+      ),
+    ),
+  )
   agree_by (suc zero) e = (agree_at 1 (omega (arith, e)), (agree_at 2 (omega (arith, e)), (agree_at 3 (omega (arith, e)), (agree_at 4 (omega (arith, e)), tt))))
   agree_by (suc (suc zero)) e = (agree_at 2 (omega (arith, e)), (agree_at 3 (omega (arith, e)), (agree_at 4 (omega (arith, e)), tt)))
   agree_by (suc (suc (suc zero))) e = (agree_at 3 (omega (arith, e)), (agree_at 4 (omega (arith, e)), tt))
@@ -112,7 +130,8 @@ data Stands (plans : List FuncPlan) (consumer : LoopPlace) (reader : ℕ) (place
   IsInside : (at : LoopPlace) → place ≡ places.At at → is_within plans consumer at ≡ true → Stands plans consumer reader place
   IsInlined : place ≡ places.Inlined → Stands plans consumer reader place
 
-stands : (pipeline : Pipeline) (plans : List FuncPlan) (standings : List Standing) (consumer : LoopPlace) (reader : ℕ) → StandsWithin pipeline plans standings consumer reader
+stands : (pipeline : Pipeline) (plans : List FuncPlan) (standings : List Standing) (consumer : LoopPlace) (reader : ℕ)
+    → StandsWithin pipeline plans standings consumer reader
     → (its : Standing) → slice_get standings reader ≡ Some its → Stands plans consumer reader its.place
 stands pipeline plans standings consumer _ Consumer its there = IsTheConsumer refl
 stands pipeline plans standings consumer _ (Computed reader own at reached placed within) its there =
@@ -122,18 +141,22 @@ stands pipeline plans standings consumer _ (Inlined reader own reached placed ca
 
 -- ---- views
 
-pub consumer_is : (schedule : Schedule) (boxes : List (Option SourceBox)) (place : Place) (at : LoopPlace) (func : ℕ) (plan : FuncPlan) (consuming : SourceBox) → place ≡ places.At at → at.func ≡ func
-    → slice_get schedule.funcs func ≡ Some plan → slice_get boxes func ≡ Some (Some consuming) → consumer_in schedule boxes place ≡ Some (consumer_loop plan consuming at.inside)
+pub consumer_is : (schedule : Schedule) (boxes : List (Option SourceBox)) (place : Place) (at : LoopPlace) (func : ℕ) (plan : FuncPlan) (consuming : SourceBox)
+    → place ≡ places.At at → at.func ≡ func
+    → slice_get schedule.funcs func ≡ Some plan → slice_get boxes func ≡ Some (Some consuming)
+    → consumer_in schedule boxes place ≡ Some (consumer_loop plan consuming at.inside)
 consumer_is schedule boxes place at func plan consuming is same_func plan_is box_is =
     ap (λ (p : Place). consumer_in schedule boxes p) is
     ∙ ap (λ (n : ℕ). consumer_of at (slice_get schedule.funcs n) (box_in (slice_get boxes n))) same_func
     ∙ ap (λ (p : Option FuncPlan). consumer_of at p (box_in (slice_get boxes func))) plan_is
     ∙ ap (λ (b : Option (Option SourceBox)). consumer_of at (Some plan) (box_in b)) box_is
 
-root_view : (plan : FuncPlan) (its : Standing) (own : SourceBox) (consumer : ConsumerLoop) → its.place ≡ places.Root → view_of (Some plan) (Some its) own (Some consumer) ≡ consumer_view plan.pure own consumer
+root_view : (plan : FuncPlan) (its : Standing) (own : SourceBox) (consumer : ConsumerLoop) → its.place ≡ places.Root
+    → view_of (Some plan) (Some its) own (Some consumer) ≡ consumer_view plan.pure own consumer
 root_view plan its own consumer root = ap (λ (p : Place). cond (is_root p) (consumer_view plan.pure own consumer) (settled_box consumer.inner own)) root
 
-loop_view : (plan : Option FuncPlan) (its : Standing) (at : LoopPlace) (own : SourceBox) (consumer : ConsumerLoop) → its.place ≡ places.At at → view_of plan (Some its) own (Some consumer) ≡ settled_box consumer.inner own
+loop_view : (plan : Option FuncPlan) (its : Standing) (at : LoopPlace) (own : SourceBox) (consumer : ConsumerLoop) → its.place ≡ places.At at
+    → view_of plan (Some its) own (Some consumer) ≡ settled_box consumer.inner own
 loop_view None its at own consumer is = ap (λ (p : Place). cond (is_root p) own (settled_box consumer.inner own)) is
 loop_view (Some plan) its at own consumer is = ap (λ (p : Place). cond (is_root p) (consumer_view plan.pure own consumer) (settled_box consumer.inner own)) is
 
@@ -160,43 +183,53 @@ module _ (func : Func) (plan : FuncPlan) (consuming : SourceBox) (planned : IsPl
 
   seen_by : (n : ℕ) → n ≡ Inner → (Below (turns_from n turns plan.pure.loops) (consumer_loop plan consuming id).lasts)
       × AllByRecursion
-      (λ whole. (x y : ℕ) → IsTakenTo func consuming whole x y → LiesIn (turns_from n turns plan.pure.loops) (consumer_view plan.pure consuming (consumer_loop plan consuming id)) x y)
+      (λ whole. (x y : ℕ) → IsTakenTo func consuming whole x y
+      → LiesIn (turns_from n turns plan.pure.loops) (consumer_view plan.pure consuming (consumer_loop plan consuming id)) x y)
       (wholes (extents_of consuming) plan.pure.splits (take Inner plan.pure.loops) turns)
-      → (x y : ℕ) → IsReachedIn func plan consuming id turns x y → IsSeenIn Bases (Some (consumer_loop plan consuming id)) (consumer_view plan.pure consuming (consumer_loop plan consuming id)) x y
+      → (x y : ℕ) → IsReachedIn func plan consuming id turns x y
+      → IsSeenIn Bases (Some (consumer_loop plan consuming id)) (consumer_view plan.pure consuming (consumer_loop plan consuming id)) x y
   seen_by n e all x y at =
       let values_are : turns_from n turns plan.pure.loops ≡ Bases = ap (λ (k : ℕ). turns_from k turns plan.pure.loops) e in
-      let below : Below Bases (consumer_loop plan consuming id).lasts = subst (λ (v : List ℕ). Below v (consumer_loop plan consuming id).lasts) values_are all.0 in
+      let below : Below Bases (consumer_loop plan consuming id).lasts = subst (λ (v : List ℕ). Below v (consumer_loop plan consuming id).lasts) values_are all.0
+      in
       record {
         produced = below;
         below = subst (λ (l : List ℕ). Below Bases l) (sym (view_lasts plan consuming (consumer_loop plan consuming id))) below;
         lies = subst (λ (v : List ℕ). LiesIn v (consumer_view plan.pure consuming (consumer_loop plan consuming id)) x y) values_are
-            (all_contain (λ whole. (x y : ℕ) → IsTakenTo func consuming whole x y → LiesIn (turns_from n turns plan.pure.loops) (consumer_view plan.pure consuming (consumer_loop plan consuming id)) x y)
-            (wholes (extents_of consuming) plan.pure.splits (take Inner plan.pure.loops) turns) all.1 at.whole at.visited.0 at.visited.1 at.visited.2 x y at.taken);
+            (all_contain (λ whole. (x y : ℕ) → IsTakenTo func consuming whole x y
+            → LiesIn (turns_from n turns plan.pure.loops) (consumer_view plan.pure consuming (consumer_loop plan consuming id)) x y)
+            (wholes (extents_of consuming) plan.pure.splits (take Inner plan.pure.loops) turns) all.1 at.whole at.visited.0 at.visited.1 at.visited.2 x y
+            at.taken);
       }
 
-  root_seen : (x y : ℕ) → IsReachedIn func plan consuming id turns x y → IsSeenIn Bases (Some (consumer_loop plan consuming id)) (consumer_view plan.pure consuming (consumer_loop plan consuming id)) x y
+  root_seen : (x y : ℕ) → IsReachedIn func plan consuming id turns x y
+      → IsSeenIn Bases (Some (consumer_loop plan consuming id)) (consumer_view plan.pure consuming (consumer_loop plan consuming id)) x y
   root_seen x y at =
       let count : length (take Inner plan.pure.loops) ≡ Inner = length-take-le Inner plan.pure.loops (count_few id plan.pure.loops) in
       seen_by (length (take Inner plan.pure.loops)) count
-      (consumer_arguments_lie func plan consuming id (take Inner plan.pure.loops) (drop Inner plan.pure.loops) turns planned.pure (sym (take-append-drop Inner plan.pure.loops)) count at.turns_are) x y at
+      (consumer_arguments_lie func plan consuming id (take Inner plan.pure.loops) (drop Inner plan.pure.loops) turns planned.pure
+      (sym (take-append-drop Inner plan.pure.loops)) count at.turns_are) x y at
 
 -- ---- those of a Func at a loop
 
 module _ (plan : FuncPlan) (consuming own : SourceBox) (id inside : LoopId) (turns : Values) (first : comes_first inside id plan.pure.loops ≡ true)
     (lasts : own.lasts ≡ lasts_in (extents_of consuming) plan.pure.splits plan.pure.loops) where
-  below_from : (from : LoopId) → AreTurnsFrom plan consuming from turns → Below (values_in plan from turns) (lasts_in (extents_of consuming) plan.pure.splits plan.pure.loops)
+  below_from : (from : LoopId) → AreTurnsFrom plan consuming from turns
+      → Below (values_in plan from turns) (lasts_in (extents_of consuming) plan.pure.splits plan.pure.loops)
   below_from from are =
       let n = inner_count from plan.pure.loops in
       let count : length (take n plan.pure.loops) ≡ n = length-take-le n plan.pure.loops (count_few from plan.pure.loops) in
       subst (λ (k : ℕ). Below (turns_from k turns plan.pure.loops) (lasts_in (extents_of consuming) plan.pure.splits plan.pure.loops)) count
-      (turns_below (extents_of consuming) plan.pure.splits turns (take n plan.pure.loops) (drop n plan.pure.loops) plan.pure.loops (sym (take-append-drop n plan.pure.loops)) are)
+      (turns_below (extents_of consuming) plan.pure.splits turns (take n plan.pure.loops) (drop n plan.pure.loops) plan.pure.loops
+      (sym (take-append-drop n plan.pure.loops)) are)
 
   loop_seen : (x y : ℕ) → AreTurnsFrom plan consuming inside turns → LiesIn (values_in plan inside turns) own x y
       → IsSeenIn (values_in plan id turns) (Some (consumer_loop plan consuming id)) (settled_box (consumer_loop plan consuming id).inner own) x y
   loop_seen x y are lies =
       let few : inner_count inside plan.pure.loops ≤ inner_count id plan.pure.loops = count_first inside id plan.pure.loops first in
       let further : AreTurnsFrom plan consuming id turns =
-      turns_further (counts (extents_of consuming) plan.pure.splits) (inner_count inside plan.pure.loops) (inner_count id plan.pure.loops) plan.pure.loops turns few are in
+      turns_further (counts (extents_of consuming) plan.pure.splits) (inner_count inside plan.pure.loops) (inner_count id plan.pure.loops) plan.pure.loops turns
+      few are in
       let below = below_from id further in
       record {
         produced = subst (λ (l : List ℕ). Below (values_in plan id turns) l) (sym (lasts_are plan consuming id)) below;
@@ -210,8 +243,10 @@ module _ (plan : FuncPlan) (consuming own : SourceBox) (id inside : LoopId) (tur
 -- ---- all of them
 
 pub arguments_lie_in_views : ArgumentsLieInViews
-arguments_lie_in_views pipeline schedule boxes accepted is place sought at there reached placed func plan consuming func_is plan_is consuming_is reader its own its_there its_reached own_is within turns x y may_be =
-    subst (λ (h : Option ConsumerLoop). IsSeenIn (values_in plan at.inside turns) h (view_of (slice_get schedule.funcs reader) (slice_get schedule.standings reader) own h) x y) (sym produced)
+arguments_lie_in_views pipeline schedule boxes accepted is place sought at there reached placed func plan consuming func_is plan_is consuming_is reader its own
+    its_there its_reached own_is within turns x y may_be =
+    subst (λ (h : Option ConsumerLoop). IsSeenIn (values_in plan at.inside turns) h (view_of (slice_get schedule.funcs reader) (slice_get schedule.standings
+    reader) own h) x y) (sym produced)
     (by_case (stands pipeline schedule.funcs schedule.standings at reader within its its_there))
   where
     produced : consumer_in schedule boxes.funcs sought.place ≡ Some (consumer_loop plan consuming at.inside)
@@ -224,18 +259,23 @@ arguments_lie_in_views pipeline schedule boxes accepted is place sought at there
     consumer_there = numbered_at (HasConsumerAtRoot schedule.standings) 0 schedule.standings accepted.consumers_at_root place sought there reached at placed
 
     by_case : Stands schedule.funcs at reader its.place
-        → IsSeenIn (values_in plan at.inside turns) (Some (consumer_loop plan consuming at.inside)) (view_of (slice_get schedule.funcs reader) (slice_get schedule.standings reader) own (Some (consumer_loop plan consuming at.inside))) x y
+        → IsSeenIn (values_in plan at.inside turns) (Some (consumer_loop plan consuming at.inside)) (view_of (slice_get schedule.funcs reader)
+        (slice_get schedule.standings reader) own (Some (consumer_loop plan consuming at.inside))) x y
     by_case (IsTheConsumer e) =
         let root : its.place ≡ places.Root =
-        ap (λ (s : Standing). s.place) (same its consumer_there.own (sym its_there ∙ ap (λ (n : ℕ). slice_get schedule.standings n) e ∙ consumer_there.there.standing)) ∙ consumer_there.root in
+        ap (λ (s : Standing). s.place) (same its consumer_there.own (sym its_there ∙ ap (λ (n : ℕ). slice_get schedule.standings n) e
+        ∙ consumer_there.there.standing)) ∙ consumer_there.root in
         let own_same : own ≡ consuming = got_box (sym own_is ∙ ap (λ (n : ℕ). slice_get boxes.funcs n) e ∙ consuming_is) in
-        let view_is : view_of (slice_get schedule.funcs reader) (slice_get schedule.standings reader) own (Some (consumer_loop plan consuming at.inside)) ≡ consumer_view plan.pure consuming (consumer_loop plan consuming at.inside) =
-        ap (λ (p : Option FuncPlan). view_of p (slice_get schedule.standings reader) own (Some (consumer_loop plan consuming at.inside))) (ap (λ (n : ℕ). slice_get schedule.funcs n) e ∙ plan_is)
+        let view_is : view_of (slice_get schedule.funcs reader) (slice_get schedule.standings reader) own (Some (consumer_loop plan consuming at.inside))
+        ≡ consumer_view plan.pure consuming (consumer_loop plan consuming at.inside) =
+        ap (λ (p : Option FuncPlan). view_of p (slice_get schedule.standings reader) own (Some (consumer_loop plan consuming at.inside)))
+        (ap (λ (n : ℕ). slice_get schedule.funcs n) e ∙ plan_is)
         ∙ ap (λ (s : Option Standing). view_of (Some plan) s own (Some (consumer_loop plan consuming at.inside))) its_there
         ∙ ap (λ (o : SourceBox). view_of (Some plan) (Some its) o (Some (consumer_loop plan consuming at.inside))) own_same
         ∙ root_view plan its consuming (consumer_loop plan consuming at.inside) root in
         subst (λ (v : SourceBox). IsSeenIn (values_in plan at.inside turns) (Some (consumer_loop plan consuming at.inside)) v x y) (sym view_is)
-        (root_seen func plan consuming planned at.inside turns x y (subst (λ (p : Place). MayBeArguments func plan consuming at.inside turns p own x y) root may_be))
+        (root_seen func plan consuming planned at.inside turns x y (subst (λ (p : Place). MayBeArguments func plan consuming at.inside turns p own x y) root
+        may_be))
       where
         got_box : Some (Some own) ≡ Some (Some consuming) → own ≡ consuming
         got_box e = cc
@@ -243,15 +283,23 @@ arguments_lie_in_views pipeline schedule boxes accepted is place sought at there
         let parts = and_parts (inner.func == at.func) (comes_first inner.inside at.inside (pure_loops_of (slice_get schedule.funcs inner.func))) its_within in
         let same_func : inner.func ≡ at.func = eqb-true inner.func at.func parts.0 in
         let first : comes_first inner.inside at.inside plan.pure.loops ≡ true =
-        ap (λ (p : Option FuncPlan). comes_first inner.inside at.inside (pure_loops_of p)) (sym (ap (λ (n : ℕ). slice_get schedule.funcs n) same_func ∙ plan_is)) ∙ parts.1 in
-        let later : reader < inner.func = omega (arith, (numbered_at (HasConsumer pipeline schedule.funcs) 0 schedule.standings accepted.consumers reader its its_there inner inner_is).later) in
+        ap (λ (p : Option FuncPlan). comes_first inner.inside at.inside (pure_loops_of p)) (sym (ap (λ (n : ℕ). slice_get schedule.funcs n) same_func
+        ∙ plan_is)) ∙ parts.1 in
+        let later : reader < inner.func = omega (
+          arith,
+          (numbered_at (HasConsumer pipeline schedule.funcs) 0 schedule.standings accepted.consumers reader its
+              its_there inner inner_is).later,
+        ) in
         let computed : IsComputed reader its.place = subst (λ (p : Place). IsComputed reader p) (sym inner_is) later in
-        let boxed : IsProduced (consumer_in schedule boxes.funcs its.place) own = boxes_are_produced pipeline schedule boxes is reader its its_there its_reached computed own own_is in
+        let boxed : IsProduced (consumer_in schedule boxes.funcs its.place) own = boxes_are_produced pipeline schedule boxes is reader its its_there its_reached
+        computed own own_is in
         let lasts : own.lasts ≡ lasts_in (extents_of consuming) plan.pure.splits plan.pure.loops =
-        boxed.lasts ∙ ap lasts_of (consumer_is schedule boxes.funcs its.place inner at.func plan consuming inner_is same_func plan_is consuming_is) ∙ lasts_are plan consuming inner.inside in
+        boxed.lasts ∙ ap lasts_of (consumer_is schedule boxes.funcs its.place inner at.func plan consuming inner_is same_func plan_is consuming_is)
+        ∙ lasts_are plan consuming inner.inside in
         let found : AreTurnsFrom plan consuming inner.inside turns × LiesIn (values_in plan inner.inside turns) own x y =
         subst (λ (p : Place). MayBeArguments func plan consuming at.inside turns p own x y) inner_is may_be in
-        let view_is : view_of (slice_get schedule.funcs reader) (slice_get schedule.standings reader) own (Some (consumer_loop plan consuming at.inside)) ≡ settled_box (consumer_loop plan consuming at.inside).inner own =
+        let view_is : view_of (slice_get schedule.funcs reader) (slice_get schedule.standings reader) own (Some (consumer_loop plan consuming at.inside))
+        ≡ settled_box (consumer_loop plan consuming at.inside).inner own =
         ap (λ (s : Option Standing). view_of (slice_get schedule.funcs reader) s own (Some (consumer_loop plan consuming at.inside))) its_there
         ∙ loop_view (slice_get schedule.funcs reader) its inner own (consumer_loop plan consuming at.inside) inner_is in
         subst (λ (v : SourceBox). IsSeenIn (values_in plan at.inside turns) (Some (consumer_loop plan consuming at.inside)) v x y) (sym view_is)

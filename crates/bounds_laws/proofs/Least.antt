@@ -1,5 +1,6 @@
 -- Boxes are the least that hold what is asked.
-use Rattle.std.proofs.Common.{◌≡◌, ℕ, zero, suc, ◌+◌, ◌-◌, Bool, true, false, cond, List, [], ◌∷◌, ◌++◌, length, Option, Some, None, refl, sym, ap, ◌∙◌, subst, arith, length-append}
+use Rattle.std.proofs.Common.{◌≡◌, ℕ, zero, suc, ◌+◌, ◌-◌, Bool, true, false, cond, List, [], ◌∷◌, ◌++◌, length, Option, Some, None, refl, sym, ap, ◌∙◌, subst}
+use Rattle.std.proofs.Common.{arith, length-append}
 use Rattle.std.specs.Prelude.{◌==◌, nat_le, slice_get, drop, Ok}
 use Rattle.std.specs.List.{AllByRecursion}
 use Rattle.halide_pipeline.specs.declared.definitions.Func.{Func}
@@ -22,12 +23,14 @@ use Rattle.bounds.specs.declared.boxes.ConsumerLoop.{ConsumerLoop}
 use Rattle.bounds.specs.declared.boxes.SourceBox.{SourceBox}
 use Rattle.bounds.specs.declared.boxes.Spread.{Spread}
 use Rattle.bounds.specs.declared.verdict.Boxes.{Boxes}
-use Rattle.bounds.specs.Inference.{update_asked, func_asked, unplaced, pixels_range, wanted, own_updates, read_from, computed_box, placed_box, func_box, consumer_of, box_at, with_func, boxes_from, input_box}
+use Rattle.bounds.specs.Inference.{update_asked, func_asked, unplaced, pixels_range, wanted, own_updates, read_from, computed_box, placed_box, func_box}
+use Rattle.bounds.specs.Inference.{consumer_of, box_at, with_func, boxes_from, input_box}
 use Rattle.bounds.specs.Boxes.{no_loops, lasts_of, taken_over, taken, no_spread, box_of, same_source}
 use Rattle.bounds.specs.Verdict.{inferred}
 use Rattle.bounds.specs.Views.{view_of}
 use Rattle.bounds_laws.specs.Laws.{consumer_in, IsComputed}
-use Rattle.bounds_laws.specs.Least.{IsLeast, asked_of, asked_by_updates, asked_by_func, asked_by, asked_from, wanted_of, columns_asked, rows_asked, FuncBoxesAreLeast, InputBoxesAreLeast, InputsWithoutBoxes}
+use Rattle.bounds_laws.specs.Least.{IsLeast, asked_of, asked_by_updates, asked_by_func, asked_by, asked_from, wanted_of, columns_asked, rows_asked}
+use Rattle.bounds_laws.specs.Least.{FuncBoxesAreLeast, InputBoxesAreLeast, InputsWithoutBoxes}
 use Rattle.bounds_laws.proofs.BoxFacts.{has_box}
 use Rattle.bounds_laws.proofs.Covering.{taken_fits}
 use Rattle.bounds_laws.proofs.Found.{are_found, in_front_is, inputs_at, got}
@@ -47,18 +50,26 @@ over_normal : (consumer : Option ConsumerLoop) (lasts : List ℕ) (range : Range
 over_normal None lasts range normal = fit_held IsNormal normal_closed no_loops no_base (widened lasts range) none_normal
 over_normal (Some consumer) lasts range normal = fit_held IsNormal normal_closed consumer.lasts range.base (ends_of range) normal
 
-taken_by : (consumer : Option ConsumerLoop) (lasts : List ℕ) (range : Range) → IsNormal range.base → (test : Bool) → IsNormal (cond test (taken_over consumer lasts range) every).base
+taken_by : (consumer : Option ConsumerLoop) (lasts : List ℕ) (range : Range) → IsNormal range.base → (test : Bool)
+    → IsNormal (cond test (taken_over consumer lasts range) every).base
 taken_by consumer lasts range normal true = over_normal consumer lasts range normal
 taken_by consumer lasts range normal false = none_normal
 
 module _ (side : Side) (consumer : Option ConsumerLoop) where
   one_kept : (lasts : List ℕ) (one : Asked) (rest : List Range) → IsNormal one.x.base × IsNormal one.y.base → AreKept (lasts_of consumer) rest → (test : Bool)
       → AreKept (lasts_of consumer) (cond test (taken consumer lasts (side.of one) ∷ rest) rest)
-  one_kept lasts one rest normal kept true =
-      (record { fits = taken_fits consumer lasts (side.of one); normal = taken_by consumer lasts (side.of one) (side.normal one normal) (nat_le (side.of one).low (side.of one).high) }, kept)
+  one_kept lasts one rest normal kept true = (
+    record {
+      fits = taken_fits consumer lasts (side.of one);
+      normal = taken_by consumer lasts (side.of one) (side.normal one normal)
+          (nat_le (side.of one).low (side.of one).high);
+    },
+    kept,
+  )
   one_kept lasts one rest normal kept false = kept
 
-  of_kept : (lasts : List ℕ) (source : Source) (asked : List Asked) → AreHeld IsNormal asked → AreKept (lasts_of consumer) (asked_of side.of consumer lasts source asked)
+  of_kept : (lasts : List ℕ) (source : Source) (asked : List Asked) → AreHeld IsNormal asked
+      → AreKept (lasts_of consumer) (asked_of side.of consumer lasts source asked)
   of_kept lasts source [] normal = tt
   of_kept lasts source (one ∷ others) normal =
       one_kept lasts one (asked_of side.of consumer lasts source others) normal.0 (of_kept lasts source others normal.1) (same_source one.source source)
@@ -72,18 +83,22 @@ module _ (side : Side) (consumer : Option ConsumerLoop) where
         → AreKept (lasts_of consumer) (asked_by_func side.of pipeline schedule reader view consumer source func)
     func_kept reader source view normal None is = tt
     func_kept reader source view normal (Some func) is =
-        of_kept view.lasts source (func_asked pipeline.inputs pipeline.funcs flags reader view func) (func_held IsNormal normal_closed pipeline flags rules reader func is view normal.0 normal.1)
+        of_kept view.lasts source (func_asked pipeline.inputs pipeline.funcs flags reader view func) (func_held IsNormal normal_closed pipeline flags rules
+        reader func is view normal.0 normal.1)
 
-    by_kept : (reader : ℕ) (source : Source) (own : Option SourceBox) → IsNormalBox own → AreKept (lasts_of consumer) (asked_by side.of pipeline schedule reader consumer source own)
+    by_kept : (reader : ℕ) (source : Source) (own : Option SourceBox) → IsNormalBox own
+        → AreKept (lasts_of consumer) (asked_by side.of pipeline schedule reader consumer source own)
     by_kept reader source None normal = tt
     by_kept reader source (Some own) normal =
         func_kept reader source (view_of (slice_get schedule.funcs reader) (slice_get schedule.standings reader) own consumer)
         (view_normal (slice_get schedule.funcs reader) (slice_get schedule.standings reader) own consumer normal) (slice_get pipeline.funcs reader) refl
 
-    from_kept : (reader : ℕ) (source : Source) (boxes : List (Option SourceBox)) → AreNormal boxes → AreKept (lasts_of consumer) (asked_from side.of pipeline schedule reader consumer source boxes)
+    from_kept : (reader : ℕ) (source : Source) (boxes : List (Option SourceBox)) → AreNormal boxes
+        → AreKept (lasts_of consumer) (asked_from side.of pipeline schedule reader consumer source boxes)
     from_kept reader source [] normal = tt
     from_kept reader source (own ∷ boxes) normal =
-        all_both (IsKept (lasts_of consumer)) (asked_by side.of pipeline schedule reader consumer source own) (asked_from side.of pipeline schedule (reader + 1) consumer source boxes)
+        all_both (IsKept (lasts_of consumer)) (asked_by side.of pipeline schedule reader consumer source own) (asked_from side.of pipeline schedule (reader + 1)
+        consumer source boxes)
         (by_kept reader source own normal.0) (from_kept (reader + 1) source boxes normal.1)
 
     -- as picture
@@ -96,7 +111,8 @@ module _ (side : Side) (consumer : Option ConsumerLoop) where
     -- by its own updates
     module _ (place : ℕ) (func : Func) (func_is : slice_get pipeline.funcs place ≡ Some func) where
       update_kept : (at : ℕ) (update : Update) → slice_get func.updates at ≡ Some update → (test : Bool)
-          → AreKept (lasts_of consumer) (cond test [] (asked_of side.of consumer no_loops (sources.Func place) (update_asked pipeline.inputs pipeline.funcs flags place unplaced update)))
+          → AreKept (lasts_of consumer) (cond test [] (asked_of side.of consumer no_loops (sources.Func place) (update_asked pipeline.inputs pipeline.funcs
+          flags place unplaced update)))
       update_kept at update update_is true = tt
       update_kept at update update_is false =
           of_kept no_loops (sources.Func place) (update_asked pipeline.inputs pipeline.funcs flags place unplaced update)
@@ -133,7 +149,8 @@ of_parts : (lasts : List ℕ) (a b : Option Range) (own : SourceBox) → Some ow
 of_parts lasts None b own e = absurd cc
 of_parts lasts (Some x) None own e = absurd cc
 of_parts lasts (Some x) (Some y) own e =
-    subst (λ (o : SourceBox). IsOf lasts (Some x) (Some y) o) (got (record { x = x; y = y; lasts = lasts }) own (sym e)) (record { x = refl; y = refl; lasts_are = refl })
+    subst (λ (o : SourceBox). IsOf lasts (Some x) (Some y) o) (got (record { x = x; y = y; lasts = lasts }) own (sym e))
+    (record { x = refl; y = refl; lasts_are = refl })
 
 -- a box whose sides are least
 record AreLeast (lasts : List ℕ) (columns rows : List Range) (own : SourceBox) : Type 0 where
@@ -141,7 +158,8 @@ record AreLeast (lasts : List ℕ) (columns rows : List Range) (own : SourceBox)
   pub lasts_are : own.lasts ≡ lasts
   pub least : IsLeast lasts columns own.x × IsLeast lasts rows own.y
 
-least_by : (lasts : List ℕ) (spread : Spread) (columns rows : List Range) → AreKept lasts columns → AreKept lasts rows → spread.x ≡ folded lasts None columns → spread.y ≡ folded lasts None rows
+least_by : (lasts : List ℕ) (spread : Spread) (columns rows : List Range) → AreKept lasts columns → AreKept lasts rows → spread.x ≡ folded lasts None columns
+    → spread.y ≡ folded lasts None rows
     → (own : SourceBox) → Some own ≡ box_of lasts spread.x spread.y → AreLeast lasts columns rows own
 least_by lasts spread columns rows kept_x kept_y x_is y_is own e =
     let parts = of_parts lasts spread.x spread.y own e in
@@ -153,20 +171,24 @@ module _ (pipeline : Pipeline) (schedule : Schedule) (rules : IsWellFormed pipel
   abbrev flags_here : List Bool
   flags_here = flags_of schedule.standings
 
-  func_least : (place : ℕ) (func : Func) → slice_get pipeline.funcs place ≡ Some func → (behind : List (Option SourceBox)) → AreNormal behind → (consumer : Option ConsumerLoop)
+  func_least : (place : ℕ) (func : Func) → slice_get pipeline.funcs place ≡ Some func → (behind : List (Option SourceBox)) → AreNormal behind
+      → (consumer : Option ConsumerLoop)
       → (own : SourceBox) → Some own ≡ computed_box pipeline schedule flags_here place func behind consumer
       → AreLeast (lasts_of consumer)
       (all_asked first_side consumer pipeline schedule place func behind) (all_asked second_side consumer pipeline schedule place func behind) own
   func_least place func func_is behind normal consumer own e =
       least_by (lasts_of consumer)
-      (read_from pipeline schedule flags_here (place + 1) consumer (sources.Func place) behind (own_updates pipeline flags_here place consumer (wanted pipeline.output place consumer) func.updates)) _ _
-      (all_kept first_side consumer pipeline schedule rules place func func_is behind normal) (all_kept second_side consumer pipeline schedule rules place func func_is behind normal)
+      (read_from pipeline schedule flags_here (place + 1) consumer (sources.Func place) behind (own_updates pipeline flags_here place consumer
+      (wanted pipeline.output place consumer) func.updates)) _ _
+      (all_kept first_side consumer pipeline schedule rules place func func_is behind normal) (all_kept second_side consumer pipeline schedule rules place func
+      func_is behind normal)
       (all_is first_side consumer pipeline schedule place func behind) (all_is second_side consumer pipeline schedule place func behind) own e
 
   -- ---- all boxes are normal
 
   module _ (place : ℕ) (func : Func) (func_is : slice_get pipeline.funcs place ≡ Some func) (behind : List (Option SourceBox)) (normal : AreNormal behind) where
-    computed_normal : (consumer : Option ConsumerLoop) (own : Option SourceBox) → own ≡ computed_box pipeline schedule flags_here place func behind consumer → IsNormalBox own
+    computed_normal : (consumer : Option ConsumerLoop) (own : Option SourceBox) → own ≡ computed_box pipeline schedule flags_here place func behind consumer
+        → IsNormalBox own
     computed_normal consumer None e = tt
     computed_normal consumer (Some own) e = (func_least place func func_is behind normal consumer own e).normal
 
@@ -185,7 +207,8 @@ module _ (pipeline : Pipeline) (schedule : Schedule) (rules : IsWellFormed pipel
     func_normal (Some standing) = reached_normal standing.is_reached _ (placed_normal standing.place)
 
   step : (place : ℕ) (func : Func) → slice_get pipeline.funcs place ≡ Some func → (rest : Option (List (Option SourceBox))) (found : List (Option SourceBox))
-      → ((behind : List (Option SourceBox)) → rest ≡ Some behind → AreNormal behind) → with_func pipeline schedule flags_here place func rest ≡ Some found → AreNormal found
+      → ((behind : List (Option SourceBox)) → rest ≡ Some behind → AreNormal behind) → with_func pipeline schedule flags_here place func rest ≡ Some found
+      → AreNormal found
   step place func func_is None found next e = absurd cc
   step place func func_is (Some behind) found next e =
       let normal = next behind refl in
@@ -228,10 +251,13 @@ dropped_normal zero boxes normal = normal
 dropped_normal (suc k) [] normal = tt
 dropped_normal (suc k) (own ∷ boxes) normal = dropped_normal k boxes normal.1
 
-same_computed : (pipeline : Pipeline) (schedule : Schedule) (flags : List Bool) (place : ℕ) (consumer : Option ConsumerLoop) (func other : Func) (some more : List (Option SourceBox))
-    → func ≡ other → some ≡ more → computed_box pipeline schedule flags place func some consumer ≡ computed_box pipeline schedule flags place other more consumer
+same_computed : (pipeline : Pipeline) (schedule : Schedule) (flags : List Bool) (place : ℕ) (consumer : Option ConsumerLoop) (func other : Func)
+    (some more : List (Option SourceBox))
+    → func ≡ other → some ≡ more → computed_box pipeline schedule flags place func some consumer ≡ computed_box pipeline schedule flags place other more
+    consumer
 same_computed pipeline schedule flags place consumer func other some more same_func same_boxes =
-    ap (λ (f : Func). computed_box pipeline schedule flags place f some consumer) same_func ∙ ap (λ (l : List (Option SourceBox)). computed_box pipeline schedule flags place other l consumer) same_boxes
+    ap (λ (f : Func). computed_box pipeline schedule flags place f some consumer) same_func
+    ∙ ap (λ (l : List (Option SourceBox)). computed_box pipeline schedule flags place other l consumer) same_boxes
 
 -- ---- the laws
 
@@ -248,7 +274,8 @@ func_boxes_are_least pipeline schedule boxes rules accepted is place func standi
     ◌∙◌ {b = computed_box pipeline schedule flags place found.func found.behind consumer} found.box_is
     (same_computed pipeline schedule flags place consumer found.func func found.behind behind (got found.func func (sym found.func_is ∙ func_is))
     (same_lists found.behind behind (λ n. found.later n ∙ sym (dropped_at (place + 1) boxes.funcs n)))) in
-    let least = func_least pipeline schedule rules place func func_is behind (dropped_normal (place + 1) boxes.funcs (boxes_normal pipeline schedule rules boxes is)) consumer own computed in
+    let least = func_least pipeline schedule rules place func func_is behind (dropped_normal (place + 1) boxes.funcs (boxes_normal pipeline schedule rules boxes
+    is)) consumer own computed in
     record { lasts_are = least.lasts_are; columns_are = least.least.0; rows_are = least.least.1 }
 
 pub input_boxes_are_least : InputBoxesAreLeast
@@ -256,60 +283,77 @@ input_boxes_are_least pipeline schedule boxes rules is place own own_is =
     let flags = flags_of schedule.standings in
     let here : 0 + place ≡ place = omega arith in
     let normal = boxes_normal pipeline schedule rules boxes is in
-    let read = inputs_at pipeline schedule flags boxes.funcs 0 pipeline.inputs boxes.inputs (are_found pipeline schedule boxes is).inputs place (Some own) own_is in
+    let read = inputs_at pipeline schedule flags boxes.funcs 0 pipeline.inputs boxes.inputs (are_found pipeline schedule boxes is).inputs place (Some own)
+    own_is in
     let least = least_by no_loops (read_from pipeline schedule flags 0 None (sources.Input place) boxes.funcs no_spread) _ _
-    (from_kept first_side None pipeline schedule rules 0 (sources.Input place) boxes.funcs normal) (from_kept second_side None pipeline schedule rules 0 (sources.Input place) boxes.funcs normal)
-    (from_is first_side None pipeline schedule (sources.Input place) 0 boxes.funcs no_spread) (from_is second_side None pipeline schedule (sources.Input place) 0 boxes.funcs no_spread)
+    (from_kept first_side None pipeline schedule rules 0 (sources.Input place) boxes.funcs normal) (from_kept second_side None pipeline schedule rules 0
+    (sources.Input place) boxes.funcs normal)
+    (from_is first_side None pipeline schedule (sources.Input place) 0 boxes.funcs no_spread) (from_is second_side None pipeline schedule (sources.Input place)
+    0 boxes.funcs no_spread)
     own (read ∙ ap (λ (n : ℕ). input_box pipeline schedule flags boxes.funcs n) here) in
     record { lasts_are = least.lasts_are; columns_are = least.least.0; rows_are = least.least.1 }
 
 -- ---- inputs without a box
 
-none_of : (lasts : List ℕ) (columns rows : List Range) → length columns ≡ length rows → None ≡ box_of lasts (folded lasts None columns) (folded lasts None rows) → columns ≡ []
+none_of : (lasts : List ℕ) (columns rows : List Range) → length columns ≡ length rows → None ≡ box_of lasts (folded lasts None columns) (folded lasts None rows)
+    → columns ≡ []
 none_of lasts [] rows many e = refl
 none_of lasts (column ∷ columns) [] many e = absurd (omega (arith, many))
 none_of lasts (column ∷ columns) (row ∷ rows) many e =
-    let some : box_of lasts (folded lasts None (column ∷ columns)) (folded lasts None (row ∷ rows)) ≡ Some (record { x = hulls lasts column columns; y = hulls lasts row rows; lasts = lasts }) =
+    let some : box_of lasts (folded lasts None (column ∷ columns)) (folded lasts None (row ∷ rows))
+    ≡ Some (record { x = hulls lasts column columns; y = hulls lasts row rows; lasts = lasts }) =
     rw (folded_is lasts column columns, folded_is lasts row rows) refl in
     absurd cc
 
 module _ (pipeline : Pipeline) (schedule : Schedule) (consumer : Option ConsumerLoop) (source : Source) where
-  as_many_of : (lasts : List ℕ) (asked : List Asked) → length (asked_of (λ read. read.x) consumer lasts source asked) ≡ length (asked_of (λ read. read.y) consumer lasts source asked)
+  as_many_of : (lasts : List ℕ) (asked : List Asked) → length (asked_of (λ read. read.x) consumer lasts source asked)
+      ≡ length (asked_of (λ read. read.y) consumer lasts source asked)
   as_many_of lasts [] = refl
   as_many_of lasts (read ∷ others) = by_test (same_source read.source source) (as_many_of lasts others)
     where
-      by_test : (test : Bool) → length (asked_of (λ read. read.x) consumer lasts source others) ≡ length (asked_of (λ read. read.y) consumer lasts source others)
-          → length (cond test (taken consumer lasts read.x ∷ asked_of (λ read. read.x) consumer lasts source others) (asked_of (λ read. read.x) consumer lasts source others))
-          ≡ length (cond test (taken consumer lasts read.y ∷ asked_of (λ read. read.y) consumer lasts source others) (asked_of (λ read. read.y) consumer lasts source others))
+      by_test : (test : Bool) → length (asked_of (λ read. read.x) consumer lasts source others) ≡ length (asked_of (λ read. read.y) consumer lasts source
+          others)
+          → length (cond test (taken consumer lasts read.x ∷ asked_of (λ read. read.x) consumer lasts source others) (asked_of (λ read. read.x) consumer lasts
+          source others))
+          ≡ length (cond test (taken consumer lasts read.y ∷ asked_of (λ read. read.y) consumer lasts source others) (asked_of (λ read. read.y) consumer lasts
+          source others))
       by_test true same = ap suc same
       by_test false same = same
 
   as_many_func : (reader : ℕ) (view : SourceBox) (func : Option Func)
-      → length (asked_by_func (λ read. read.x) pipeline schedule reader view consumer source func) ≡ length (asked_by_func (λ read. read.y) pipeline schedule reader view consumer source func)
+      → length (asked_by_func (λ read. read.x) pipeline schedule reader view consumer source func) ≡ length (asked_by_func (λ read. read.y) pipeline schedule
+      reader view consumer source func)
   as_many_func reader view None = refl
   as_many_func reader view (Some func) = as_many_of view.lasts (func_asked pipeline.inputs pipeline.funcs (flags_of schedule.standings) reader view func)
 
-  as_many_by : (reader : ℕ) (own : Option SourceBox) → length (asked_by (λ read. read.x) pipeline schedule reader consumer source own) ≡ length (asked_by (λ read. read.y) pipeline schedule reader consumer source own)
+  as_many_by : (reader : ℕ) (own : Option SourceBox) → length (asked_by (λ read. read.x) pipeline schedule reader consumer source own)
+      ≡ length (asked_by (λ read. read.y) pipeline schedule reader consumer source own)
   as_many_by reader None = refl
-  as_many_by reader (Some own) = as_many_func reader (view_of (slice_get schedule.funcs reader) (slice_get schedule.standings reader) own consumer) (slice_get pipeline.funcs reader)
+  as_many_by reader (Some own) = as_many_func reader (view_of (slice_get schedule.funcs reader) (slice_get schedule.standings reader) own consumer)
+      (slice_get pipeline.funcs reader)
 
-  as_many : (reader : ℕ) (boxes : List (Option SourceBox)) → length (asked_from (λ read. read.x) pipeline schedule reader consumer source boxes) ≡ length (asked_from (λ read. read.y) pipeline schedule reader consumer source boxes)
+  as_many : (reader : ℕ) (boxes : List (Option SourceBox)) → length (asked_from (λ read. read.x) pipeline schedule reader consumer source boxes)
+      ≡ length (asked_from (λ read. read.y) pipeline schedule reader consumer source boxes)
   as_many reader [] = refl
   as_many reader (own ∷ boxes) =
-      length-append (asked_by (λ read. read.x) pipeline schedule reader consumer source own) (asked_from (λ read. read.x) pipeline schedule (reader + 1) consumer source boxes)
+      length-append (asked_by (λ read. read.x) pipeline schedule reader consumer source own) (asked_from (λ read. read.x) pipeline schedule (reader + 1)
+      consumer source boxes)
       ∙ ap (λ (n : ℕ). n + length (asked_from (λ read. read.x) pipeline schedule (reader + 1) consumer source boxes)) (as_many_by reader own)
       ∙ ap (λ (n : ℕ). length (asked_by (λ read. read.y) pipeline schedule reader consumer source own) + n) (as_many (reader + 1) boxes)
-      ∙ sym (length-append (asked_by (λ read. read.y) pipeline schedule reader consumer source own) (asked_from (λ read. read.y) pipeline schedule (reader + 1) consumer source boxes))
+      ∙ sym (length-append (asked_by (λ read. read.y) pipeline schedule reader consumer source own) (asked_from (λ read. read.y) pipeline schedule (reader + 1)
+      consumer source boxes))
 
 pub inputs_without_boxes : InputsWithoutBoxes
 inputs_without_boxes pipeline schedule boxes is place none =
     let flags = flags_of schedule.standings in
     let here : 0 + place ≡ place = omega arith in
     let read = inputs_at pipeline schedule flags boxes.funcs 0 pipeline.inputs boxes.inputs (are_found pipeline schedule boxes is).inputs place None none in
-    none_of no_loops (asked_from (λ read. read.x) pipeline schedule 0 None (sources.Input place) boxes.funcs) (asked_from (λ read. read.y) pipeline schedule 0 None (sources.Input place) boxes.funcs)
+    none_of no_loops (asked_from (λ read. read.x) pipeline schedule 0 None (sources.Input place) boxes.funcs) (asked_from (λ read. read.y) pipeline schedule 0
+    None (sources.Input place) boxes.funcs)
     (as_many pipeline schedule None (sources.Input place) 0 boxes.funcs)
     (read ∙ ap (λ (n : ℕ). input_box pipeline schedule flags boxes.funcs n) here
     ∙ ap (λ (x : Option Range). box_of no_loops x (read_from pipeline schedule flags 0 None (sources.Input place) boxes.funcs no_spread).y)
     (from_is first_side None pipeline schedule (sources.Input place) 0 boxes.funcs no_spread)
-    ∙ ap (λ (y : Option Range). box_of no_loops (folded no_loops None (asked_from (λ read. read.x) pipeline schedule 0 None (sources.Input place) boxes.funcs)) y)
+    ∙ ap (λ (y : Option Range). box_of no_loops (folded no_loops None (asked_from (λ read. read.x) pipeline schedule 0 None (sources.Input place) boxes.funcs))
+    y)
     (from_is second_side None pipeline schedule (sources.Input place) 0 boxes.funcs no_spread))

@@ -35,13 +35,19 @@ use Rattle.bounds_laws.proofs.StandingWithin.{flag_is, readers_stand_within}
 use Rattle.bounds_laws.proofs.Updates.{update_reads_of_funcs_lie}
 
 -- What holds of all points if one of some source is read within a loop holds of each that is.
-given : (values : List ℕ) (source : Source) (own : Option (Option SourceBox)) (Within : Type 0) (points : List Point) → AllByRecursion (λ point. same_source point.source source ≡ true → Within) points
+given : (values : List ℕ) (source : Source) (own : Option (Option SourceBox)) (Within : Type 0) (points : List Point)
+    → AllByRecursion (λ point. same_source point.source source ≡ true → Within) points
     → (Within → AreBoxed values source own points) → AreBoxed values source own points
 given values source own Within [] within boxed = tt
-given values source own Within (point ∷ points) within boxed = (λ e. (boxed (within.0 e)).0 e, given values source own Within points within.1 (λ w. (boxed w).1))
+given values source own Within (point ∷ points) within boxed = (
+  λ e. (boxed (within.0 e)).0 e,
+  given values source own Within points within.1
+      (λ w. (boxed w).1),
+)
 
 -- a reader at root, or at a loop of a later Func
-computed_place : (pipeline : Pipeline) (schedule : Schedule) → IsAccepted pipeline schedule → (reader : ℕ) (its : Standing) → slice_get schedule.standings reader ≡ Some its
+computed_place : (pipeline : Pipeline) (schedule : Schedule) → IsAccepted pipeline schedule → (reader : ℕ) (its : Standing)
+    → slice_get schedule.standings reader ≡ Some its
     → (func : Func) (plan : FuncPlan) (consuming : SourceBox) (id : LoopId) (turns : Values) (place : Place) (own : SourceBox) (x y : ℕ) → its.place ≡ place
     → MayBeArguments func plan consuming id turns place own x y → IsComputed reader place × (is_inlined place ≡ false)
 computed_place pipeline schedule accepted reader its there func plan consuming id turns places.Root own x y placed may_be = (tt, refl)
@@ -52,8 +58,10 @@ computed_place pipeline schedule accepted reader its there func plan consuming i
 
 -- ---- each point of the Func at a loop is read within that loop
 
-module _ (pipeline : Pipeline) (schedule : Schedule) (accepted : IsAccepted pipeline schedule) (place : ℕ) (sought : Standing) (there : slice_get schedule.standings place ≡ Some sought)
-    (at : LoopPlace) (placed : sought.place ≡ places.At at) (reader : ℕ) (its : Standing) (its_there : IsReached schedule.standings reader its) (computed : IsComputed reader its.place) (before : place < reader) where
+module _ (pipeline : Pipeline) (schedule : Schedule) (accepted : IsAccepted pipeline schedule) (place : ℕ) (sought : Standing)
+    (there : slice_get schedule.standings place ≡ Some sought)
+    (at : LoopPlace) (placed : sought.place ≡ places.At at) (reader : ℕ) (its : Standing) (its_there : IsReached schedule.standings reader its)
+    (computed : IsComputed reader its.place) (before : place < reader) where
   abbrev Within : Type 0
   Within = StandsWithin pipeline schedule.funcs schedule.standings at reader
 
@@ -76,50 +84,77 @@ module _ (pipeline : Pipeline) (schedule : Schedule) (accepted : IsAccepted pipe
         | inr through ↦ by_read func is through
       ]
 
-  all_within : (count : ℕ) (points : List Point) → AreReadThrough pipeline schedule.standings reader count points → AllByRecursion (λ point. same_source point.source (sources.Func place) ≡ true → Within) points
+  all_within : (count : ℕ) (points : List Point) → AreReadThrough pipeline schedule.standings reader count points
+      → AllByRecursion (λ point. same_source point.source (sources.Func place) ≡ true → Within) points
   all_within count [] all = tt
   all_within count (point ∷ points) all = (one_within count point.source all.0, all_within count points all.1)
 
 pub pure_reads_in_loops_lie : PureReadsInLoopsLie
-pure_reads_in_loops_lie pipeline schedule boxes rules accepted is place sought at there reached placed func plan consuming func_is plan_is consuming_is reader reading its own before reading_is its_there its_reached own_is reads words turns x y may_be =
-    given (values_in plan at.inside turns) (sources.Func place) (slice_get boxes.funcs place) (StandsWithin pipeline schedule.funcs schedule.standings at reader) (pure_points pipeline schedule reads reader reading x y)
+pure_reads_in_loops_lie pipeline schedule boxes rules accepted is place sought at there reached placed func plan consuming func_is plan_is consuming_is reader
+    reading its own before reading_is its_there its_reached own_is reads words turns x y may_be =
+    given (values_in plan at.inside turns) (sources.Func place) (slice_get boxes.funcs place) (StandsWithin pipeline schedule.funcs schedule.standings at
+    reader) (pure_points pipeline schedule reads reader reading x y)
     (all_within pipeline schedule accepted place sought there at placed reader its (record { standing = its_there; reached = its_reached })
-    (computed_place pipeline schedule accepted reader its its_there func plan consuming at.inside turns its.place own x y refl may_be).0 before reader (pure_points pipeline schedule reads reader reading x y)
+    (computed_place pipeline schedule accepted reader its its_there func plan consuming at.inside turns its.place own x y refl may_be).0 before reader
+    (pure_points pipeline schedule reads reader reading x y)
     (pure_points_are_read_through pipeline schedule rules reader reading reading_is reads x y))
     (λ within.
-    let seen = arguments_lie_in_views pipeline schedule boxes accepted is place sought at there reached placed func plan consuming func_is plan_is consuming_is reader its own its_there its_reached own_is within turns x y may_be in
-    let produced : consumer_in schedule boxes.funcs sought.place ≡ Some (consumer_loop plan consuming at.inside) = consumer_is schedule boxes.funcs sought.place at at.func plan consuming placed refl plan_is consuming_is in
-    let later : place < at.func = omega (arith, (numbered_at (HasConsumer pipeline schedule.funcs) 0 schedule.standings accepted.consumers place sought there at placed).later) in
-    let by_consumer : (consumer : Option ConsumerLoop) → consumer_in schedule boxes.funcs sought.place ≡ consumer → values_for consumer (values_in plan at.inside turns) ≡ values_in plan at.inside turns
+    let seen = arguments_lie_in_views pipeline schedule boxes accepted is place sought at there reached placed func plan consuming func_is plan_is consuming_is
+    reader its own its_there its_reached own_is within turns x y may_be in
+    let produced : consumer_in schedule boxes.funcs sought.place ≡ Some (consumer_loop plan consuming at.inside) = consumer_is schedule boxes.funcs sought.place
+    at at.func plan consuming placed refl plan_is consuming_is in
+    let later : place < at.func = omega (
+      arith,
+      (numbered_at (HasConsumer pipeline schedule.funcs) 0 schedule.standings accepted.consumers place sought there at
+          placed).later,
+    ) in
+    let by_consumer : (consumer : Option ConsumerLoop) → consumer_in schedule boxes.funcs sought.place ≡ consumer
+    → values_for consumer (values_in plan at.inside turns) ≡ values_in plan at.inside turns
     → IsSeenIn (values_in plan at.inside turns) consumer (view_of (slice_get schedule.funcs reader) (slice_get schedule.standings reader) own consumer) x y
     → AreBoxed (values_in plan at.inside turns) (sources.Func place) (slice_get boxes.funcs place) (pure_points pipeline schedule reads reader reading x y) =
     λ consumer h v s.
     subst (λ (l : List ℕ). AreBoxed l (sources.Func place) (slice_get boxes.funcs place) (pure_points pipeline schedule reads reader reading x y)) v
-    (pure_reads_of_funcs_lie pipeline schedule boxes rules is reader reading own reading_is own_is place sought before there reached (subst (λ (p : Place). IsComputed place p) (sym placed) later) consumer h
+    (pure_reads_of_funcs_lie pipeline schedule boxes rules is reader reading own reading_is own_is place sought before there reached
+    (subst (λ (p : Place). IsComputed place p) (sym placed) later) consumer h
     (view_of (slice_get schedule.funcs reader) (slice_get schedule.standings reader) own consumer) refl reads words (values_in plan at.inside turns) s.below
     (subst (λ (l : List ℕ). Below l (lasts_of consumer)) (sym v) s.produced) x y s.lies) in
     by_consumer (Some (consumer_loop plan consuming at.inside)) produced refl
-    (subst (λ (h : Option ConsumerLoop). IsSeenIn (values_in plan at.inside turns) h (view_of (slice_get schedule.funcs reader) (slice_get schedule.standings reader) own h) x y) produced seen))
+    (subst (λ (h : Option ConsumerLoop). IsSeenIn (values_in plan at.inside turns) h (view_of (slice_get schedule.funcs reader) (slice_get schedule.standings
+    reader) own h) x y) produced seen))
 
 pub update_reads_in_loops_lie : UpdateReadsInLoopsLie
-update_reads_in_loops_lie pipeline schedule boxes rules accepted is place sought at there reached placed func plan consuming func_is plan_is consuming_is reader reading its own before reading_is its_there its_reached own_is number_at update update_is reads words turns x y may_be near_x near_y number few =
-    given (values_in plan at.inside turns) (sources.Func place) (slice_get boxes.funcs place) (StandsWithin pipeline schedule.funcs schedule.standings at reader) (update_points pipeline schedule reads reader update number x y)
+update_reads_in_loops_lie pipeline schedule boxes rules accepted is place sought at there reached placed func plan consuming func_is plan_is consuming_is reader
+    reading its own before reading_is its_there its_reached own_is number_at update update_is reads words turns x y may_be near_x near_y number few =
+    given (values_in plan at.inside turns) (sources.Func place) (slice_get boxes.funcs place) (StandsWithin pipeline schedule.funcs schedule.standings at
+    reader) (update_points pipeline schedule reads reader update number x y)
     (all_within pipeline schedule accepted place sought there at placed reader its (record { standing = its_there; reached = its_reached })
-    (computed_place pipeline schedule accepted reader its its_there func plan consuming at.inside turns its.place own x y refl may_be).0 before (suc reader) (update_points pipeline schedule reads reader update number x y)
+    (computed_place pipeline schedule accepted reader its its_there func plan consuming at.inside turns its.place own x y refl may_be).0 before (suc reader)
+    (update_points pipeline schedule reads reader update number x y)
     (update_points_are_read_through pipeline schedule rules reader reading reading_is
-    (flag_is schedule.standings reader its its_there ∙ (computed_place pipeline schedule accepted reader its its_there func plan consuming at.inside turns its.place own x y refl may_be).1)
+    (flag_is schedule.standings reader its its_there ∙ (computed_place pipeline schedule accepted reader its its_there func plan consuming at.inside turns
+    its.place own x y refl may_be).1)
     number_at update update_is reads number x y))
     (λ within.
-    let seen = arguments_lie_in_views pipeline schedule boxes accepted is place sought at there reached placed func plan consuming func_is plan_is consuming_is reader its own its_there its_reached own_is within turns x y may_be in
-    let produced : consumer_in schedule boxes.funcs sought.place ≡ Some (consumer_loop plan consuming at.inside) = consumer_is schedule boxes.funcs sought.place at at.func plan consuming placed refl plan_is consuming_is in
-    let later : place < at.func = omega (arith, (numbered_at (HasConsumer pipeline schedule.funcs) 0 schedule.standings accepted.consumers place sought there at placed).later) in
-    let by_consumer : (consumer : Option ConsumerLoop) → consumer_in schedule boxes.funcs sought.place ≡ consumer → values_for consumer (values_in plan at.inside turns) ≡ values_in plan at.inside turns
+    let seen = arguments_lie_in_views pipeline schedule boxes accepted is place sought at there reached placed func plan consuming func_is plan_is consuming_is
+    reader its own its_there its_reached own_is within turns x y may_be in
+    let produced : consumer_in schedule boxes.funcs sought.place ≡ Some (consumer_loop plan consuming at.inside) = consumer_is schedule boxes.funcs sought.place
+    at at.func plan consuming placed refl plan_is consuming_is in
+    let later : place < at.func = omega (
+      arith,
+      (numbered_at (HasConsumer pipeline schedule.funcs) 0 schedule.standings accepted.consumers place sought there at
+          placed).later,
+    ) in
+    let by_consumer : (consumer : Option ConsumerLoop) → consumer_in schedule boxes.funcs sought.place ≡ consumer
+    → values_for consumer (values_in plan at.inside turns) ≡ values_in plan at.inside turns
     → IsSeenIn (values_in plan at.inside turns) consumer (view_of (slice_get schedule.funcs reader) (slice_get schedule.standings reader) own consumer) x y
-    → AreBoxed (values_in plan at.inside turns) (sources.Func place) (slice_get boxes.funcs place) (update_points pipeline schedule reads reader update number x y) =
+    → AreBoxed (values_in plan at.inside turns) (sources.Func place) (slice_get boxes.funcs place) (update_points pipeline schedule reads reader update number x
+    y) =
     λ consumer h v s.
     subst (λ (l : List ℕ). AreBoxed l (sources.Func place) (slice_get boxes.funcs place) (update_points pipeline schedule reads reader update number x y)) v
-    (update_reads_of_funcs_lie pipeline schedule boxes rules is reader reading own reading_is own_is number_at update update_is place sought before there reached (subst (λ (p : Place). IsComputed place p) (sym placed) later) consumer h
+    (update_reads_of_funcs_lie pipeline schedule boxes rules is reader reading own reading_is own_is number_at update update_is place sought before there
+    reached (subst (λ (p : Place). IsComputed place p) (sym placed) later) consumer h
     (view_of (slice_get schedule.funcs reader) (slice_get schedule.standings reader) own consumer) refl reads words (values_in plan at.inside turns) s.below
     (subst (λ (l : List ℕ). Below l (lasts_of consumer)) (sym v) s.produced) x y s.lies near_x near_y number few) in
     by_consumer (Some (consumer_loop plan consuming at.inside)) produced refl
-    (subst (λ (h : Option ConsumerLoop). IsSeenIn (values_in plan at.inside turns) h (view_of (slice_get schedule.funcs reader) (slice_get schedule.standings reader) own h) x y) produced seen))
+    (subst (λ (h : Option ConsumerLoop). IsSeenIn (values_in plan at.inside turns) h (view_of (slice_get schedule.funcs reader) (slice_get schedule.standings
+    reader) own h) x y) produced seen))

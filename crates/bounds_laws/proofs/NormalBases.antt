@@ -17,7 +17,8 @@ use Rattle.bounds_ranges.specs.declared.ranges.Range.{Range}
 use Rattle.bounds_ranges.specs.Ranges.{cut, zero_multiple, no_base, add_base, negated, times_base, ends_of, fit}
 use Rattle.bounds.specs.declared.boxes.ConsumerLoop.{ConsumerLoop}
 use Rattle.bounds.specs.declared.boxes.SourceBox.{SourceBox}
-use Rattle.bounds.specs.Views.{multiple_of, multiple_at, base_in, argument, inner_count, consumer_view_in, chosen, settled_box, is_root_at, view_at_root, view_of}
+use Rattle.bounds.specs.Views.{multiple_of, multiple_at, base_in, argument, inner_count, consumer_view_in, chosen, settled_box, is_root_at, view_at_root}
+use Rattle.bounds.specs.Views.{view_of}
 use Rattle.bounds.specs.Extents.{extents_of}
 use Rattle.bounds_laws.proofs.HeldBases.{IsClosed, fit_held}
 use Rattle.bounds_laws.proofs.Spans.{IsNormalMultiple, IsNormal, none_normal}
@@ -65,17 +66,23 @@ one_normal false m n first second = second
 module _ (extents : Extents) (splits : List Split) (loops : List Loop) (inner : ℕ) where
   multiple_normal : (variable : Variable) (own : Option Loop) → IsNormalMultiple (multiple_of splits variable own)
   multiple_normal variable None = omega arith
-  multiple_normal variable (Some own) = one_normal (same_variable own.variable variable) (record { more = strides splits own.id; less = 0 }) zero_multiple (omega arith) (omega arith)
+  multiple_normal variable (Some own) = one_normal (same_variable own.variable variable) (record { more = strides splits own.id; less = 0 }) zero_multiple
+      (omega arith) (omega arith)
 
   at_normal : (variable : Variable) (at : ℕ) → IsNormalMultiple (multiple_at splits loops variable inner at)
-  at_normal variable at = one_normal (nat_lt at inner) zero_multiple (multiple_of splits variable (slice_get loops at)) (omega arith) (multiple_normal variable (slice_get loops at))
+  at_normal variable at = one_normal (nat_lt at inner) zero_multiple (multiple_of splits variable (slice_get loops at)) (omega arith) (multiple_normal variable
+      (slice_get loops at))
 
   argument_by : (lasts : List ℕ) (variable : Variable) (range : Range) (test : Bool)
       → IsNormal (cond test (fit lasts no_base (ends_of range))
       (fit lasts (base_in splits loops variable inner) (record { low = range.low; high = range.low + reach extents splits variable (take inner loops) }))).base
   argument_by lasts variable range true = fit_held IsNormal normal_closed lasts no_base (ends_of range) none_normal
   argument_by lasts variable range false =
-      fit_held IsNormal normal_closed lasts (base_in splits loops variable inner) (record { low = range.low; high = range.low + reach extents splits variable (take inner loops) })
+      fit_held IsNormal normal_closed lasts (base_in splits loops variable inner) (record {
+        low = range.low;
+        high = range.low + reach extents splits variable
+            (take inner loops);
+      })
       (at_normal variable 0, (at_normal variable 1, (at_normal variable 2, (at_normal variable 3, (at_normal variable 4, tt)))))
 
   argument_normal : (lasts : List ℕ) (variable : Variable) (range : Range) → IsNormal (argument lasts extents splits loops inner variable range).base
@@ -85,7 +92,8 @@ chosen_normal : (test : ℕ → Bool) (at : ℕ) (base : List Multiple) → IsNo
 chosen_normal test at [] normal = tt
 chosen_normal test at (own ∷ others) normal = (one_normal (test at) own zero_multiple normal.0 (omega arith), chosen_normal test (at + 1) others normal.1)
 
-root_normal : (plan : Option FuncPlan) (own : SourceBox) (consumer : ConsumerLoop) → IsNormalBox (Some own) → IsNormalBox (Some (view_at_root plan own consumer))
+root_normal : (plan : Option FuncPlan) (own : SourceBox) (consumer : ConsumerLoop) → IsNormalBox (Some own)
+    → IsNormalBox (Some (view_at_root plan own consumer))
 unfolding consumer_view_in
 root_normal None own consumer normal = normal
 root_normal (Some plan) own consumer normal =

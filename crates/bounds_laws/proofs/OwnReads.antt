@@ -1,5 +1,6 @@
 -- A Func's own box holds the output's picture, and what its updates read of it out of place.
-use Rattle.std.proofs.Common.{◌≡◌, ℕ, zero, suc, ◌+◌, ◌-◌, ◌*◌, ◌^◌, ◌<◌, ◌≤◌, Bool, true, false, cond, List, [], ◌∷◌, Option, Some, None, refl, sym, ap, ◌∙◌, subst, arith}
+use Rattle.std.proofs.Common.{◌≡◌, ℕ, zero, suc, ◌+◌, ◌-◌, ◌*◌, ◌^◌, ◌<◌, ◌≤◌, Bool, true, false, cond, List, [], ◌∷◌, Option, Some, None, refl, sym, ap, ◌∙◌}
+use Rattle.std.proofs.Common.{subst, arith}
 use Rattle.std.specs.Prelude.{◌==◌, ◌&&◌, nat_le, not, slice_get, Ok}
 use Rattle.std.specs.List.{AllByRecursion}
 use Rattle.std.proofs.lemmas.Bool.{and_parts, eq-eqb, leb-true}
@@ -35,8 +36,10 @@ use Rattle.bounds_laws.proofs.UpdateReads.{update_lies}
 
 -- ---- the box of the Func at a place is what is gathered for it
 
-module _ (pipeline : Pipeline) (schedule : Schedule) (boxes : Boxes) (is : inferred pipeline schedule ≡ Ok boxes) (place : ℕ) (sought : Standing) (there : slice_get schedule.standings place ≡ Some sought)
-    (reached : sought.is_reached ≡ true) (computed : IsComputed place sought.place) (consumer : Option ConsumerLoop) (consumer_is : consumer_in schedule boxes.funcs sought.place ≡ consumer) where
+module _ (pipeline : Pipeline) (schedule : Schedule) (boxes : Boxes) (is : inferred pipeline schedule ≡ Ok boxes) (place : ℕ) (sought : Standing)
+    (there : slice_get schedule.standings place ≡ Some sought)
+    (reached : sought.is_reached ≡ true) (computed : IsComputed place sought.place) (consumer : Option ConsumerLoop) (consumer_is : consumer_in schedule
+    boxes.funcs sought.place ≡ consumer) where
   flags : List Bool
   flags = flags_of schedule.standings
 
@@ -45,7 +48,8 @@ module _ (pipeline : Pipeline) (schedule : Schedule) (boxes : Boxes) (is : infer
     pub func_is : slice_get pipeline.funcs place ≡ Some func
     pub behind : List (Option SourceBox)
     pub later : (n : ℕ) → slice_get behind n ≡ slice_get boxes.funcs (place + 1 + n)
-    pub box_is : other ≡ spread_box consumer (read_from pipeline schedule (flags_of schedule.standings) (place + 1) consumer (sources.Func place) behind (own_updates pipeline (flags_of schedule.standings) place consumer (wanted pipeline.output place consumer) func.updates))
+    pub box_is : other ≡ spread_box consumer (read_from pipeline schedule (flags_of schedule.standings) (place + 1) consumer (sources.Func place) behind
+        (own_updates pipeline (flags_of schedule.standings) place consumer (wanted pipeline.output place consumer) func.updates))
 
   pub gathered_at : (other : Option SourceBox) → slice_get boxes.funcs place ≡ Some other → IsGathered other
   unfolding flags
@@ -66,11 +70,17 @@ module _ (pipeline : Pipeline) (schedule : Schedule) (boxes : Boxes) (is : infer
 
 pixel_lies : (count x : ℕ) → count ≤ 65536 → x < count → Lies no_loops no_loops (pixels_range no_loops count) x
 pixel_lies count x few inside =
-    plain_lies no_loops no_loops no_below (record { low = origin; high = origin + (count - 1) }) x (omega (arith, few, inside)) (λ l h. (omega (arith, few, inside), omega (arith, few, inside)))
+    plain_lies no_loops no_loops no_below (record { low = origin; high = origin + (count - 1) }) x (omega (arith, few, inside))
+    (λ l h. (omega (arith, few, inside), omega (arith, few, inside)))
 
 wanted_lies : (output : Output) (test : Bool) (x y : ℕ) → test ≡ true → output.width ≤ 65536 → output.height ≤ 65536 → x < output.width → y < output.height
-    → InPart no_loops no_loops true true (cond test (record { x = Some (pixels_range no_loops output.width); y = Some (pixels_range no_loops output.height) }) no_spread) x y
-wanted_lies output true x y e few_x few_y inside_x inside_y = record { first = λ t. pixel_lies output.width x few_x inside_x; second = λ t. pixel_lies output.height y few_y inside_y }
+    → InPart no_loops no_loops true true (cond test (record { x = Some (pixels_range no_loops output.width); y = Some (pixels_range no_loops output.height) })
+    no_spread) x y
+wanted_lies output true x y e few_x few_y inside_x inside_y = record {
+  first = λ t. pixel_lies output.width x few_x inside_x;
+  second =
+      λ t. pixel_lies output.height y few_y inside_y;
+}
 wanted_lies output false x y e few_x few_y inside_x inside_y = absurd cc
 
 pub output_lies : OutputLies
@@ -97,7 +107,8 @@ output_lies pipeline schedule boxes rules is sought there reached root x y insid
     high : pipeline.output.height ≤ 65536
     high = leb-true pipeline.output.height most_extent
         (and_parts (nat_le 1 pipeline.output.height) (nat_le pipeline.output.height most_extent)
-        (and_parts (nat_le 1 pipeline.output.height && nat_le pipeline.output.height most_extent) (nat_le (pipeline.output.width * pipeline.output.height) most_points) extents.1).0).1
+        (and_parts (nat_le 1 pipeline.output.height && nat_le pipeline.output.height most_extent) (nat_le (pipeline.output.width * pipeline.output.height)
+        most_points) extents.1).0).1
 
     begun : InPart no_loops no_loops true true (wanted pipeline.output place None) x y
     begun = wanted_lies pipeline.output (place == pipeline.output.func) x y (eq-eqb place pipeline.output.func refl) wide high inside_x inside_y
@@ -110,38 +121,47 @@ output_lies pipeline schedule boxes rules is sought there reached root x y insid
         let all = read_from pipeline schedule flags_here (place + 1) None (sources.Func place) found.behind own in
         let lies = all_keep None no_loops no_below true true pipeline schedule flags_here (sources.Func place) (place + 1) found.behind own x y
         (updates_keep None no_loops no_below true true pipeline flags_here place (wanted pipeline.output place None) found.func.updates x y begun) in
-        subst (λ (o : Option SourceBox). IsBoxed no_loops (Some o) x y) (sym found.box_is) (boxed_by no_loops no_loops all.x all.y x y (lies.first refl) (lies.second refl))
+        subst (λ (o : Option SourceBox). IsBoxed no_loops (Some o) x y) (sym found.box_is) (boxed_by no_loops no_loops all.x all.y x y (lies.first refl)
+        (lies.second refl))
 
 -- ---- what updates read of their own Func
 
-module _ (pipeline : Pipeline) (flags : List Bool) (place : ℕ) (consumer : Option ConsumerLoop) (values : List ℕ) (below : Below (values_for consumer values) (lasts_of consumer)) (points : List Point) where
+module _ (pipeline : Pipeline) (flags : List Bool) (place : ℕ) (consumer : Option ConsumerLoop) (values : List ℕ) (below : Below (values_for consumer values)
+    (lasts_of consumer)) (points : List Point) where
   pub own_takes : (first second : Bool) (updates : List Update) (at : ℕ) (update : Update) → slice_get updates at ≡ Some update
       → first ≡ not (is_first_in_place update) → second ≡ not (is_second_in_place update)
-      → ((spread : Spread) → IsSpread (lasts_of consumer) spread → HoldsPart (lasts_of consumer) (values_for consumer values) first second (sources.Func place) (own_update pipeline flags place consumer spread update) points)
+      → ((spread : Spread) → IsSpread (lasts_of consumer) spread → HoldsPart (lasts_of consumer) (values_for consumer values) first second (sources.Func place)
+      (own_update pipeline flags place consumer spread update) points)
       → (spread : Spread) → IsSpread (lasts_of consumer) spread
-      → HoldsPart (lasts_of consumer) (values_for consumer values) first second (sources.Func place) (own_updates pipeline flags place consumer spread updates) points
+      → HoldsPart (lasts_of consumer) (values_for consumer values) first second (sources.Func place) (own_updates pipeline flags place consumer spread updates)
+      points
   unfolding own_update
   own_takes first second [] zero update is f s takes spread fits = absurd cc
   own_takes first second [] (suc at) update is f s takes spread fits = absurd cc
   own_takes first second (own ∷ others) zero update is f s takes spread fits =
-      part_more (lasts_of consumer) (values_for consumer values) first second (sources.Func place) (own_update pipeline flags place consumer spread own) (own_updates pipeline flags place consumer (own_update pipeline flags place consumer spread own) others)
+      part_more (lasts_of consumer) (values_for consumer values) first second (sources.Func place) (own_update pipeline flags place consumer spread own)
+      (own_updates pipeline flags place consumer (own_update pipeline flags place consumer spread own) others)
       (λ u v. updates_keep consumer values below first second pipeline flags place (own_update pipeline flags place consumer spread own) others u v)
       points
-      (subst (λ (w : Update). HoldsPart (lasts_of consumer) (values_for consumer values) first second (sources.Func place) (own_update pipeline flags place consumer spread w) points) (sym (it own update is)) (takes spread fits))
+      (subst (λ (w : Update). HoldsPart (lasts_of consumer) (values_for consumer values) first second (sources.Func place) (own_update pipeline flags place
+      consumer spread w) points) (sym (it own update is)) (takes spread fits))
     where
       it : (a b : Update) → Some a ≡ Some b → a ≡ b
       it a b e = cc
   own_takes first second (own ∷ others) (suc at) update is f s takes spread fits =
       own_takes first second others at update is f s takes (own_update pipeline flags place consumer spread own)
-      (gathered_fits consumer no_loops (sources.Func place) (not (is_first_in_place own)) (not (is_second_in_place own)) spread (update_asked pipeline.inputs pipeline.funcs flags place unplaced own) fits)
+      (gathered_fits consumer no_loops (sources.Func place) (not (is_first_in_place own)) (not (is_second_in_place own)) spread (update_asked pipeline.inputs
+      pipeline.funcs flags place unplaced own) fits)
 
-partly_by : (lasts values : List ℕ) (first second : Bool) (a b : Option Range) (x y : ℕ) → (first ≡ true → IsIn lasts values a x) → (second ≡ true → IsIn lasts values b y)
+partly_by : (lasts values : List ℕ) (first second : Bool) (a b : Option Range) (x y : ℕ) → (first ≡ true → IsIn lasts values a x)
+    → (second ≡ true → IsIn lasts values b y)
     → IsPartlyBoxed values (Some (box_of lasts a b)) first second x y
 partly_by lasts values first second None b x y f s = tt
 partly_by lasts values first second (Some a) None x y f s = tt
 partly_by lasts values first second (Some a) (Some b) x y f s = record { first = f; second = s }
 
-pub partly_boxed : (consumer : Option ConsumerLoop) (values : List ℕ) (first second : Bool) (source : Source) (spread : Spread) (other : Option SourceBox) → other ≡ spread_box consumer spread
+pub partly_boxed : (consumer : Option ConsumerLoop) (values : List ℕ) (first second : Bool) (source : Source) (spread : Spread) (other : Option SourceBox)
+    → other ≡ spread_box consumer spread
     → (points : List Point) → HoldsPart (lasts_of consumer) values first second source spread points
     → AllByRecursion (λ point. same_source point.source source ≡ true → IsPartlyBoxed values (Some other) first second point.x point.y) points
 partly_boxed consumer values first second source spread other is [] all = tt
@@ -158,13 +178,16 @@ same_func a b e = cc
 update_takes : (pipeline : Pipeline) (flags : List Bool) (place : ℕ) (points : List Point) (update : Update)
     → AllLie no_loops no_loops (update_asked pipeline.inputs pipeline.funcs flags place unplaced update) points
     → (spread : Spread) → IsSpread no_loops spread
-    → HoldsPart no_loops no_loops (not (is_first_in_place update)) (not (is_second_in_place update)) (sources.Func place) (own_update pipeline flags place None spread update) points
+    → HoldsPart no_loops no_loops (not (is_first_in_place update)) (not (is_second_in_place update)) (sources.Func place) (own_update pipeline flags place None
+    spread update) points
 unfolding own_update
 update_takes pipeline flags place points update lie spread fits =
-    gathered_part None no_loops no_below (not (is_first_in_place update)) (not (is_second_in_place update)) no_loops no_below (sources.Func place) spread (update_asked pipeline.inputs pipeline.funcs flags place unplaced update) points fits lie
+    gathered_part None no_loops no_below (not (is_first_in_place update)) (not (is_second_in_place update)) no_loops no_below (sources.Func place) spread
+    (update_asked pipeline.inputs pipeline.funcs flags place unplaced update) points fits lie
 
 pub own_reads_lie : OwnReadsLie
-own_reads_lie pipeline schedule boxes rules is reader func sought func_is there reached root at update update_is reads words x y word_x word_y near_x near_y number few =
+own_reads_lie pipeline schedule boxes rules is reader func sought func_is there reached root at update update_is reads words x y word_x word_y near_x near_y
+    number few =
     by_found (slice_get boxes.funcs reader) refl
   where
     flags_here : List Bool
@@ -186,13 +209,16 @@ own_reads_lie pipeline schedule boxes rules is reader func sought func_is there 
     consumer_is = ap (λ (p : Place). consumer_in schedule boxes.funcs p) root
 
     anywhere_lies : (z : ℕ) → z < 2 ^ 32 → IsNear z → Lies no_loops no_loops unplaced.x z
-    anywhere_lies z word near = plain_lies no_loops no_loops no_below (record { low = origin - 2 ^ 24; high = origin + 2 ^ 24 }) z word (λ l h. (near.low, near.high))
+    anywhere_lies z word near = plain_lies no_loops no_loops no_below (record { low = origin - 2 ^ 24; high = origin + 2 ^ 24 }) z word
+        (λ l h. (near.low, near.high))
 
     asked_lie : AllLie no_loops no_loops (update_asked pipeline.inputs pipeline.funcs flags_here reader unplaced update) points
     asked_lie =
-        update_lies pipeline schedule rules reads words reader func func_is at update update_is unplaced no_loops no_below x y (record { first = anywhere_lies x word_x near_x; second = anywhere_lies y word_y near_y }) near_x near_y number few
+        update_lies pipeline schedule rules reads words reader func func_is at update update_is unplaced no_loops no_below x y
+        (record { first = anywhere_lies x word_x near_x; second = anywhere_lies y word_y near_y }) near_x near_y number few
 
-    none_partly : (all : List Point) → AllByRecursion (λ point. same_source point.source (sources.Func reader) ≡ true → IsPartlyBoxed no_loops None first second point.x point.y) all
+    none_partly : (all : List Point) → AllByRecursion (λ point. same_source point.source (sources.Func reader) ≡ true
+        → IsPartlyBoxed no_loops None first second point.x point.y) all
     none_partly [] = tt
     none_partly (point ∷ others) = (λ e. tt, none_partly others)
 
@@ -204,7 +230,10 @@ own_reads_lie pipeline schedule boxes rules is reader func sought func_is there 
         let begun = wanted pipeline.output reader None in
         let own = own_updates pipeline flags_here reader None begun found.func.updates in
         let all = read_from pipeline schedule flags_here (reader + 1) None (sources.Func reader) found.behind own in
-        let updates_are : slice_get found.func.updates at ≡ Some update = ap (λ (f : Func). slice_get f.updates at) (same_func found.func func (sym found.func_is ∙ func_is)) ∙ update_is in
+        let updates_are : slice_get found.func.updates at ≡ Some update = ap (λ (f : Func). slice_get f.updates at) (same_func found.func func
+        (sym found.func_is ∙ func_is)) ∙ update_is in
         partly_boxed None no_loops first second (sources.Func reader) all other found.box_is points
-        (part_more no_loops no_loops first second (sources.Func reader) own all (λ u v. all_keep None no_loops no_below first second pipeline schedule flags_here (sources.Func reader) (reader + 1) found.behind own u v) points
-        (own_takes pipeline flags_here reader None no_loops no_below points first second found.func.updates at update updates_are refl refl (λ spread fits. update_takes pipeline flags_here reader points update asked_lie spread fits) begun (wanted_fits pipeline.output reader None)))
+        (part_more no_loops no_loops first second (sources.Func reader) own all (λ u v. all_keep None no_loops no_below first second pipeline schedule
+        flags_here (sources.Func reader) (reader + 1) found.behind own u v) points
+        (own_takes pipeline flags_here reader None no_loops no_below points first second found.func.updates at update updates_are refl refl
+        (λ spread fits. update_takes pipeline flags_here reader points update asked_lie spread fits) begun (wanted_fits pipeline.output reader None)))

@@ -40,7 +40,8 @@ lies_under lasts values range x plain lies =
       fits_high = omega (arith, lies.fits_high, more lasts);
     }
 
-pub all_under : (lasts values : List ℕ) (asked : List Asked) (points : List Point) → AreHeld IsNone asked → AllLie no_loops no_loops asked points → AllLie lasts values asked points
+pub all_under : (lasts values : List ℕ) (asked : List Asked) (points : List Point) → AreHeld IsNone asked → AllLie no_loops no_loops asked points
+    → AllLie lasts values asked points
 all_under lasts values [] [] plain all = tt
 all_under lasts values [] (point ∷ points) plain all = absurd all
 all_under lasts values (read ∷ asked) [] plain all = absurd all

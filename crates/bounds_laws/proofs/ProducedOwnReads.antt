@@ -35,26 +35,32 @@ gathered_any : (consumer : ConsumerLoop) (lasts other : List ℕ) (source : Sour
     → gathered (Some consumer) lasts source first second spread asked ≡ gathered (Some consumer) other source first second spread asked
 gathered_any consumer lasts other source first second spread [] = refl
 gathered_any consumer lasts other source first second spread (read ∷ others) =
-    gathered_any consumer lasts other source first second (if same_source read.source source then with_read (Some consumer) lasts first second spread read else spread) others
+    gathered_any consumer lasts other source first second (if same_source read.source source then with_read (Some consumer) lasts first second spread read
+    else spread) others
 
-update_takes : (pipeline : Pipeline) (flags : List Bool) (place : ℕ) (points : List Point) (update : Update) (consumer : Option ConsumerLoop) (values : List ℕ) → Below (values_for consumer values) (lasts_of consumer)
+update_takes : (pipeline : Pipeline) (flags : List Bool) (place : ℕ) (points : List Point) (update : Update) (consumer : Option ConsumerLoop) (values : List ℕ)
+    → Below (values_for consumer values) (lasts_of consumer)
     → AreHeld IsNone (update_asked pipeline.inputs pipeline.funcs flags place unplaced update)
     → AllLie no_loops no_loops (update_asked pipeline.inputs pipeline.funcs flags place unplaced update) points
     → (spread : Spread) → IsSpread (lasts_of consumer) spread
-    → HoldsPart (lasts_of consumer) (values_for consumer values) (not (is_first_in_place update)) (not (is_second_in_place update)) (sources.Func place) (own_update pipeline flags place consumer spread update) points
+    → HoldsPart (lasts_of consumer) (values_for consumer values) (not (is_first_in_place update)) (not (is_second_in_place update)) (sources.Func place)
+    (own_update pipeline flags place consumer spread update) points
 unfolding own_update
 update_takes pipeline flags place points update None values below plain lie spread fits =
-    gathered_part None no_loops no_below (not (is_first_in_place update)) (not (is_second_in_place update)) no_loops no_below (sources.Func place) spread (update_asked pipeline.inputs pipeline.funcs flags place unplaced update) points fits lie
+    gathered_part None no_loops no_below (not (is_first_in_place update)) (not (is_second_in_place update)) no_loops no_below (sources.Func place) spread
+    (update_asked pipeline.inputs pipeline.funcs flags place unplaced update) points fits lie
 update_takes pipeline flags place points update (Some consumer) values below plain lie spread fits =
     let asked = update_asked pipeline.inputs pipeline.funcs flags place unplaced update in
     let first = not (is_first_in_place update) in
     let second = not (is_second_in_place update) in
     subst (λ (s : Spread). HoldsPart consumer.lasts values first second (sources.Func place) s points)
     (gathered_any consumer consumer.lasts no_loops (sources.Func place) first second spread asked)
-    (gathered_part (Some consumer) values below first second consumer.lasts below (sources.Func place) spread asked points fits (all_under consumer.lasts values asked points plain lie))
+    (gathered_part (Some consumer) values below first second consumer.lasts below (sources.Func place) spread asked points fits (all_under consumer.lasts values
+    asked points plain lie))
 
 pub produced_own_reads_lie : ProducedOwnReadsLie
-produced_own_reads_lie pipeline schedule boxes rules is reader func sought func_is there reached computed consumer consumer_is values below at update update_is reads words x y word_x word_y near_x near_y number few =
+produced_own_reads_lie pipeline schedule boxes rules is reader func sought func_is there reached computed consumer consumer_is values below at update update_is
+    reads words x y word_x word_y near_x near_y number few =
     by_found (slice_get boxes.funcs reader) refl
   where
     flags_here : List Bool
@@ -70,27 +76,34 @@ produced_own_reads_lie pipeline schedule boxes rules is reader func sought func_
     second = not (is_second_in_place update)
 
     anywhere_lies : (z : ℕ) → z < 2 ^ 32 → IsNear z → Lies no_loops no_loops unplaced.x z
-    anywhere_lies z word near = plain_lies no_loops no_loops no_below (record { low = origin - 2 ^ 24; high = origin + 2 ^ 24 }) z word (λ l h. (near.low, near.high))
+    anywhere_lies z word near = plain_lies no_loops no_loops no_below (record { low = origin - 2 ^ 24; high = origin + 2 ^ 24 }) z word
+        (λ l h. (near.low, near.high))
 
     asked_lie : AllLie no_loops no_loops (update_asked pipeline.inputs pipeline.funcs flags_here reader unplaced update) points
     asked_lie =
-        update_lies pipeline schedule rules reads words reader func func_is at update update_is unplaced no_loops no_below x y (record { first = anywhere_lies x word_x near_x; second = anywhere_lies y word_y near_y }) near_x near_y number few
+        update_lies pipeline schedule rules reads words reader func func_is at update update_is unplaced no_loops no_below x y
+        (record { first = anywhere_lies x word_x near_x; second = anywhere_lies y word_y near_y }) near_x near_y number few
 
-    none_partly : (all : List Point) → AllByRecursion (λ point. same_source point.source (sources.Func reader) ≡ true → IsPartlyBoxed (values_for consumer values) None first second point.x point.y) all
+    none_partly : (all : List Point) → AllByRecursion (λ point. same_source point.source (sources.Func reader) ≡ true
+        → IsPartlyBoxed (values_for consumer values) None first second point.x point.y) all
     none_partly [] = tt
     none_partly (point ∷ others) = (λ e. tt, none_partly others)
 
     by_found : (answer : Option (Option SourceBox)) → slice_get boxes.funcs reader ≡ answer
-        → AllByRecursion (λ point. same_source point.source (sources.Func reader) ≡ true → IsPartlyBoxed (values_for consumer values) answer first second point.x point.y) points
+        → AllByRecursion (λ point. same_source point.source (sources.Func reader) ≡ true
+        → IsPartlyBoxed (values_for consumer values) answer first second point.x point.y) points
     by_found None e = none_partly points
     by_found (Some other) e =
         let found = gathered_at pipeline schedule boxes is reader sought there reached computed consumer consumer_is other e in
         let begun = wanted pipeline.output reader consumer in
         let own = own_updates pipeline flags_here reader consumer begun found.func.updates in
         let all = read_from pipeline schedule flags_here (reader + 1) consumer (sources.Func reader) found.behind own in
-        let updates_are : slice_get found.func.updates at ≡ Some update = ap (λ (f : Func). slice_get f.updates at) (same_func found.func func (sym found.func_is ∙ func_is)) ∙ update_is in
+        let updates_are : slice_get found.func.updates at ≡ Some update = ap (λ (f : Func). slice_get f.updates at) (same_func found.func func
+        (sym found.func_is ∙ func_is)) ∙ update_is in
         partly_boxed consumer (values_for consumer values) first second (sources.Func reader) all other found.box_is points
-        (part_more (lasts_of consumer) (values_for consumer values) first second (sources.Func reader) own all (λ u v. all_keep consumer values below first second pipeline schedule flags_here (sources.Func reader) (reader + 1) found.behind own u v) points
+        (part_more (lasts_of consumer) (values_for consumer values) first second (sources.Func reader) own all (λ u v. all_keep consumer values below first
+        second pipeline schedule flags_here (sources.Func reader) (reader + 1) found.behind own u v) points
         (own_takes pipeline flags_here reader consumer values below points first second found.func.updates at update updates_are refl refl
-        (λ spread fits. update_takes pipeline flags_here reader points update consumer values below (unplaced_held IsNone none_closed pipeline flags_here rules reader func func_is at update update_is) asked_lie spread fits)
+        (λ spread fits. update_takes pipeline flags_here reader points update consumer values below (unplaced_held IsNone none_closed pipeline flags_here rules
+        reader func func_is at update update_is) asked_lie spread fits)
         begun (wanted_fits pipeline.output reader consumer)))

@@ -35,7 +35,8 @@ use Rattle.bounds_laws.proofs.StandingWithin.{flag_is, called_reached}
 
 -- ---- lists in pairs
 
-pub pair_there : {A B : Type 0} (P : A → B → Type 0) (xs : List A) (ys : List B) (k : ℕ) (x : A) → Pairwise P xs ys → slice_get xs k ≡ Some x → IsSome (slice_get ys k)
+pub pair_there : {A B : Type 0} (P : A → B → Type 0) (xs : List A) (ys : List B) (k : ℕ) (x : A) → Pairwise P xs ys → slice_get xs k ≡ Some x
+    → IsSome (slice_get ys k)
 pair_there P [] ys k x all found = absurd cc
 pair_there P (a ∷ xs) [] k x all found = absurd all
 pair_there P (a ∷ xs) (b ∷ ys) zero x all found = record { value = b; is = refl }
@@ -70,7 +71,8 @@ module _ (pipeline : Pipeline) (schedule : Schedule) where
   pub agree : (place : ℕ) → reached place ≡ true → flags place ≡ put place
   agree place r = agree_by place (slice_get schedule.standings place) refl r
 
-  pub there_by : (place : ℕ) (own : Option Standing) → slice_get schedule.standings place ≡ own → is_reached own ≡ true → IsSome own × ((its : Standing) → own ≡ Some its → IsReached schedule.standings place its)
+  pub there_by : (place : ℕ) (own : Option Standing) → slice_get schedule.standings place ≡ own → is_reached own ≡ true → IsSome own × ((its : Standing)
+      → own ≡ Some its → IsReached schedule.standings place its)
   there_by place None is r = absurd cc
   there_by place (Some own) is r = (
     record { value = own; is = refl },
@@ -93,7 +95,8 @@ module _ (pipeline : Pipeline) (schedule : Schedule) where
     abbrev Kept : (ℕ → Bool) → Bool → Type 0
     Kept f b = Reaches count f → b ≡ true
 
-    source_there : (s : Source) (n : ℕ) → is_read pipeline.inputs pipeline.funcs count s n ≡ true → Reaches count (λ func. is_func func s) → reads_there count s n ≡ true
+    source_there : (s : Source) (n : ℕ) → is_read pipeline.inputs pipeline.funcs count s n ≡ true → Reaches count (λ func. is_func func s)
+        → reads_there count s n ≡ true
     source_there (sources.Input place) n read r = and_from (is_read pipeline.inputs pipeline.funcs count (sources.Input place) n) true read refl
     source_there (sources.Func place) n read r =
         and_from (is_read pipeline.inputs pipeline.funcs count (sources.Func place) n) (reached place) read
@@ -108,15 +111,19 @@ module _ (pipeline : Pipeline) (schedule : Schedule) where
     kept_levels (layer.Remainder a n) kept = λ r. and_from a.right (is_divisor n) (a.is r) kept
     kept_levels (layer.Select c a b) kept = λ r.
         and_from c.right (a.right && b.right) (c.is (λ f l e. r f l (or_left (c.left f || a.left f) (b.left f) (or_left (c.left f) (a.left f) e))))
-        (and_from a.right b.right (a.is (λ f l e. r f l (or_left (c.left f || a.left f) (b.left f) (or_right (c.left f) (a.left f) e)))) (b.is (λ f l e. r f l (or_right (c.left f || a.left f) (b.left f) e))))
+        (and_from a.right b.right (a.is (λ f l e. r f l (or_left (c.left f || a.left f) (b.left f) (or_right (c.left f) (a.left f) e))))
+        (b.is (λ f l e. r f l (or_right (c.left f || a.left f) (b.left f) e))))
     kept_levels (layer.Call1 s a) kept = λ r.
-        and_from a.right (reads_there count s 1) (a.is (λ f l e. r f l (or_right (is_func f s) (a.left f) e))) (source_there s 1 kept (λ f l e. r f l (or_left (is_func f s) (a.left f) e)))
+        and_from a.right (reads_there count s 1) (a.is (λ f l e. r f l (or_right (is_func f s) (a.left f) e)))
+        (source_there s 1 kept (λ f l e. r f l (or_left (is_func f s) (a.left f) e)))
     kept_levels (layer.Call2 s a b) kept = λ r.
         and_from (a.right && b.right) (reads_there count s 2)
-        (and_from a.right b.right (a.is (λ f l e. r f l (or_left (is_func f s || a.left f) (b.left f) (or_right (is_func f s) (a.left f) e)))) (b.is (λ f l e. r f l (or_right (is_func f s || a.left f) (b.left f) e))))
+        (and_from a.right b.right (a.is (λ f l e. r f l (or_left (is_func f s || a.left f) (b.left f) (or_right (is_func f s) (a.left f) e))))
+        (b.is (λ f l e. r f l (or_right (is_func f s || a.left f) (b.left f) e))))
         (source_there s 2 kept (λ f l e. r f l (or_left (is_func f s || a.left f) (b.left f) (or_left (is_func f s) (a.left f) e))))
 
-    keeps_there : (e : Expr) → keeps (is_read pipeline.inputs pipeline.funcs count) has e ≡ true → Reaches count (λ func. calls func e) → keeps (reads_there count) has e ≡ true
+    keeps_there : (e : Expr) → keeps (is_read pipeline.inputs pipeline.funcs count) has e ≡ true → Reaches count (λ func. calls func e)
+        → keeps (reads_there count) has e ≡ true
     unfolding keeps
     keeps_there e kept r =
         kept_folds_related Kept (is_read pipeline.inputs pipeline.funcs count) has callers_at (keeps_at (reads_there count) has) kept_levels e kept
@@ -127,28 +134,35 @@ module _ (pipeline : Pipeline) (schedule : Schedule) where
   module _ (rules : IsWellFormed pipeline) (accepted : IsAccepted pipeline schedule) (reads : Reads) where
     abbrev Claim : ℕ → Type 0
     Claim count =
-        (vars : Variable → Seen) (has : Variable → Bool) (e : Expr) → keeps (is_read pipeline.inputs pipeline.funcs count) has e ≡ true → Reaches count (λ func. calls func e)
-        → through (seeing reads) (inside (seeing reads) flags pipeline.funcs count) vars e ≡ through (seeing reads) (inside (seeing reads) put pipeline.funcs count) vars e
+        (vars : Variable → Seen) (has : Variable → Bool) (e : Expr) → keeps (is_read pipeline.inputs pipeline.funcs count) has e ≡ true
+        → Reaches count (λ func. calls func e)
+        → through (seeing reads) (inside (seeing reads) flags pipeline.funcs count) vars e ≡ through (seeing reads) (inside (seeing reads) put pipeline.funcs
+        count) vars e
 
     -- what a reached Func calls is reached
-    pub reaching : (place : ℕ) → reached place ≡ true → (e : Expr) → ((func : ℕ) → calls func e ≡ true → place_calls pipeline place func ≡ true) → Reaches place (λ func. calls func e)
+    pub reaching : (place : ℕ) → reached place ≡ true → (e : Expr) → ((func : ℕ) → calls func e ≡ true → place_calls pipeline place func ≡ true)
+        → Reaches place (λ func. calls func e)
     reaching place r e called func below is =
         let t = there_by place (slice_get schedule.standings place) refl r in
         let c = called_reached pipeline schedule accepted place t.0.value (t.1 t.0.value t.0.is) func below (called func is) in
         ap is_reached c.there.standing ∙ c.there.reached
 
-    made_same : (place : ℕ) → reached place ≡ true → Claim place → (found : Option Func) → slice_get pipeline.funcs place ≡ found → (a x : Seen) (y : Option Seen)
-        → answered a x y (made_in (seeing reads) (inside (seeing reads) flags pipeline.funcs place) found) ≡ answered a x y (made_in (seeing reads) (inside (seeing reads) put pipeline.funcs place) found)
+    made_same : (place : ℕ) → reached place ≡ true → Claim place → (found : Option Func) → slice_get pipeline.funcs place ≡ found
+        → (a x : Seen) (y : Option Seen)
+        → answered a x y (made_in (seeing reads) (inside (seeing reads) flags pipeline.funcs place) found)
+        ≡ answered a x y (made_in (seeing reads) (inside (seeing reads) put pipeline.funcs place) found)
     unfolding seeing place_calls func_calls
     made_same place r claim None is a x y = refl
     made_same place r claim (Some func) is a x y =
         ap (λ (v : Seen). (seeing reads).call func v x y)
-        (claim (arguments (none (seeing reads)) ((seeing reads).argument x) ((seeing reads).argument (second_of (none (seeing reads)) y))) (is_argument (dimensions func)) func.pure (rules.funcs place func is).pure
+        (claim (arguments (none (seeing reads)) ((seeing reads).argument x) ((seeing reads).argument (second_of (none (seeing reads)) y)))
+        (is_argument (dimensions func)) func.pure (rules.funcs place func is).pure
         (reaching place r func.pure (λ other e. ap (place_calls_of other) is ∙ or_left (calls other func.pure) (updates_call other func.updates) e)))
 
     module _ (count : ℕ) (claims : (place : ℕ) → place < count → Claim place) where
       answered_same : (s : Source) (n : ℕ) → reads_there count s n ≡ true → (a x : Seen) (y : Option Seen)
-          → answered a x y (answer (inside (seeing reads) flags pipeline.funcs count) s) ≡ answered a x y (answer (inside (seeing reads) put pipeline.funcs count) s)
+          → answered a x y (answer (inside (seeing reads) flags pipeline.funcs count) s)
+          ≡ answered a x y (answer (inside (seeing reads) put pipeline.funcs count) s)
       answered_same (sources.Input place) n read a x y = refl
       answered_same (sources.Func place) n read a x y = by_flag (flags place) refl
         where
@@ -158,10 +172,12 @@ module _ (pipeline : Pipeline) (schedule : Schedule) where
           before : place < count
           before = ltb-true place count (and_parts (nat_lt place count) (is_func_of (slice_get pipeline.funcs place) n) parts.0).0
 
-          by_flag : (flag : Bool) → flags place ≡ flag → answered a x y (inside (seeing reads) flags pipeline.funcs count place) ≡ answered a x y (inside (seeing reads) put pipeline.funcs count place)
+          by_flag : (flag : Bool) → flags place ≡ flag → answered a x y (inside (seeing reads) flags pipeline.funcs count place)
+              ≡ answered a x y (inside (seeing reads) put pipeline.funcs count place)
           by_flag false f =
               let g = sym (agree place parts.1) ∙ f in
-              ap (answered a x y) (inside_computed (seeing reads) flags pipeline.funcs count place f) ∙ sym (ap (answered a x y) (inside_computed (seeing reads) put pipeline.funcs count place g))
+              ap (answered a x y) (inside_computed (seeing reads) flags pipeline.funcs count place f)
+              ∙ sym (ap (answered a x y) (inside_computed (seeing reads) put pipeline.funcs count place g))
           by_flag true f =
               let g = sym (agree place parts.1) ∙ f in
               ap (answered a x y) (inside_before (seeing reads) flags pipeline.funcs count place before f)
@@ -172,7 +188,8 @@ module _ (pipeline : Pipeline) (schedule : Schedule) where
       Same a b = a ≡ b
 
       module _ (vars : Variable → Seen) (has : Variable → Bool) where
-        same_levels : KeptLevels Same (reads_there count) has (through_at (seeing reads) (inside (seeing reads) flags pipeline.funcs count) vars) (through_at (seeing reads) (inside (seeing reads) put pipeline.funcs count) vars)
+        same_levels : KeptLevels Same (reads_there count) has (through_at (seeing reads) (inside (seeing reads) flags pipeline.funcs count) vars)
+            (through_at (seeing reads) (inside (seeing reads) put pipeline.funcs count) vars)
         same_levels (layer.Number n) kept = refl
         same_levels (layer.Variable v) kept = refl
         same_levels (layer.Binary op a b) kept =
@@ -180,28 +197,36 @@ module _ (pipeline : Pipeline) (schedule : Schedule) where
         same_levels (layer.Divide a n) kept = ap (λ (x : Seen). (seeing reads).level (layer.Divide x n)) a.is
         same_levels (layer.Remainder a n) kept = ap (λ (x : Seen). (seeing reads).level (layer.Remainder x n)) a.is
         same_levels (layer.Select c a b) kept =
-            ap (λ (x : Seen). (seeing reads).level (layer.Select x a.left b.left)) c.is ∙ ap (λ (x : Seen). (seeing reads).level (layer.Select c.right x b.left)) a.is ∙ ap (λ (x : Seen). (seeing reads).level (layer.Select c.right a.right x)) b.is
+            ap (λ (x : Seen). (seeing reads).level (layer.Select x a.left b.left)) c.is
+            ∙ ap (λ (x : Seen). (seeing reads).level (layer.Select c.right x b.left)) a.is
+            ∙ ap (λ (x : Seen). (seeing reads).level (layer.Select c.right a.right x)) b.is
         same_levels (layer.Call1 s a) kept =
             answered_same s 1 kept ((seeing reads).level (layer.Call1 s a.left)) a.left None
             ∙ ap (λ (x : Seen). answered ((seeing reads).level (layer.Call1 s x)) x None (answer (inside (seeing reads) put pipeline.funcs count) s)) a.is
         same_levels (layer.Call2 s a b) kept =
             answered_same s 2 kept ((seeing reads).level (layer.Call2 s a.left b.left)) a.left (Some b.left)
-            ∙ ap (λ (x : Seen). answered ((seeing reads).level (layer.Call2 s x b.left)) x (Some b.left) (answer (inside (seeing reads) put pipeline.funcs count) s)) a.is
-            ∙ ap (λ (x : Seen). answered ((seeing reads).level (layer.Call2 s a.right x)) a.right (Some x) (answer (inside (seeing reads) put pipeline.funcs count) s)) b.is
+            ∙ ap (λ (x : Seen). answered ((seeing reads).level (layer.Call2 s x b.left)) x (Some b.left) (answer (inside (seeing reads) put pipeline.funcs
+            count) s)) a.is
+            ∙ ap (λ (x : Seen). answered ((seeing reads).level (layer.Call2 s a.right x)) a.right (Some x) (answer (inside (seeing reads) put pipeline.funcs
+            count) s)) b.is
 
         claimed : (e : Expr) → keeps (is_read pipeline.inputs pipeline.funcs count) has e ≡ true → Reaches count (λ func. calls func e)
-            → through (seeing reads) (inside (seeing reads) flags pipeline.funcs count) vars e ≡ through (seeing reads) (inside (seeing reads) put pipeline.funcs count) vars e
+            → through (seeing reads) (inside (seeing reads) flags pipeline.funcs count) vars e
+            ≡ through (seeing reads) (inside (seeing reads) put pipeline.funcs count) vars e
         unfolding through
         claimed e kept r =
-            kept_folds_related Same (reads_there count) has (through_at (seeing reads) (inside (seeing reads) flags pipeline.funcs count) vars) (through_at (seeing reads) (inside (seeing reads) put pipeline.funcs count) vars) same_levels e
+            kept_folds_related Same (reads_there count) has (through_at (seeing reads) (inside (seeing reads) flags pipeline.funcs count) vars)
+            (through_at (seeing reads) (inside (seeing reads) put pipeline.funcs count) vars) same_levels e
             (keeps_there count has e kept r)
 
     claims_below : (most place : ℕ) → place < most → Claim place
     claims_below zero place below = absurd (omega (arith, below))
     claims_below (suc most) place below = claimed place (λ other before. claims_below most other (omega (arith, before, below)))
 
-    pub same_seen : (count : ℕ) (environment : Environment) (has : Variable → Bool) (e : Expr) → keeps (is_read pipeline.inputs pipeline.funcs count) has e ≡ true → Reaches count (λ func. calls func e)
-        → inlined (seeing reads) flags pipeline.funcs count (seen_variable environment) e ≡ inlined (seeing reads) put pipeline.funcs count (seen_variable environment) e
+    pub same_seen : (count : ℕ) (environment : Environment) (has : Variable → Bool) (e : Expr) → keeps (is_read pipeline.inputs pipeline.funcs count) has e
+        ≡ true → Reaches count (λ func. calls func e)
+        → inlined (seeing reads) flags pipeline.funcs count (seen_variable environment) e ≡ inlined (seeing reads) put pipeline.funcs count
+        (seen_variable environment) e
     same_seen count environment has e kept r = claims_below (suc count) count (omega arith) (seen_variable environment) has e kept r
 
   -- ---- a reached Func that is inlined has no updates

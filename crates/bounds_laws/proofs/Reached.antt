@@ -1,5 +1,6 @@
 -- There is a box for a Func exactly where the output reaches it and it isn't inlined.
-use Rattle.std.proofs.Common.{◌≡◌, ℕ, zero, suc, ◌+◌, ◌-◌, ◌<◌, ◌≤◌, Bool, true, false, not, cond, List, [], ◌∷◌, length, Option, Some, None, refl, sym, ap, ◌∙◌, subst, arith, inl, inr, true≢false}
+use Rattle.std.proofs.Common.{◌≡◌, ℕ, zero, suc, ◌+◌, ◌-◌, ◌<◌, ◌≤◌, Bool, true, false, not, cond, List, [], ◌∷◌, length, Option, Some, None, refl, sym, ap}
+use Rattle.std.proofs.Common.{◌∙◌, subst, arith, inl, inr, true≢false}
 use Rattle.std.specs.Prelude.{◌==◌, ◌&&◌, ◌||◌, slice_get, Ok, is_some}
 use Rattle.std.proofs.lemmas.Bool.{and_parts, and_from, or_cases, cases_Bool, cases_eq, eq-eqb, eqb-true, not-true, not_from_false}
 use Rattle.std.proofs.lemmas.Option.{slice_get_within}
@@ -50,13 +51,16 @@ same_length (a ∷ xs) (b ∷ ys) (suc k) x e found = same_length xs ys k x (ome
 
 module _ (pipeline : Pipeline) (schedule : Schedule) (flags : List Bool) where
   count_step : (at : ℕ) (func : Func) (others : List Func) (rest : Option (List (Option SourceBox))) (found : List (Option SourceBox))
-      → ((behind : List (Option SourceBox)) → rest ≡ Some behind → length behind ≡ length others) → with_func pipeline schedule flags at func rest ≡ Some found → length found ≡ suc (length others)
+      → ((behind : List (Option SourceBox)) → rest ≡ Some behind → length behind ≡ length others) → with_func pipeline schedule flags at func rest ≡ Some found
+      → length found ≡ suc (length others)
   count_step at func others None found next e = absurd cc
   count_step at func others (Some behind) found next e =
-      sym (ap length (in_front_is (func_box pipeline schedule flags at func behind (slice_get schedule.standings at)) behind found e)) ∙ ap suc (next behind refl)
+      sym (ap length (in_front_is (func_box pipeline schedule flags at func behind (slice_get schedule.standings at)) behind found e))
+      ∙ ap suc (next behind refl)
 
   -- there are as many boxes as Funcs
-  boxes_count : (at : ℕ) (funcs : List Func) (found : List (Option SourceBox)) → boxes_from pipeline schedule flags at funcs ≡ Some found → length found ≡ length funcs
+  boxes_count : (at : ℕ) (funcs : List Func) (found : List (Option SourceBox)) → boxes_from pipeline schedule flags at funcs ≡ Some found
+      → length found ≡ length funcs
   boxes_count at [] found e = sym (ap length (got [] found e))
   boxes_count at (func ∷ others) found e =
       count_step at func others (boxes_from pipeline schedule flags (at + 1) others) found (λ behind is. boxes_count (at + 1) others behind is) e
@@ -71,7 +75,8 @@ record IsCalledIn (pipeline : Pipeline) (func at : ℕ) (rest : List Standing) :
   called : place_calls pipeline (at + place) func ≡ true
 
 module _ (pipeline : Pipeline) where
-  abbrev next_called : (func at : ℕ) (first : Standing) (others : List Standing) → IsCalledIn pipeline func (at + 1) others → IsCalledIn pipeline func at (first ∷ others)
+  abbrev next_called : (func at : ℕ) (first : Standing) (others : List Standing) → IsCalledIn pipeline func (at + 1) others
+      → IsCalledIn pipeline func at (first ∷ others)
   next_called func at first others c = record {
     place = suc c.place;
     its = c.its;
@@ -89,7 +94,8 @@ module _ (pipeline : Pipeline) where
     | inr r ↦ next_called func at first others (called_in func (at + 1) others r)
   ]
 
-  called_later : (plans : List FuncPlan) (at : ℕ) (rest : List FuncPlan) (k func : ℕ) → at + k ≡ func → (own : Standing) → slice_get (standings_from pipeline plans at rest) k ≡ Some own
+  called_later : (plans : List FuncPlan) (at : ℕ) (rest : List FuncPlan) (k func : ℕ) → at + k ≡ func → (own : Standing)
+      → slice_get (standings_from pipeline plans at rest) k ≡ Some own
       → own.is_reached ≡ true → (func ≡ pipeline.output.func → ⊥) → (c : IsCalledIn pipeline func at (standings_from pipeline plans at rest)) × (k < c.place)
   called_later plans at [] k func place own found reached other = absurd cc
   called_later plans at (first ∷ others) (suc k) func place own found reached other =
@@ -97,183 +103,202 @@ module _ (pipeline : Pipeline) where
       (next_called func at _ (standings_from pipeline plans (at + 1) others) c.0, omega (arith, c.1))
   called_later plans at (first ∷ others) zero func place own found reached other =
       let behind = standings_from pipeline plans (at + 1) others in
-      let raised : standing.is_reached pipeline at behind ≡ true = ap (λ (s : Standing). s.is_reached) (got (standing.standing pipeline plans at first behind) own found) ∙ reached in
+      let raised : standing.is_reached pipeline at behind ≡ true = ap (λ (s : Standing). s.is_reached) (got (standing.standing pipeline plans at first behind)
+      own found) ∙ reached in
       elim (or_cases (at == pipeline.output.func) (is_read pipeline at (at + 1) behind) raised) [
         | inl l ↦ absurd (other (omega (arith, place, eqb-true at pipeline.output.func l)))
-        | inr r ↦ (next_called func at _ behind (called_in func (at + 1) behind (subst (λ (n : ℕ). is_read pipeline n (at + 1) behind ≡ true) (omega (arith, place)) r)), omega arith)
+        | inr r ↦ (
+          next_called func at _ behind (called_in func (at + 1) behind (subst (λ (n : ℕ). is_read pipeline n (at + 1) behind ≡ true)
+              (omega (arith, place)) r)),
+          omega arith,
+        )
       ]
 
 -- ---- boxes
 
-module _ (pipeline : Pipeline) (schedule : Schedule) (boxes : Boxes) (accepted : IsAccepted pipeline schedule) (is : inferred pipeline schedule ≡ Ok boxes) where
-  abbrev flags : List Bool
-  flags = flags_of schedule.standings
+module _ (pipeline : Pipeline) (schedule : Schedule) (boxes : Boxes) (accepted : IsAccepted pipeline schedule) (is : inferred pipeline schedule ≡ Ok boxes)
+  where
+    abbrev flags : List Bool
+    flags = flags_of schedule.standings
 
-  standings_are : schedule.standings ≡ standings_from pipeline schedule.funcs 0 schedule.funcs
-  unfolding standing.standings
-  standings_are = accepted.standings
+    standings_are : schedule.standings ≡ standings_from pipeline schedule.funcs 0 schedule.funcs
+    unfolding standing.standings
+    standings_are = accepted.standings
 
-  boxes_are_many : length boxes.funcs ≡ length pipeline.funcs
-  boxes_are_many = boxes_count pipeline schedule flags 0 pipeline.funcs boxes.funcs (are_found pipeline schedule boxes is).funcs
+    boxes_are_many : length boxes.funcs ≡ length pipeline.funcs
+    boxes_are_many = boxes_count pipeline schedule flags 0 pipeline.funcs boxes.funcs (are_found pipeline schedule boxes is).funcs
 
-  funcs_are_many : length pipeline.funcs ≡ length schedule.standings
-  funcs_are_many = pair_length IsPlan pipeline.funcs schedule.funcs accepted.plans ∙ pair_length IsLegal schedule.funcs schedule.standings accepted.legal
+    funcs_are_many : length pipeline.funcs ≡ length schedule.standings
+    funcs_are_many = pair_length IsPlan pipeline.funcs schedule.funcs accepted.plans ∙ pair_length IsLegal schedule.funcs schedule.standings accepted.legal
 
-  placed_so : (place : ℕ) (own : Standing) → IsReached schedule.standings place own → is_inlined own.place ≡ false → IsComputed place own.place
-  placed_so place own there plain = by_place own.place refl plain legal.somewhere
-    where
-      plan : IsSome (slice_get schedule.funcs place)
-      plan = same_length schedule.standings schedule.funcs place own (sym (pair_length IsLegal schedule.funcs schedule.standings accepted.legal)) there.standing
+    placed_so : (place : ℕ) (own : Standing) → IsReached schedule.standings place own → is_inlined own.place ≡ false → IsComputed place own.place
+    placed_so place own there plain = by_place own.place refl plain legal.somewhere
+      where
+        plan : IsSome (slice_get schedule.funcs place)
+        plan = same_length schedule.standings schedule.funcs place own (sym (pair_length IsLegal schedule.funcs schedule.standings accepted.legal))
+            there.standing
 
-      legal : Legal plan.value own
-      legal = pair_at IsLegal schedule.funcs schedule.standings place plan.value own accepted.legal plan.is there.standing there.reached
+        legal : Legal plan.value own
+        legal = pair_at IsLegal schedule.funcs schedule.standings place plan.value own accepted.legal plan.is there.standing there.reached
 
-      produced : IsProduced pipeline schedule.funcs place own
-      produced = subst (λ (n : ℕ). IsProduced pipeline schedule.funcs n own) (omega arith) (numbered_at (IsProduced pipeline schedule.funcs) 0 schedule.standings accepted.consumers place own there.standing)
+        produced : IsProduced pipeline schedule.funcs place own
+        produced = subst (λ (n : ℕ). IsProduced pipeline schedule.funcs n own) (omega arith) (numbered_at (IsProduced pipeline schedule.funcs) 0
+            schedule.standings accepted.consumers place own there.standing)
 
-      by_place : (p : Place) → own.place ≡ p → is_inlined p ≡ false → is_nowhere p ≡ false → IsComputed place p
-      by_place places.Root e not_inlined somewhere = tt
-      by_place (places.At consumer) e not_inlined somewhere = (produced consumer e).later
-      by_place places.Inlined e not_inlined somewhere = absurd cc
-      by_place places.Nowhere e not_inlined somewhere = absurd cc
+        by_place : (p : Place) → own.place ≡ p → is_inlined p ≡ false → is_nowhere p ≡ false → IsComputed place p
+        by_place places.Root e not_inlined somewhere = tt
+        by_place (places.At consumer) e not_inlined somewhere = (produced consumer e).later
+        by_place places.Inlined e not_inlined somewhere = absurd cc
+        by_place places.Nowhere e not_inlined somewhere = absurd cc
 
-  -- a reached Func that isn't the output has a caller that is reached
-  record HasCaller (func : ℕ) : Type 0 where
-    reader : ℕ
-    later : func < reader
-    its : Standing
-    there : IsReached schedule.standings reader its
-    own : Func
-    own_is : slice_get pipeline.funcs reader ≡ Some own
-    calls : func_calls func own ≡ true
+    -- a reached Func that isn't the output has a caller that is reached
+    record HasCaller (func : ℕ) : Type 0 where
+      reader : ℕ
+      later : func < reader
+      its : Standing
+      there : IsReached schedule.standings reader its
+      own : Func
+      own_is : slice_get pipeline.funcs reader ≡ Some own
+      calls : func_calls func own ≡ true
 
-  has_caller : (func : ℕ) (own : Standing) → IsReached schedule.standings func own → (func ≡ pipeline.output.func → ⊥) → HasCaller func
-  unfolding place_calls
-  has_caller func own there other =
-      let standing_is = sym (ap (λ (l : List Standing). slice_get l func) standings_are) ∙ there.standing in
-      let called = called_later pipeline schedule.funcs 0 schedule.funcs func func (omega arith) own standing_is there.reached other in
-      let c = called.0 in
-      let found : slice_get schedule.standings c.place ≡ Some c.its = ap (λ (l : List Standing). slice_get l c.place) standings_are ∙ c.found in
-      let f = same_length schedule.standings pipeline.funcs c.place c.its (sym funcs_are_many) found in
-      let here : 0 + c.place ≡ c.place = omega arith in
-      record {
-        reader = c.place;
-        later = called.1;
-        its = c.its;
-        there = record { standing = found; reached = c.reached };
-        own = f.value;
-        own_is = f.is;
-        calls = sym (ap (place_calls_of func) f.is) ∙ subst (λ (n : ℕ). place_calls pipeline n func ≡ true) here c.called;
+    has_caller : (func : ℕ) (own : Standing) → IsReached schedule.standings func own → (func ≡ pipeline.output.func → ⊥) → HasCaller func
+    unfolding place_calls
+    has_caller func own there other =
+        let standing_is = sym (ap (λ (l : List Standing). slice_get l func) standings_are) ∙ there.standing in
+        let called = called_later pipeline schedule.funcs 0 schedule.funcs func func (omega arith) own standing_is there.reached other in
+        let c = called.0 in
+        let found : slice_get schedule.standings c.place ≡ Some c.its = ap (λ (l : List Standing). slice_get l c.place) standings_are ∙ c.found in
+        let f = same_length schedule.standings pipeline.funcs c.place c.its (sym funcs_are_many) found in
+        let here : 0 + c.place ≡ c.place = omega arith in
+        record {
+          reader = c.place;
+          later = called.1;
+          its = c.its;
+          there = record { standing = found; reached = c.reached };
+          own = f.value;
+          own_is = f.is;
+          calls = sym (ap (place_calls_of func) f.is) ∙ subst (λ (n : ℕ). place_calls pipeline n func ≡ true) here c.called;
+        }
+
+    -- a Func that is computed asks for it, maybe through inlined ones
+    record IsAsked (sought : ℕ) : Type 0 where
+      reader : ℕ
+      later : sought < reader
+      its : Standing
+      there : IsReached schedule.standings reader its
+      plain : is_inlined its.place ≡ false
+      own : Func
+      own_is : slice_get pipeline.funcs reader ≡ Some own
+      asking : (view : SourceBox) → asks sought (func_asked pipeline.inputs pipeline.funcs flags reader view own) ≡ true
+
+    module _ (sought : ℕ) where
+      abbrev LeadsThere : ℕ → Type 0
+      LeadsThere func = Leads sought pipeline.inputs pipeline.funcs flags func
+
+      -- a caller that is inlined has no updates
+      put_in : (func : ℕ) → LeadsThere func → (c : HasCaller func) → is_inlined c.its.place ≡ true
+          → IsPutIn sought pipeline.inputs pipeline.funcs flags c.reader
+      unfolding func_calls
+      put_in func leads c flag = record {
+        own = c.own;
+        own_is = c.own_is;
+        flag = flag_is schedule.standings c.reader c.its c.there.standing ∙ flag;
+        asked = λ lasts vars. expression_asks sought pipeline.inputs pipeline.funcs flags func c.reader c.later leads lasts vars c.own.pure
+            (pure c.own.updates no_updates c.calls);
       }
+        where
+          no_updates : length c.own.updates ≡ 0
+          no_updates = put_simple pipeline schedule accepted c.reader c.own c.own_is (rw c.there.standing (and_from c.its.is_reached (is_inlined c.its.place)
+              c.there.reached flag))
 
-  -- a Func that is computed asks for it, maybe through inlined ones
-  record IsAsked (sought : ℕ) : Type 0 where
-    reader : ℕ
-    later : sought < reader
-    its : Standing
-    there : IsReached schedule.standings reader its
-    plain : is_inlined its.place ≡ false
-    own : Func
-    own_is : slice_get pipeline.funcs reader ≡ Some own
-    asking : (view : SourceBox) → asks sought (func_asked pipeline.inputs pipeline.funcs flags reader view own) ≡ true
+          pure : (updates : List Update) → length updates ≡ 0 → (calls func c.own.pure || updates_call func updates) ≡ true → calls func c.own.pure ≡ true
+          pure [] e called = elim (or_cases (calls func c.own.pure) false called) [
+            | inl l ↦ l
+            | inr r ↦ absurd cc
+          ]
+          pure (update ∷ others) e called = absurd (omega (arith, e))
 
-  module _ (sought : ℕ) where
-    abbrev LeadsThere : ℕ → Type 0
-    LeadsThere func = Leads sought pipeline.inputs pipeline.funcs flags func
+      not_output : (reader : ℕ) (its : Standing) → IsReached schedule.standings reader its → is_inlined its.place ≡ true → reader ≡ pipeline.output.func → ⊥
+      not_output reader its there flag e =
+          let root = output_standing pipeline schedule.funcs its (sym (ap (λ (n : ℕ). slice_get (standings_from pipeline schedule.funcs 0 schedule.funcs) n) e)
+          ∙ sym (ap (λ (l : List Standing). slice_get l reader) standings_are) ∙ there.standing) in
+          true≢false (sym flag ∙ ap is_inlined root.1)
 
-    -- a caller that is inlined has no updates
-    put_in : (func : ℕ) → LeadsThere func → (c : HasCaller func) → is_inlined c.its.place ≡ true → IsPutIn sought pipeline.inputs pipeline.funcs flags c.reader
-    unfolding func_calls
-    put_in func leads c flag = record {
-      own = c.own;
-      own_is = c.own_is;
-      flag = flag_is schedule.standings c.reader c.its c.there.standing ∙ flag;
-      asked = λ lasts vars. expression_asks sought pipeline.inputs pipeline.funcs flags func c.reader c.later leads lasts vars c.own.pure (pure c.own.updates no_updates c.calls);
-    }
-      where
-        no_updates : length c.own.updates ≡ 0
-        no_updates = put_simple pipeline schedule accepted c.reader c.own c.own_is (rw c.there.standing (and_from c.its.is_reached (is_inlined c.its.place) c.there.reached flag))
+      is_asked : (fuel func : ℕ) → length schedule.standings ≤ func + fuel → sought ≤ func → (own : Standing) → IsReached schedule.standings func own
+          → (func ≡ pipeline.output.func → ⊥)
+          → LeadsThere func → IsAsked sought
+      is_asked zero func le after own there other leads = absurd (omega (arith, le, slice_get_within schedule.standings func own there.standing))
+      is_asked (suc fuel) func le after own there other leads =
+          let c = has_caller func own there other in
+          elim (cases_Bool (is_inlined c.its.place)) [
+            | inl flag ↦
+                is_asked fuel c.reader (omega (arith, le, c.later)) (omega (arith, after, c.later)) c.its c.there (not_output c.reader c.its c.there flag)
+                (inr (put_in func leads c flag))
+            | inr flag ↦ record {
+              reader = c.reader;
+              later = omega (arith, after, c.later);
+              its = c.its;
+              there = c.there;
+              plain = flag;
+              own = c.own;
+              own_is = c.own_is;
+              asking = λ view. func_asks sought pipeline.inputs pipeline.funcs flags func c.reader c.later leads view c.own c.calls;
+            }
+          ]
 
-        pure : (updates : List Update) → length updates ≡ 0 → (calls func c.own.pure || updates_call func updates) ≡ true → calls func c.own.pure ≡ true
-        pure [] e called = elim (or_cases (calls func c.own.pure) false called) [
-          | inl l ↦ l
-          | inr r ↦ absurd cc
-        ]
-        pure (update ∷ others) e called = absurd (omega (arith, e))
+    abbrev IsBoxed : ℕ → Type 0
+    IsBoxed place = (own : SourceBox) × (slice_get boxes.funcs place ≡ Some (Some own))
 
-    not_output : (reader : ℕ) (its : Standing) → IsReached schedule.standings reader its → is_inlined its.place ≡ true → reader ≡ pipeline.output.func → ⊥
-    not_output reader its there flag e =
-        let root = output_standing pipeline schedule.funcs its (sym (ap (λ (n : ℕ). slice_get (standings_from pipeline schedule.funcs 0 schedule.funcs) n) e)
-        ∙ sym (ap (λ (l : List Standing). slice_get l reader) standings_are) ∙ there.standing) in
-        true≢false (sym flag ∙ ap is_inlined root.1)
+    module _ (place : ℕ) (own : Standing) (there : IsReached schedule.standings place own) (plain : is_inlined own.place ≡ false)
+        (behind : (reader : ℕ) (its : Standing) → place < reader → IsReached schedule.standings reader its → is_inlined its.place ≡ false
+        → IsBoxed reader) where
+      consumer : Option ConsumerLoop
+      consumer = consumer_in schedule boxes.funcs own.place
 
-    is_asked : (fuel func : ℕ) → length schedule.standings ≤ func + fuel → sought ≤ func → (own : Standing) → IsReached schedule.standings func own → (func ≡ pipeline.output.func → ⊥)
-        → LeadsThere func → IsAsked sought
-    is_asked zero func le after own there other leads = absurd (omega (arith, le, slice_get_within schedule.standings func own there.standing))
-    is_asked (suc fuel) func le after own there other leads =
-        let c = has_caller func own there other in
-        elim (cases_Bool (is_inlined c.its.place)) [
-          | inl flag ↦
-              is_asked fuel c.reader (omega (arith, le, c.later)) (omega (arith, after, c.later)) c.its c.there (not_output c.reader c.its c.there flag)
-              (inr (put_in func leads c flag))
-          | inr flag ↦ record {
-            reader = c.reader;
-            later = omega (arith, after, c.later);
-            its = c.its;
-            there = c.there;
-            plain = flag;
-            own = c.own;
-            own_is = c.own_is;
-            asking = λ view. func_asks sought pipeline.inputs pipeline.funcs flags func c.reader c.later leads view c.own c.calls;
-          }
-        ]
+      full : (func : Func) (others : List (Option SourceBox)) → ((n : ℕ) → slice_get others n ≡ slice_get boxes.funcs (place + 1 + n))
+          → IsFull (read_from pipeline schedule flags (place + 1) consumer (sources.Func place) others (own_updates pipeline flags place consumer
+          (wanted pipeline.output place consumer) func.updates))
+      full func others later = elim (cases_eq place pipeline.output.func) [
+        | inl e ↦
+            from_full consumer pipeline flags schedule (place + 1) (sources.Func place) others start
+            (updates_full consumer pipeline flags place (wanted pipeline.output place consumer) func.updates
+            (wanted_full pipeline.output consumer (place == pipeline.output.func) (eq-eqb place pipeline.output.func e)))
+        | inr e ↦
+            let a = is_asked place (length schedule.standings) place (omega arith) (omega arith) own there e
+            (inl (refl, flag_is schedule.standings place own there.standing ∙ plain)) in
+            let b = behind a.reader a.its a.later a.there a.plain in
+            from_asked consumer pipeline flags schedule place a.reader a.own a.own_is a.asking b.0 (place + 1) (a.reader - (place + 1)) (omega (arith, a.later))
+            others
+            (later (a.reader - (place + 1)) ∙ ap (λ (n : ℕ). slice_get boxes.funcs n) (omega (arith, a.later)) ∙ b.1) start
+      ]
+        where
+          start : Spread
+          start = own_updates pipeline flags place consumer (wanted pipeline.output place consumer) func.updates
 
-  abbrev IsBoxed : ℕ → Type 0
-  IsBoxed place = (own : SourceBox) × (slice_get boxes.funcs place ≡ Some (Some own))
+      is_boxed : IsBoxed place
+      unfolding consumer
+      is_boxed =
+          let box = same_length schedule.standings boxes.funcs place own (sym (boxes_are_many ∙ funcs_are_many)) there.standing in
+          let at = boxes_at pipeline schedule flags 0 pipeline.funcs boxes.funcs (are_found pipeline schedule boxes is).funcs place box.value box.is in
+          let spread = read_from pipeline schedule flags (place + 1) consumer (sources.Func place) at.behind (own_updates pipeline flags place consumer
+          (wanted pipeline.output place consumer) at.func.updates) in
+          let f = full at.func at.behind at.later in
+          by_box box.value box.is
+          (ap is_some (at.own_is
+          ∙ ap (λ (n : ℕ). func_box pipeline schedule flags n at.func at.behind (slice_get schedule.standings n)) (omega arith)
+          ∙ sought_is pipeline schedule flags boxes.funcs place at.func at.behind at.later own there.standing there.reached (placed_so place own there plain))
+          ∙ full_box (lasts_of consumer) spread.x spread.y f.0 f.1)
+        where
+          by_box : (found : Option SourceBox) → slice_get boxes.funcs place ≡ Some found → is_some found ≡ true → IsBoxed place
+          by_box None e some = absurd cc
+          by_box (Some other) e some = (other, e)
 
-  module _ (place : ℕ) (own : Standing) (there : IsReached schedule.standings place own) (plain : is_inlined own.place ≡ false)
-      (behind : (reader : ℕ) (its : Standing) → place < reader → IsReached schedule.standings reader its → is_inlined its.place ≡ false → IsBoxed reader) where
-    consumer : Option ConsumerLoop
-    consumer = consumer_in schedule boxes.funcs own.place
-
-    full : (func : Func) (others : List (Option SourceBox)) → ((n : ℕ) → slice_get others n ≡ slice_get boxes.funcs (place + 1 + n))
-        → IsFull (read_from pipeline schedule flags (place + 1) consumer (sources.Func place) others (own_updates pipeline flags place consumer (wanted pipeline.output place consumer) func.updates))
-    full func others later = elim (cases_eq place pipeline.output.func) [
-      | inl e ↦
-          from_full consumer pipeline flags schedule (place + 1) (sources.Func place) others start
-          (updates_full consumer pipeline flags place (wanted pipeline.output place consumer) func.updates
-          (wanted_full pipeline.output consumer (place == pipeline.output.func) (eq-eqb place pipeline.output.func e)))
-      | inr e ↦
-          let a = is_asked place (length schedule.standings) place (omega arith) (omega arith) own there e (inl (refl, flag_is schedule.standings place own there.standing ∙ plain)) in
-          let b = behind a.reader a.its a.later a.there a.plain in
-          from_asked consumer pipeline flags schedule place a.reader a.own a.own_is a.asking b.0 (place + 1) (a.reader - (place + 1)) (omega (arith, a.later)) others
-          (later (a.reader - (place + 1)) ∙ ap (λ (n : ℕ). slice_get boxes.funcs n) (omega (arith, a.later)) ∙ b.1) start
-    ]
-      where
-        start : Spread
-        start = own_updates pipeline flags place consumer (wanted pipeline.output place consumer) func.updates
-
-    is_boxed : IsBoxed place
-    unfolding consumer
-    is_boxed =
-        let box = same_length schedule.standings boxes.funcs place own (sym (boxes_are_many ∙ funcs_are_many)) there.standing in
-        let at = boxes_at pipeline schedule flags 0 pipeline.funcs boxes.funcs (are_found pipeline schedule boxes is).funcs place box.value box.is in
-        let spread = read_from pipeline schedule flags (place + 1) consumer (sources.Func place) at.behind (own_updates pipeline flags place consumer (wanted pipeline.output place consumer) at.func.updates) in
-        let f = full at.func at.behind at.later in
-        by_box box.value box.is
-        (ap is_some (at.own_is
-        ∙ ap (λ (n : ℕ). func_box pipeline schedule flags n at.func at.behind (slice_get schedule.standings n)) (omega arith)
-        ∙ sought_is pipeline schedule flags boxes.funcs place at.func at.behind at.later own there.standing there.reached (placed_so place own there plain))
-        ∙ full_box (lasts_of consumer) spread.x spread.y f.0 f.1)
-      where
-        by_box : (found : Option SourceBox) → slice_get boxes.funcs place ≡ Some found → is_some found ≡ true → IsBoxed place
-        by_box None e some = absurd cc
-        by_box (Some other) e some = (other, e)
-
-  boxed : (fuel place : ℕ) → length schedule.standings ≤ place + fuel → (own : Standing) → IsReached schedule.standings place own → is_inlined own.place ≡ false → IsBoxed place
-  boxed zero place le own there plain = absurd (omega (arith, le, slice_get_within schedule.standings place own there.standing))
-  boxed (suc fuel) place le own there plain =
-      is_boxed place own there plain (λ reader its later its_there its_plain. boxed fuel reader (omega (arith, le, later)) its its_there its_plain)
+    boxed : (fuel place : ℕ) → length schedule.standings ≤ place + fuel → (own : Standing) → IsReached schedule.standings place own
+        → is_inlined own.place ≡ false
+        → IsBoxed place
+    boxed zero place le own there plain = absurd (omega (arith, le, slice_get_within schedule.standings place own there.standing))
+    boxed (suc fuel) place le own there plain =
+        is_boxed place own there plain (λ reader its later its_there its_plain. boxed fuel reader (omega (arith, le, later)) its its_there its_plain)
 
 -- ---- the laws
 
@@ -293,20 +318,24 @@ boxes_are_of_reached_funcs pipeline schedule boxes accepted is place =
     not_inlined places.Inlined computed = absurd computed
     not_inlined places.Nowhere computed = absurd computed
 
-    by_box : (found : Option (Option SourceBox)) → slice_get boxes.funcs place ≡ found → is_some (box_in found) ≡ true → is_computed_there (slice_get schedule.standings place) ≡ true
+    by_box : (found : Option (Option SourceBox)) → slice_get boxes.funcs place ≡ found → is_some (box_in found) ≡ true
+        → is_computed_there (slice_get schedule.standings place) ≡ true
     by_box None e some = absurd cc
     by_box (Some None) e some = absurd cc
     by_box (Some (Some own)) e some =
         let h = has_box pipeline schedule boxes accepted is place own e in
         ap is_computed_there h.there.standing
-        ∙ and_from h.standing.is_reached (not (is_inlined h.standing.place)) h.there.reached (not_from_false (is_inlined h.standing.place) (not_inlined h.standing.place h.computed))
+        ∙ and_from h.standing.is_reached (not (is_inlined h.standing.place)) h.there.reached (not_from_false (is_inlined h.standing.place)
+        (not_inlined h.standing.place h.computed))
 
-    by_standing : (found : Option Standing) → slice_get schedule.standings place ≡ found → is_computed_there found ≡ true → is_some (box_in (slice_get boxes.funcs place)) ≡ true
+    by_standing : (found : Option Standing) → slice_get schedule.standings place ≡ found → is_computed_there found ≡ true
+        → is_some (box_in (slice_get boxes.funcs place)) ≡ true
     by_standing None e computed = absurd cc
     by_standing (Some own) e computed =
         let k = and_parts own.is_reached (not (is_inlined own.place)) computed in
         ap (λ (b : Option (Option SourceBox)). is_some (box_in b))
-        (boxed pipeline schedule boxes accepted is (length schedule.standings) place (omega arith) own (record { standing = e; reached = k.0 }) (not-true (is_inlined own.place) k.1)).1
+        (boxed pipeline schedule boxes accepted is (length schedule.standings) place (omega arith) own (record { standing = e; reached = k.0 })
+        (not-true (is_inlined own.place) k.1)).1
 
 -- ---- phases
 
@@ -320,7 +349,8 @@ phases_at other true func own e = refl
 phases_at other false func own e = refl
 
 phases_are : (standings : List Standing) (funcs : List Func) (boxes : List (Option SourceBox)) → length boxes ≡ length funcs
-    → ((place : ℕ) → is_some (box_in (slice_get boxes place)) ≡ is_computed_there (slice_get standings place)) → phases standings funcs boxes ≡ reached_stages standings funcs
+    → ((place : ℕ) → is_some (box_in (slice_get boxes place)) ≡ is_computed_there (slice_get standings place))
+    → phases standings funcs boxes ≡ reached_stages standings funcs
 phases_are [] funcs boxes many are = refl
 phases_are (own ∷ standings) [] boxes many are = refl
 phases_are (own ∷ standings) (func ∷ funcs) [] many are = absurd (omega (arith, many))
@@ -334,5 +364,6 @@ unfolding laid_in
 phases_are_reached_stages pipeline schedule boxes accepted is =
     let found = are_found pipeline schedule boxes is in
     ap (λ (l : Layout). l.phases) found.layout
-    ∙ phases_are schedule.standings pipeline.funcs boxes.funcs (boxes_count pipeline schedule (flags_of schedule.standings) 0 pipeline.funcs boxes.funcs found.funcs)
+    ∙ phases_are schedule.standings pipeline.funcs boxes.funcs (boxes_count pipeline schedule (flags_of schedule.standings) 0 pipeline.funcs boxes.funcs
+    found.funcs)
     (boxes_are_of_reached_funcs pipeline schedule boxes accepted is)

@@ -1,5 +1,6 @@
 -- Wherever a reader's arguments are in its box, loops take them to the view with which a source is asked.
-use Rattle.std.proofs.Common.{◌≡◌, ℕ, zero, suc, ◌+◌, ◌-◌, ◌^◌, ◌<◌, ◌≤◌, Bool, true, false, cond, List, [], ◌∷◌, ◌++◌, length, take, drop, Option, None, Some, refl, sym, ap, subst, ◌∙◌, arith, true≢false}
+use Rattle.std.proofs.Common.{◌≡◌, ℕ, zero, suc, ◌+◌, ◌-◌, ◌^◌, ◌<◌, ◌≤◌, Bool, true, false, cond, List, [], ◌∷◌, ◌++◌, length, take, drop, Option, None, Some}
+use Rattle.std.proofs.Common.{refl, sym, ap, subst, ◌∙◌, arith, true≢false}
 use Rattle.std.specs.Prelude.{◌==◌, nat_lt, slice_get, Ok}
 use Rattle.std.proofs.lemmas.Bool.{and_parts, and_from, lt-ltb, eqb-true}
 use Rattle.halide_pipeline.specs.declared.definitions.Func.{Func}
@@ -145,14 +146,17 @@ has_first func = by_second func.second_argument refl
 one_without : (func : Func) → has_variable variables.SecondArgument (first_loops func None) ≡ false → dimensions func ≡ 1
 one_without func = by_second func.second_argument refl
   where
-    by_second : (second : Option (List ℕ)) → func.second_argument ≡ second → has_variable variables.SecondArgument (first_loops func None) ≡ false → dimensions func ≡ 1
+    by_second : (second : Option (List ℕ)) → func.second_argument ≡ second → has_variable variables.SecondArgument (first_loops func None) ≡ false
+        → dimensions func ≡ 1
     by_second None e none = rw e refl
     by_second (Some name) e none = absurd (true≢false (sym (rw e refl) ∙ none))
 
-module _ (pipeline : Pipeline) (schedule : Schedule) (boxes : Boxes) (rules : IsWellFormed pipeline) (accepted : IsAccepted pipeline schedule) (is : inferred pipeline schedule ≡ Ok boxes) where
+module _ (pipeline : Pipeline) (schedule : Schedule) (boxes : Boxes) (rules : IsWellFormed pipeline) (accepted : IsAccepted pipeline schedule)
+    (is : inferred pipeline schedule ≡ Ok boxes) where
   -- ---- the reader has the loop
 
-  module _ (reader : ℕ) (own : SourceBox) (own_is : slice_get boxes.funcs reader ≡ Some (Some own)) (box : HasBox pipeline schedule boxes reader own) (root : box.standing.place ≡ places.Root) (plan : FuncPlan) (plan_is : slice_get schedule.funcs reader ≡ Some plan)
+  module _ (reader : ℕ) (own : SourceBox) (own_is : slice_get boxes.funcs reader ≡ Some (Some own)) (box : HasBox pipeline schedule boxes reader own)
+      (root : box.standing.place ≡ places.Root) (plan : FuncPlan) (plan_is : slice_get schedule.funcs reader ≡ Some plan)
       (id : LoopId) (values : List ℕ) (below : Below values own.lasts) (x y : ℕ) (lies : LiesIn values own x y) where
     func : Func
     func = box.func
@@ -197,7 +201,8 @@ module _ (pipeline : Pipeline) (schedule : Schedule) (boxes : Boxes) (rules : Is
     far_y : ℕ
     far_y = cond (has_variable variables.SecondArgument (first_loops func None)) (spot y - own.y.low) 0
 
-    slice_by : (test : Bool) → has_variable variables.SecondArgument (first_loops func None) ≡ test → cond test (spot y - own.y.low) 0 < cond test (extent own.y) 1
+    slice_by : (test : Bool) → has_variable variables.SecondArgument (first_loops func None) ≡ test
+        → cond test (spot y - own.y.low) 0 < cond test (extent own.y) 1
     slice_by true e = omega (arith, in_y.low, in_y.high)
     slice_by false e = omega arith
 
@@ -214,7 +219,8 @@ module _ (pipeline : Pipeline) (schedule : Schedule) (boxes : Boxes) (rules : Is
 
     made : IsMadeIn extents stage inside outside (record { x = far_x; y = far_y; number = 0 })
     unfolding inside outside
-    made = visits_are_made extents stage inside outside (parted inner stage.loops) (record { x = far_x; y = far_y; number = 0 }) (visited func extents far_x far_y is_slice stage stage_is fits)
+    made = visits_are_made extents stage inside outside (parted inner stage.loops) (record { x = far_x; y = far_y; number = 0 }) (visited func extents far_x
+        far_y is_slice stage stage_is fits)
 
     at_first : made.whole (ids.Whole variables.FirstArgument) ≡ far_x
     at_first = ap (λ (v : Visit). v.x) made.visit_is
@@ -246,13 +252,16 @@ module _ (pipeline : Pipeline) (schedule : Schedule) (boxes : Boxes) (rules : Is
     taken : Below turns (consumer_loop plan own id).lasts × LiesIn turns (consumer_view stage own (consumer_loop plan own id)) x y
     unfolding turns inside outside inner stage extents
     taken =
-        let h = consumer_arguments_lie func plan own id inside outside made.turns stage_is (parted inner stage.loops) (taken_length inner stage.loops (count_few id stage.loops)) made.are in (
+        let h = consumer_arguments_lie func plan own id inside outside made.turns stage_is (parted inner stage.loops) (taken_length inner stage.loops
+        (count_few id stage.loops)) made.are in (
           h.0,
-          of_all (λ (whole : Values). (a b : ℕ) → IsTakenTo func own whole a b → LiesIn turns (consumer_view stage own (consumer_loop plan own id)) a b) (wholes extents stage.splits inside made.turns) h.1 made.whole made.visited x y
+          of_all (λ (whole : Values). (a b : ℕ) → IsTakenTo func own whole a b → LiesIn turns (consumer_view stage own (consumer_loop plan own id)) a b)
+              (wholes extents stage.splits inside made.turns) h.1 made.whole made.visited x y
               (record { first = gone_x; second = gone_y }),
         )
 
-    pub consumer_sees : (place : Place) → consumer_in schedule boxes.funcs place ≡ Some (consumer_loop plan own id) → Sees pipeline schedule boxes reader own x y place
+    pub consumer_sees : (place : Place) → consumer_in schedule boxes.funcs place ≡ Some (consumer_loop plan own id)
+        → Sees pipeline schedule boxes reader own x y place
     unfolding stage consumer_view_in
     consumer_sees place consumer_is = record {
       consumer = Some (consumer_loop plan own id);
@@ -267,7 +276,8 @@ module _ (pipeline : Pipeline) (schedule : Schedule) (boxes : Boxes) (rules : Is
 
   -- ---- whichever it is
 
-  module _ (reader : ℕ) (own : SourceBox) (own_is : slice_get boxes.funcs reader ≡ Some (Some own)) (values : List ℕ) (below : Below values own.lasts) (x y : ℕ) (lies : LiesIn values own x y) where
+  module _ (reader : ℕ) (own : SourceBox) (own_is : slice_get boxes.funcs reader ≡ Some (Some own)) (values : List ℕ) (below : Below values own.lasts) (x y : ℕ)
+      (lies : LiesIn values own x y) where
     box : HasBox pipeline schedule boxes reader own
     box = has_box pipeline schedule boxes accepted is reader own own_is
 
@@ -289,25 +299,29 @@ module _ (pipeline : Pipeline) (schedule : Schedule) (boxes : Boxes) (rules : Is
     module _ (func : ℕ) (within : IsReadWithin schedule reader func) (at : LoopPlace) (place_is : within.own.place ≡ places.At at) where
       rooted : IsRootReached schedule.standings at.func
       rooted =
-          let h : HasConsumerAtRoot schedule.standings func within.own = subst (λ (n : ℕ). HasConsumerAtRoot schedule.standings n within.own) (here func) (numbered_at (HasConsumerAtRoot schedule.standings) 0 schedule.standings accepted.consumers_at_root func within.own within.there.standing) in
+          let h : HasConsumerAtRoot schedule.standings func within.own = subst (λ (n : ℕ). HasConsumerAtRoot schedule.standings n within.own) (here func)
+          (numbered_at (HasConsumerAtRoot schedule.standings) 0 schedule.standings accepted.consumers_at_root func within.own within.there.standing) in
           h within.there.reached at place_is
 
       produced : IsProduced pipeline schedule.funcs func within.own
-      produced = subst (λ (n : ℕ). IsProduced pipeline schedule.funcs n within.own) (here func) (numbered_at (IsProduced pipeline schedule.funcs) 0 schedule.standings accepted.consumers func within.own within.there.standing)
+      produced = subst (λ (n : ℕ). IsProduced pipeline schedule.funcs n within.own) (here func) (numbered_at (IsProduced pipeline schedule.funcs) 0
+          schedule.standings accepted.consumers func within.own within.there.standing)
 
       by_loop : StandsAt schedule at reader → Sees pipeline schedule boxes reader own x y (places.At at)
       unfolding box consumer_loop_in
       by_loop (HasLoop same) =
           let consumer = produced at place_is in
           let plan_is : slice_get schedule.funcs reader ≡ Some consumer.plan = ap (λ (n : ℕ). slice_get schedule.funcs n) same ∙ consumer.plan_is in
-          let standing_is = one_standing schedule.standings reader box.standing rooted.own box.there.standing (ap (λ (n : ℕ). slice_get schedule.standings n) same ∙ rooted.there.standing) in
+          let standing_is = one_standing schedule.standings reader box.standing rooted.own box.there.standing (ap (λ (n : ℕ). slice_get schedule.standings n)
+          same ∙ rooted.there.standing) in
           let root : box.standing.place ≡ places.Root = ap (λ (s : Standing). s.place) standing_is ∙ rooted.root in
           let box_is : slice_get boxes.funcs at.func ≡ Some (Some own) = ap (λ (n : ℕ). slice_get boxes.funcs n) (sym same) ∙ own_is in
           consumer_sees reader own own_is box root consumer.plan plan_is at.inside values below x y lies (places.At at) (rw (consumer.plan_is, box_is) refl)
       by_loop (IsWithin st other there other_place inside) = by_box (slice_get schedule.funcs at.func) refl (box_in (slice_get boxes.funcs at.func)) refl
         where
           same_func : other.func ≡ at.func
-          same_func = eqb-true other.func at.func (and_parts (other.func == at.func) (comes_first other.inside at.inside (pure_loops_of (slice_get schedule.funcs other.func))) inside).0
+          same_func = eqb-true other.func at.func (and_parts (other.func == at.func) (comes_first other.inside at.inside
+              (pure_loops_of (slice_get schedule.funcs other.func))) inside).0
 
           own_place : box.standing.place ≡ places.At other
           own_place = ap (λ (s : Standing). s.place) (one_standing schedule.standings reader box.standing st box.there.standing there.standing) ∙ other_place
@@ -317,7 +331,8 @@ module _ (pipeline : Pipeline) (schedule : Schedule) (boxes : Boxes) (rules : Is
               box.lasts ∙ ap (λ (p : Place). lasts_of (consumer_in schedule boxes.funcs p)) own_place
               ∙ ap (λ (n : ℕ). lasts_of (consumer_of other (slice_get schedule.funcs n) (box_in (slice_get boxes.funcs n)))) same_func
 
-          by_box : (plan : Option FuncPlan) → slice_get schedule.funcs at.func ≡ plan → (consumer_box : Option SourceBox) → box_in (slice_get boxes.funcs at.func) ≡ consumer_box
+          by_box : (plan : Option FuncPlan) → slice_get schedule.funcs at.func ≡ plan → (consumer_box : Option SourceBox)
+              → box_in (slice_get boxes.funcs at.func) ≡ consumer_box
               → Sees pipeline schedule boxes reader own x y (places.At at)
           by_box None p consumer_box b = root_sees (places.At at) (rw p refl)
           by_box (Some plan) p None b = root_sees (places.At at) (rw (p, b) refl)
@@ -335,7 +350,8 @@ module _ (pipeline : Pipeline) (schedule : Schedule) (boxes : Boxes) (rules : Is
                 lies = settled_boxes_hold consumer.inner own values values below (agree_self consumer.inner values) x y lies;
               }
 
-    pub sees : (func : ℕ) (within : IsReadWithin schedule reader func) → IsComputed func within.own.place → Sees pipeline schedule boxes reader own x y within.own.place
+    pub sees : (func : ℕ) (within : IsReadWithin schedule reader func) → IsComputed func within.own.place
+        → Sees pipeline schedule boxes reader own x y within.own.place
     sees func within computed = by_place within.own.place refl computed
       where
         by_place : (place : Place) → within.own.place ≡ place → IsComputed func place → Sees pipeline schedule boxes reader own x y place

@@ -14,11 +14,13 @@ use Rattle.bounds.proofs.Settling.{less_parts, more_parts}
 abbrev Outer : ℕ → ℕ → Bool
 Outer inner at = not (nat_lt at inner)
 
-more_head : (test : Bool) (m : Multiple) (v w a b : ℕ) → (test ≡ true → v ≡ w) → a ≡ b → (if test then m else zero_multiple).more * v + a ≡ (if test then m else zero_multiple).more * w + b
+more_head : (test : Bool) (m : Multiple) (v w a b : ℕ) → (test ≡ true → v ≡ w) → a ≡ b → (if test then m else zero_multiple).more * v + a
+    ≡ (if test then m else zero_multiple).more * w + b
 more_head true m v w a b same e = let s : m.more * v ≡ m.more * w = ap (λ (n : ℕ). m.more * n) (same refl) in omega (arith, s, e)
 more_head false m v w a b same e = omega (arith, e)
 
-less_head : (test : Bool) (m : Multiple) (v w a b : ℕ) → (test ≡ true → v ≡ w) → a ≡ b → (if test then m else zero_multiple).less * v + a ≡ (if test then m else zero_multiple).less * w + b
+less_head : (test : Bool) (m : Multiple) (v w a b : ℕ) → (test ≡ true → v ≡ w) → a ≡ b → (if test then m else zero_multiple).less * v + a
+    ≡ (if test then m else zero_multiple).less * w + b
 less_head true m v w a b same e = let s : m.less * v ≡ m.less * w = ap (λ (n : ℕ). m.less * n) (same refl) in omega (arith, s, e)
 less_head false m v w a b same e = omega (arith, e)
 
@@ -33,10 +35,12 @@ more_outer inner at left e (m ∷ ms) [] [] agree = refl
 more_outer inner at left e (m ∷ ms) [] (w ∷ others) agree = absurd agree
 more_outer inner at left e (m ∷ ms) (v ∷ values) [] agree = absurd agree
 more_outer inner at zero e (m ∷ ms) (v ∷ values) (w ∷ others) agree =
-    more_head (Outer inner at) m v w (more_sum (chosen (Outer inner) (at + 1) ms) values) (more_sum (chosen (Outer inner) (at + 1) ms) others) (λ outer. agree.0)
+    more_head (Outer inner at) m v w (more_sum (chosen (Outer inner) (at + 1) ms) values) (more_sum (chosen (Outer inner) (at + 1) ms) others)
+    (λ outer. agree.0)
     (more_outer inner (at + 1) zero (omega (arith, e)) ms values others agree.1)
 more_outer inner at (suc left) e (m ∷ ms) (v ∷ values) (w ∷ others) agree =
-    more_head (Outer inner at) m v w (more_sum (chosen (Outer inner) (at + 1) ms) values) (more_sum (chosen (Outer inner) (at + 1) ms) others) (still_inside inner at left v w e)
+    more_head (Outer inner at) m v w (more_sum (chosen (Outer inner) (at + 1) ms) values) (more_sum (chosen (Outer inner) (at + 1) ms) others)
+    (still_inside inner at left v w e)
     (more_outer inner (at + 1) left (omega (arith, e)) ms values others agree)
 
 less_outer : (inner at left : ℕ) → left ≡ inner - at → (base : List Multiple) (values others : List ℕ) → AgreeFrom left values others
@@ -46,10 +50,12 @@ less_outer inner at left e (m ∷ ms) [] [] agree = refl
 less_outer inner at left e (m ∷ ms) [] (w ∷ others) agree = absurd agree
 less_outer inner at left e (m ∷ ms) (v ∷ values) [] agree = absurd agree
 less_outer inner at zero e (m ∷ ms) (v ∷ values) (w ∷ others) agree =
-    less_head (Outer inner at) m v w (less_sum (chosen (Outer inner) (at + 1) ms) values) (less_sum (chosen (Outer inner) (at + 1) ms) others) (λ outer. agree.0)
+    less_head (Outer inner at) m v w (less_sum (chosen (Outer inner) (at + 1) ms) values) (less_sum (chosen (Outer inner) (at + 1) ms) others)
+    (λ outer. agree.0)
     (less_outer inner (at + 1) zero (omega (arith, e)) ms values others agree.1)
 less_outer inner at (suc left) e (m ∷ ms) (v ∷ values) (w ∷ others) agree =
-    less_head (Outer inner at) m v w (less_sum (chosen (Outer inner) (at + 1) ms) values) (less_sum (chosen (Outer inner) (at + 1) ms) others) (still_inside inner at left v w e)
+    less_head (Outer inner at) m v w (less_sum (chosen (Outer inner) (at + 1) ms) values) (less_sum (chosen (Outer inner) (at + 1) ms) others)
+    (still_inside inner at left v w e)
     (less_outer inner (at + 1) left (omega (arith, e)) ms values others agree)
 
 -- ---- one range, one box
@@ -57,8 +63,10 @@ less_outer inner at (suc left) e (m ∷ ms) (v ∷ values) (w ∷ others) agree 
 pub settled_ranges_hold : SettledRangesHold
 settled_ranges_hold inner lasts values others below agree range x lies =
     let base = range.base in
-    let more_same : more_sum (outer_part inner base) values ≡ more_sum (outer_part inner base) others = more_outer inner 0 inner (omega arith) base values others agree in
-    let less_same : less_sum (outer_part inner base) values ≡ less_sum (outer_part inner base) others = less_outer inner 0 inner (omega arith) base values others agree in
+    let more_same : more_sum (outer_part inner base) values ≡ more_sum (outer_part inner base) others = more_outer inner 0 inner (omega arith) base values
+    others agree in
+    let less_same : less_sum (outer_part inner base) values ≡ less_sum (outer_part inner base) others = less_outer inner 0 inner (omega arith) base values
+    others agree in
     let more_in = more_below (inner_part inner base) values lasts below in
     let less_in = less_below (inner_part inner base) values lasts below in
     let more_all = more_parts inner base values in

@@ -37,7 +37,8 @@ folded_is lasts own [] = refl
 folded_is lasts own (range ∷ others) = folded_is lasts (with_range lasts (Some own) range) others
 
 -- the fold of a list that is kept is its least range
-pub folded_least : (lasts : List ℕ) (all : List Range) → AreKept lasts all → (own : Range) → folded lasts None all ≡ Some own → IsNormal own.base × IsLeast lasts all own
+pub folded_least : (lasts : List ℕ) (all : List Range) → AreKept lasts all → (own : Range) → folded lasts None all ≡ Some own
+    → IsNormal own.base × IsLeast lasts all own
 folded_least lasts [] kept own e = absurd cc
 folded_least lasts (range ∷ others) kept own e =
     subst (λ (r : Range). IsNormal r.base × IsLeast lasts (range ∷ others) r) (got (hulls lasts range others) own (sym (folded_is lasts range others) ∙ e))
@@ -53,7 +54,8 @@ pub record Side : Type 0 where
   pub is_in_place : Update → Bool
   pub count : Output → ℕ
   pub none : part no_spread ≡ None
-  pub drawn : (output : Output) (lasts : List ℕ) → part (record { x = Some (pixels_range lasts output.width); y = Some (pixels_range lasts output.height) }) ≡ Some (pixels_range lasts (count output))
+  pub drawn : (output : Output) (lasts : List ℕ) → part (record { x = Some (pixels_range lasts output.width); y = Some (pixels_range lasts output.height) })
+      ≡ Some (pixels_range lasts (count output))
   pub read : (consumer : Option ConsumerLoop) (lasts : List ℕ) (first second : Bool) (spread : Spread) (one : Asked)
       → part (with_read consumer lasts first second spread one) ≡ joined (lasts_of consumer) (counts first second) (part spread) (taken consumer lasts (of one))
   pub all : counts true true ≡ true
@@ -101,7 +103,8 @@ module _ (side : Side) (consumer : Option ConsumerLoop) where
     one_counts : side.counts first second ≡ true → (test : Bool) (spread : Spread) (one : Asked) (rest : List Range)
         → joins (side.part (with_one test spread one)) rest ≡ joins (side.part spread) (cond test (taken consumer lasts (side.of one) ∷ rest) rest)
     one_counts e true spread one rest =
-        ap (λ (own : Option Range). joins own rest) (side.read consumer lasts first second spread one ∙ ap (λ (t : Bool). joined (lasts_of consumer) t (side.part spread) (taken consumer lasts (side.of one))) e)
+        ap (λ (own : Option Range). joins own rest) (side.read consumer lasts first second spread one
+        ∙ ap (λ (t : Bool). joined (lasts_of consumer) t (side.part spread) (taken consumer lasts (side.of one))) e)
     one_counts e false spread one rest = refl
 
     gathered_counts : side.counts first second ≡ true → (spread : Spread) (asked : List Asked)
@@ -112,12 +115,15 @@ module _ (side : Side) (consumer : Option ConsumerLoop) where
         ∙ one_counts e (same_source one.source source) spread one (asked_of side.of consumer lasts source others)
 
     one_stays : side.counts first second ≡ false → (test : Bool) (spread : Spread) (one : Asked) → side.part (with_one test spread one) ≡ side.part spread
-    one_stays e true spread one = side.read consumer lasts first second spread one ∙ ap (λ (t : Bool). joined (lasts_of consumer) t (side.part spread) (taken consumer lasts (side.of one))) e
+    one_stays e true spread one = side.read consumer lasts first second spread one
+        ∙ ap (λ (t : Bool). joined (lasts_of consumer) t (side.part spread) (taken consumer lasts (side.of one))) e
     one_stays e false spread one = refl
 
-    gathered_stays : side.counts first second ≡ false → (spread : Spread) (asked : List Asked) → side.part (gathered consumer lasts source first second spread asked) ≡ side.part spread
+    gathered_stays : side.counts first second ≡ false → (spread : Spread) (asked : List Asked)
+        → side.part (gathered consumer lasts source first second spread asked) ≡ side.part spread
     gathered_stays e spread [] = refl
-    gathered_stays e spread (one ∷ others) = gathered_stays e (with_one (same_source one.source source) spread one) others ∙ one_stays e (same_source one.source source) spread one
+    gathered_stays e spread (one ∷ others) = gathered_stays e (with_one (same_source one.source source) spread one) others
+        ∙ one_stays e (same_source one.source source) spread one
 
   module _ (pipeline : Pipeline) (schedule : Schedule) where
     abbrev flags : List Bool
@@ -125,7 +131,8 @@ module _ (side : Side) (consumer : Option ConsumerLoop) where
 
     -- what is wanted
     wanted_by : (output : Output) (test : Bool)
-        → side.part (cond test (record { x = Some (pixels_range (lasts_of consumer) output.width); y = Some (pixels_range (lasts_of consumer) output.height) }) no_spread)
+        → side.part (cond test (record { x = Some (pixels_range (lasts_of consumer) output.width); y = Some (pixels_range (lasts_of consumer) output.height) })
+        no_spread)
         ≡ joins None (cond test (pixels_range (lasts_of consumer) (side.count output) ∷ []) [])
     wanted_by output true = side.drawn output (lasts_of consumer)
     wanted_by output false = side.none
@@ -136,7 +143,8 @@ module _ (side : Side) (consumer : Option ConsumerLoop) where
     -- what a Func's updates read of it
     update_is : (at : ℕ) (spread : Spread) (update : Update) (test : Bool) → side.is_in_place update ≡ test
         → side.part (own_update pipeline flags at consumer spread update)
-        ≡ joins (side.part spread) (cond test [] (asked_of side.of consumer no_loops (sources.Func at) (update_asked pipeline.inputs pipeline.funcs flags at unplaced update)))
+        ≡ joins (side.part spread) (cond test [] (asked_of side.of consumer no_loops (sources.Func at) (update_asked pipeline.inputs pipeline.funcs flags at
+        unplaced update)))
     unfolding own_update
     update_is at spread update true e =
         gathered_stays no_loops (sources.Func at) (not (is_first_in_place update)) (not (is_second_in_place update)) (side.placed update ∙ ap not e) spread
@@ -146,34 +154,43 @@ module _ (side : Side) (consumer : Option ConsumerLoop) where
         (update_asked pipeline.inputs pipeline.funcs flags at unplaced update)
 
     updates_are : (at : ℕ) (spread : Spread) (updates : List Update)
-        → side.part (own_updates pipeline flags at consumer spread updates) ≡ joins (side.part spread) (asked_by_updates side.of pipeline schedule side.is_in_place at consumer updates)
+        → side.part (own_updates pipeline flags at consumer spread updates) ≡ joins (side.part spread) (asked_by_updates side.of pipeline schedule
+        side.is_in_place at consumer updates)
     updates_are at spread [] = refl
     updates_are at spread (update ∷ others) =
-        let own = cond (side.is_in_place update) [] (asked_of side.of consumer no_loops (sources.Func at) (update_asked pipeline.inputs pipeline.funcs flags at unplaced update)) in
+        let own = cond (side.is_in_place update) [] (asked_of side.of consumer no_loops (sources.Func at) (update_asked pipeline.inputs pipeline.funcs flags at
+        unplaced update)) in
         updates_are at (own_update pipeline flags at consumer spread update) others
-        ∙ ap (λ (o : Option Range). joins o (asked_by_updates side.of pipeline schedule side.is_in_place at consumer others)) (update_is at spread update (side.is_in_place update) refl)
+        ∙ ap (λ (o : Option Range). joins o (asked_by_updates side.of pipeline schedule side.is_in_place at consumer others)) (update_is at spread update
+        (side.is_in_place update) refl)
         ∙ sym (folded_both (lasts_of consumer) (side.part spread) own (asked_by_updates side.of pipeline schedule side.is_in_place at consumer others))
 
     -- what Funcs read of the source
     module _ (source : Source) where
       of_is : (at : ℕ) (view : SourceBox) (spread : Spread) (func : Option Func)
-          → side.part (read_of pipeline flags at view consumer source spread func) ≡ joins (side.part spread) (asked_by_func side.of pipeline schedule at view consumer source func)
+          → side.part (read_of pipeline flags at view consumer source spread func) ≡ joins (side.part spread) (asked_by_func side.of pipeline schedule at view
+          consumer source func)
       unfolding read_in
       of_is at view spread None = refl
-      of_is at view spread (Some func) = gathered_counts view.lasts source true true side.all spread (func_asked pipeline.inputs pipeline.funcs flags at view func)
+      of_is at view spread (Some func) = gathered_counts view.lasts source true true side.all spread (func_asked pipeline.inputs pipeline.funcs flags at view
+          func)
 
       by_is : (at : ℕ) (own : Option SourceBox) (spread : Spread)
-          → side.part (read_by_box pipeline schedule flags at own consumer source spread) ≡ joins (side.part spread) (asked_by side.of pipeline schedule at consumer source own)
+          → side.part (read_by_box pipeline schedule flags at own consumer source spread) ≡ joins (side.part spread) (asked_by side.of pipeline schedule at
+          consumer source own)
       by_is at None spread = refl
-      by_is at (Some own) spread = of_is at (view_of (slice_get schedule.funcs at) (slice_get schedule.standings at) own consumer) spread (slice_get pipeline.funcs at)
+      by_is at (Some own) spread = of_is at (view_of (slice_get schedule.funcs at) (slice_get schedule.standings at) own consumer) spread
+          (slice_get pipeline.funcs at)
 
       pub from_is : (at : ℕ) (boxes : List (Option SourceBox)) (spread : Spread)
-          → side.part (read_from pipeline schedule flags at consumer source boxes spread) ≡ joins (side.part spread) (asked_from side.of pipeline schedule at consumer source boxes)
+          → side.part (read_from pipeline schedule flags at consumer source boxes spread) ≡ joins (side.part spread) (asked_from side.of pipeline schedule at
+          consumer source boxes)
       from_is at [] spread = refl
       from_is at (own ∷ boxes) spread =
           from_is (at + 1) boxes (read_by_box pipeline schedule flags at own consumer source spread)
           ∙ ap (λ (o : Option Range). joins o (asked_from side.of pipeline schedule (at + 1) consumer source boxes)) (by_is at own spread)
-          ∙ sym (folded_both (lasts_of consumer) (side.part spread) (asked_by side.of pipeline schedule at consumer source own) (asked_from side.of pipeline schedule (at + 1) consumer source boxes))
+          ∙ sym (folded_both (lasts_of consumer) (side.part spread) (asked_by side.of pipeline schedule at consumer source own) (asked_from side.of pipeline
+          schedule (at + 1) consumer source boxes))
 
     -- all that is asked of the Func at a place
     abbrev pub all_asked : ℕ → Func → List (Option SourceBox) → List Range
@@ -183,7 +200,8 @@ module _ (side : Side) (consumer : Option ConsumerLoop) where
         ++ asked_from side.of pipeline schedule (place + 1) consumer (sources.Func place) boxes)
 
     pub all_is : (place : ℕ) (func : Func) (boxes : List (Option SourceBox))
-        → side.part (read_from pipeline schedule flags (place + 1) consumer (sources.Func place) boxes (own_updates pipeline flags place consumer (wanted pipeline.output place consumer) func.updates))
+        → side.part (read_from pipeline schedule flags (place + 1) consumer (sources.Func place) boxes (own_updates pipeline flags place consumer
+        (wanted pipeline.output place consumer) func.updates))
         ≡ joins None (all_asked place func boxes)
     all_is place func boxes =
         let begun = wanted pipeline.output place consumer in
@@ -191,6 +209,7 @@ module _ (side : Side) (consumer : Option ConsumerLoop) where
         let updates = asked_by_updates side.of pipeline schedule side.is_in_place place consumer func.updates in
         let later = asked_from side.of pipeline schedule (place + 1) consumer (sources.Func place) boxes in
         from_is (sources.Func place) (place + 1) boxes (own_updates pipeline flags place consumer begun func.updates)
-        ∙ ap (λ (o : Option Range). joins o later) (updates_are place begun func.updates ∙ ap (λ (o : Option Range). joins o updates) (wanted_is pipeline.output place))
+        ∙ ap (λ (o : Option Range). joins o later) (updates_are place begun func.updates
+        ∙ ap (λ (o : Option Range). joins o updates) (wanted_is pipeline.output place))
         ∙ sym (folded_both (lasts_of consumer) (joins None picture) updates later)
         ∙ sym (folded_both (lasts_of consumer) None picture (updates ++ later))

@@ -69,8 +69,10 @@ module _ (lasts values : List ℕ) (range : Range) (x : ℕ) where
   pub lies_of : Lies lasts values range x → lies lasts values range x ≡ true
   lies_of l =
       and_from (nat_lt x (2 ^ 32)) _ (lt-ltb x (2 ^ 32) l.word)
-      (and_from (nat_le (range.low + more_sum range.base values) (spot x + less_sum range.base values)) _ (le-leb (range.low + more_sum range.base values) (spot x + less_sum range.base values) l.low)
-      (and_from (nat_le (spot x + less_sum range.base values) (range.high + more_sum range.base values)) _ (le-leb (spot x + less_sum range.base values) (range.high + more_sum range.base values) l.high)
+      (and_from (nat_le (range.low + more_sum range.base values) (spot x + less_sum range.base values)) _ (le-leb (range.low + more_sum range.base values)
+      (spot x + less_sum range.base values) l.low)
+      (and_from (nat_le (spot x + less_sum range.base values) (range.high + more_sum range.base values)) _ (le-leb (spot x + less_sum range.base values)
+      (range.high + more_sum range.base values) l.high)
       (and_from (nat_le (least + less_sum range.base lasts) range.low) _ (le-leb (least + less_sum range.base lasts) range.low l.fits_low)
       (le-leb (range.high + more_sum range.base lasts) greatest l.fits_high))))
 
@@ -90,7 +92,8 @@ module _ (lasts values : List ℕ) (range : Range) (x : ℕ) where
 
 pub lies_in_of : (own : SourceBox) (values : List ℕ) (x y : ℕ) → LiesIn values own x y → lies_in own x y values ≡ true
 lies_in_of own values x y l =
-    and_from (lies own.lasts values own.x x) (lies own.lasts values own.y y) (lies_of own.lasts values own.x x l.first) (lies_of own.lasts values own.y y l.second)
+    and_from (lies own.lasts values own.x x) (lies own.lasts values own.y y) (lies_of own.lasts values own.x x l.first) (lies_of own.lasts values own.y y
+    l.second)
 
 pub of_lies_in : (own : SourceBox) (values : List ℕ) (x y : ℕ) → lies_in own x y values ≡ true → LiesIn values own x y
 of_lies_in own values x y e =

@@ -1,6 +1,7 @@
 -- A fold of hulls is the least range that holds all of a list, where ranges fit and their bases are normal. Without the latter two ranges
 -- of equal bases could have a hull that doesn't fit, since its base could add and take away more than that of one of them.
-use Rattle.std.proofs.Common.{◌≡◌, ℕ, zero, suc, ◌+◌, ◌-◌, ◌*◌, ◌^◌, ◌≤◌, Bool, true, false, cond, List, [], ◌∷◌, ◌⊎◌, refl, sym, ap, ◌∙◌, subst, arith, inl, inr}
+use Rattle.std.proofs.Common.{◌≡◌, ℕ, zero, suc, ◌+◌, ◌-◌, ◌*◌, ◌^◌, ◌≤◌, Bool, true, false, cond, List, [], ◌∷◌, ◌⊎◌, refl, sym, ap, ◌∙◌, subst, arith, inl}
+use Rattle.std.proofs.Common.{inr}
 use Rattle.std.specs.Prelude.{◌==◌, ◌&&◌, ◌||◌, nat_le, min, max, map}
 use Rattle.std.specs.List.{AllByRecursion, list_all, list_any}
 use Rattle.std.proofs.lemmas.Bool.{and_parts, and_from, or_cases, or_left, or_right, leb-true, le-leb, eqb-true, eq-eqb, cases_lt}
@@ -78,13 +79,15 @@ module _ (own a b : Ends) (all : List Ends) (span : IsSpan own (hull a b ∷ all
       → ((a.low == own.low) || ((b.low == own.low) || list_any (λ (ends : Ends). ends.low == own.low) all)) ≡ true
   lowest_by (inr any) order = or_right (a.low == own.low) _ (or_right (b.low == own.low) _ any)
   lowest_by (inl here) (inl order) = or_left (a.low == own.low) _ (eq-eqb a.low own.low (omega (arith, order, eqb-true (min a.low b.low) own.low here)))
-  lowest_by (inl here) (inr order) = or_right (a.low == own.low) _ (or_left (b.low == own.low) _ (eq-eqb b.low own.low (omega (arith, order, eqb-true (min a.low b.low) own.low here))))
+  lowest_by (inl here) (inr order) = or_right (a.low == own.low) _ (or_left (b.low == own.low)
+      _ (eq-eqb b.low own.low (omega (arith, order, eqb-true (min a.low b.low) own.low here))))
 
   highest_by : ((max a.high b.high == own.high) ≡ true) ⊎ (list_any (λ (ends : Ends). ends.high == own.high) all ≡ true) → (a.high ≤ b.high) ⊎ (b.high ≤ a.high)
       → ((a.high == own.high) || ((b.high == own.high) || list_any (λ (ends : Ends). ends.high == own.high) all)) ≡ true
   highest_by (inr any) order = or_right (a.high == own.high) _ (or_right (b.high == own.high) _ any)
   highest_by (inl here) (inr order) = or_left (a.high == own.high) _ (eq-eqb a.high own.high (omega (arith, order, eqb-true (max a.high b.high) own.high here)))
-  highest_by (inl here) (inl order) = or_right (a.high == own.high) _ (or_left (b.high == own.high) _ (eq-eqb b.high own.high (omega (arith, order, eqb-true (max a.high b.high) own.high here))))
+  highest_by (inl here) (inl order) = or_right (a.high == own.high) _ (or_left (b.high == own.high) _ (eq-eqb b.high own.high
+      (omega (arith, order, eqb-true (max a.high b.high) own.high here))))
 
   either : (n m : ℕ) → (n ≤ m) ⊎ (m ≤ n)
   either n m = elim (cases_lt n m) [ inl l ↦ inl (omega (arith, l)) | inr l ↦ inr l ]
@@ -96,8 +99,10 @@ module _ (own a b : Ends) (all : List Ends) (span : IsSpan own (hull a b ∷ all
       let low = leb-true own.low (min a.low b.low) lower.0 in
       let high = leb-true (max a.high b.high) own.high higher.0 in
       record {
-        none_lower = and_from (nat_le own.low a.low) _ (le-leb own.low a.low (omega (arith, low))) (and_from (nat_le own.low b.low) _ (le-leb own.low b.low (omega (arith, low))) lower.1);
-        none_higher = and_from (nat_le a.high own.high) _ (le-leb a.high own.high (omega (arith, high))) (and_from (nat_le b.high own.high) _ (le-leb b.high own.high (omega (arith, high))) higher.1);
+        none_lower = and_from (nat_le own.low a.low) _ (le-leb own.low a.low (omega (arith, low))) (and_from (nat_le own.low b.low)
+            _ (le-leb own.low b.low (omega (arith, low))) lower.1);
+        none_higher = and_from (nat_le a.high own.high) _ (le-leb a.high own.high (omega (arith, high))) (and_from (nat_le b.high own.high)
+            _ (le-leb b.high own.high (omega (arith, high))) higher.1);
         lowest = lowest_by (or_cases (min a.low b.low == own.low) _ span.lowest) (either a.low b.low);
         highest = highest_by (or_cases (max a.high b.high == own.high) _ span.highest) (either a.high b.high);
       }
@@ -142,7 +147,12 @@ module _ (lasts : List ℕ) where
 
   module _ (a b : Range) (ka : IsKept lasts a) (kb : IsKept lasts b) where
     abbrev both : Bool → CommonBase
-    both test = cond test (record { base = a.base; first = ends_of a; second = ends_of b }) (record { base = no_base; first = widened lasts a; second = widened lasts b })
+    both test = cond test (record { base = a.base; first = ends_of a; second = ends_of b }) (record {
+      base = no_base;
+      first = widened lasts a;
+      second =
+          widened lasts b;
+    })
 
     fitted : (test : Bool) → same_base a.base b.base ≡ test → together lasts hull a b ≡ fit lasts (both test).base (hull (both test).first (both test).second)
     fitted test e = ap (λ (t : Bool). fit lasts (both t).base (hull (both t).first (both t).second)) e
@@ -151,7 +161,8 @@ module _ (lasts : List ℕ) where
     joined_by true e =
         let sums = normal_same a.base b.base lasts (small_fit lasts a ka.fits) (small_fit lasts b kb.fits) ka.normal kb.normal e in
         let is : together lasts hull a b ≡ record { base = a.base; low = min a.low b.low; high = max a.high b.high } =
-        fitted true e ∙ fit_is a.base (hull (ends_of a) (ends_of b)) (omega (arith, ka.fits.low, kb.fits.low, sums.1)) (omega (arith, ka.fits.high, kb.fits.high, sums.0)) in
+        fitted true e ∙ fit_is a.base (hull (ends_of a) (ends_of b)) (omega (arith, ka.fits.low, kb.fits.low, sums.1))
+        (omega (arith, ka.fits.high, kb.fits.high, sums.0)) in
         subst (λ (own : Range). AreJoined a b own) (sym is) (record {
           kept = record { fits = subst (λ (own : Range). IsFit lasts own) is (hull_fits lasts a b ka.fits kb.fits); normal = ka.normal };
           ends = ends_are (min a.low b.low - less_sum a.base lasts) (max a.high b.high + more_sum a.base lasts)
@@ -161,10 +172,16 @@ module _ (lasts : List ℕ) where
           other = λ f. absurd cc;
         })
     joined_by false e =
-        let own : Range = record { base = no_base; low = min (widened lasts a).low (widened lasts b).low; high = max (widened lasts a).high (widened lasts b).high } in
+        let own : Range = record {
+          base = no_base;
+          low = min (widened lasts a).low (widened lasts b).low;
+          high = max (widened lasts a).high
+              (widened lasts b).high;
+        } in
         let is : together lasts hull a b ≡ own =
         fitted false e
-        ∙ fit_is no_base (hull (widened lasts a) (widened lasts b)) (omega (arith, ka.fits.low, kb.fits.low, no_less lasts)) (omega (arith, ka.fits.high, kb.fits.high, no_more lasts)) in
+        ∙ fit_is no_base (hull (widened lasts a) (widened lasts b)) (omega (arith, ka.fits.low, kb.fits.low, no_less lasts))
+        (omega (arith, ka.fits.high, kb.fits.high, no_more lasts)) in
         subst (λ (c : Range). AreJoined a b c) (sym is) (record {
           kept = record { fits = subst (λ (c : Range). IsFit lasts c) is (hull_fits lasts a b ka.fits kb.fits); normal = none_normal };
           ends = plain_widened own refl;
@@ -185,13 +202,15 @@ module _ (lasts : List ℕ) where
   hulls_kept own [] kept all = kept
   hulls_kept own (range ∷ others) kept all = hulls_kept (together lasts hull own range) others (joined_two own range kept all.0).kept all.1
 
-  widened_span : (own : Range) (others : List Range) → IsKept lasts own → AreKept lasts others → IsSpan (widened lasts (hulls own others)) (map (widened lasts) (own ∷ others))
+  widened_span : (own : Range) (others : List Range) → IsKept lasts own → AreKept lasts others
+      → IsSpan (widened lasts (hulls own others)) (map (widened lasts) (own ∷ others))
   widened_span own [] kept all = span_of_one (widened lasts own)
   widened_span own (range ∷ others) kept all =
       let join = joined_two own range kept all.0 in
       let next = together lasts hull own range in
       span_of_two (widened lasts (hulls next others)) (widened lasts own) (widened lasts range) (map (widened lasts) others)
-      (subst (λ (ends : Ends). IsSpan (widened lasts (hulls next others)) (ends ∷ map (widened lasts) others)) join.ends (widened_span next others join.kept all.1))
+      (subst (λ (ends : Ends). IsSpan (widened lasts (hulls next others)) (ends ∷ map (widened lasts) others)) join.ends (widened_span next others join.kept
+      all.1))
 
   abbrev have_base : List Multiple → List Range → Bool
   have_base base all = list_all (λ (range : Range). same_base base range.base) all
@@ -218,14 +237,17 @@ module _ (lasts : List ℕ) where
       let join = joined_two own range kept all.0 in
       still_none (together lasts hull own range) others join.kept all.1 (by_test join (same_base own.base range.base) refl)
     where
-      by_test : AreJoined own range (together lasts hull own range) → (test : Bool) → same_base own.base range.base ≡ test → (together lasts hull own range).base ≡ no_base
+      by_test : AreJoined own range (together lasts hull own range) → (test : Bool) → same_base own.base range.base ≡ test
+          → (together lasts hull own range).base ≡ no_base
       by_test join true e = (join.same e).0 ∙ none
       by_test join false e = join.other e
 
-  more_bases : (own : Range) (others : List Range) → IsKept lasts own → AreKept lasts others → have_base own.base others ≡ false → (hulls own others).base ≡ no_base
+  more_bases : (own : Range) (others : List Range) → IsKept lasts own → AreKept lasts others → have_base own.base others ≡ false
+      → (hulls own others).base ≡ no_base
   more_bases own [] kept all e = absurd cc
   more_bases own (range ∷ others) kept all e =
-      by_test (same_base own.base range.base) refl (λ differ. more_bases (together lasts hull own range) others (joined_two own range kept all.0).kept all.1 differ)
+      by_test (same_base own.base range.base) refl (λ differ. more_bases (together lasts hull own range) others (joined_two own range kept all.0).kept all.1
+      differ)
     where
       join : AreJoined own range (together lasts hull own range)
       join = joined_two own range kept all.0
@@ -235,14 +257,21 @@ module _ (lasts : List ℕ) where
           → (hulls (together lasts hull own range) others).base ≡ no_base
       by_test false f next = still_none (together lasts hull own range) others join.kept all.1 (join.other f)
       by_test true f next =
-          next (subst (λ (base : List Multiple). have_base base others ≡ false) (sym (join.same f).0) (ap (λ (t : Bool). t && have_base own.base others) (sym f) ∙ e))
+          next (subst (λ (base : List Multiple). have_base base others ≡ false) (sym (join.same f).0) (ap (λ (t : Bool). t && have_base own.base others) (sym f)
+          ∙ e))
 
   pub hulls_least : (own : Range) (others : List Range) → IsKept lasts own → AreKept lasts others → IsLeast lasts (own ∷ others) (hulls own others)
   hulls_least own others kept all = record {
     one_base = λ e.
-        let one = one_base own others kept all e in
-        (subst (λ (base : List Multiple). have_base base (own ∷ others) ≡ true) (sym one.0) (and_from (same_base own.base own.base) (have_base own.base others) (same_refl own.base) e), one.1);
+        let one = one_base own others kept all e in (
+          subst (λ (base : List Multiple). have_base base (own ∷ others) ≡ true) (sym one.0) (and_from (same_base own.base own.base) (have_base own.base others)
+              (same_refl own.base) e),
+          one.1,
+        );
     more_bases = λ e.
-        let none = more_bases own others kept all e in
-        (none, subst (λ (ends : Ends). IsSpan ends (map (widened lasts) (own ∷ others))) (plain_widened (hulls own others) none) (widened_span own others kept all));
+        let none = more_bases own others kept all e in (
+          none,
+          subst (λ (ends : Ends). IsSpan ends (map (widened lasts) (own ∷ others))) (plain_widened (hulls own others) none) (widened_span own others kept
+              all),
+        );
   }

@@ -1,5 +1,6 @@
 -- A Func whose line names a loop is computed there where all that read it do so within the loop.
-use Rattle.std.proofs.Common.{◌≡◌, ℕ, zero, suc, ◌+◌, ◌<◌, ◌⊎◌, Bool, true, false, not, cond, List, [], ◌∷◌, Option, Some, None, refl, sym, ap, ◌∙◌, subst, arith, inl, inr}
+use Rattle.std.proofs.Common.{◌≡◌, ℕ, zero, suc, ◌+◌, ◌<◌, ◌⊎◌, Bool, true, false, not, cond, List, [], ◌∷◌, Option, Some, None, refl, sym, ap, ◌∙◌, subst}
+use Rattle.std.proofs.Common.{arith, inl, inr}
 use Rattle.std.specs.Prelude.{◌&&◌, ◌||◌, ◌==◌, drop, slice_get}
 use Rattle.std.proofs.lemmas.Bool.{eqb-true, eq-eqb}
 use Rattle.halide_pipeline.specs.Pipelines.{Pipeline}
@@ -10,7 +11,8 @@ use Rattle.schedule.specs.declared.standings.Place.{Place}
 use Rattle.schedule.specs.declared.standings.Place.TheVariants as places
 use Rattle.schedule.specs.declared.standings.Standing.{Standing}
 use Rattle.schedule.specs.Accepted.{Numbered}
-use Rattle.schedule.specs.Standing.{place_calls, is_called, is_away, is_outside, outside, place_at, place_computed, place_of, standing, standings, standings_from}
+use Rattle.schedule.specs.Standing.{place_calls, is_called, is_away, is_outside, outside, place_at, place_computed, place_of, standing, standings}
+use Rattle.schedule.specs.Standing.{standings_from}
 use Rattle.schedule.specs.Uses.{IsReached, StandsWithin, Consumer, Computed as ComputedThere, Inlined, HasUsesWithin}
 use Rattle.schedule.proofs.Uses.{numbered_at, uses_lie_within}
 use Rattle.bounds_laws.specs.StandingWhere.{HasReadersWithin, IsSaidAt, StandsWhereReadersDo, StandsNowhereElse}
@@ -44,26 +46,32 @@ module _ (pipeline : Pipeline) (plans : List FuncPlan) (all : List Standing) (lo
 
   -- Where each that is reached and calls a Func isn't flagged, no flagged one calls it.
   none_calls : (func at : ℕ) (rest : List Standing) → From at rest
-      → ((reader : ℕ) (its : Standing) (behind : List Standing) → at < suc reader → IsReached all reader its → place_calls pipeline reader func ≡ true → From (reader + 1) behind
+      → ((reader : ℕ) (its : Standing) (behind : List Standing) → at < suc reader → IsReached all reader its → place_calls pipeline reader func ≡ true
+      → From (reader + 1) behind
       → is_outside pipeline plans loop reader its (outside pipeline plans loop (reader + 1) behind) ≡ false)
       → is_called pipeline func at (outside pipeline plans loop at rest) ≡ false
   none_calls func at [] from each = refl
   none_calls func at (first ∷ others) from each =
       let here : at ≡ at + 0 = omega arith in
-      none_either (is_outside pipeline plans loop at first (outside pipeline plans loop (at + 1) others) && place_calls pipeline at func) (is_called pipeline func (at + 1) (outside pipeline plans loop (at + 1) others))
+      none_either (is_outside pipeline plans loop at first (outside pipeline plans loop (at + 1) others) && place_calls pipeline at func)
+      (is_called pipeline func (at + 1) (outside pipeline plans loop (at + 1) others))
       (by_reached first.is_reached func at first (outside pipeline plans loop (at + 1) others) refl
-      (λ reached calls. each at first others (omega arith) (record { standing = ap (λ (n : ℕ). slice_get all n) here ∙ from 0; reached = reached }) calls (from_next at first others from)))
+      (λ reached calls. each at first others (omega arith) (record { standing = ap (λ (n : ℕ). slice_get all n) here ∙ from 0; reached = reached }) calls
+      (from_next at first others from)))
       (none_calls func (at + 1) others (from_next at first others from) (λ reader its behind later. each reader its behind (omega (arith, later))))
 
   away_by : (is_consumer reached : Bool) (at : ℕ) (own : Standing) (flags : List Bool) → is_away pipeline plans loop at own.place flags ≡ false
       → (reached && (not is_consumer && is_away pipeline plans loop at own.place flags)) ≡ false
   away_by is_consumer reached at own flags e =
-      none_both reached (not is_consumer && is_away pipeline plans loop at own.place flags) (none_both (not is_consumer) (is_away pipeline plans loop at own.place flags) e)
+      none_both reached (not is_consumer && is_away pipeline plans loop at own.place flags) (none_both (not is_consumer) (is_away pipeline plans loop at
+      own.place flags) e)
 
-  lowered : (reader : ℕ) → StandsWithin pipeline plans all loop reader → (its : Standing) → IsReached all reader its → (behind : List Standing) → From (reader + 1) behind
+  lowered : (reader : ℕ) → StandsWithin pipeline plans all loop reader → (its : Standing) → IsReached all reader its → (behind : List Standing)
+      → From (reader + 1) behind
       → is_outside pipeline plans loop reader its (outside pipeline plans loop (reader + 1) behind) ≡ false
   lowered reader Consumer its there behind from =
-      none_both its.is_reached (not (loop.func == loop.func) && is_away pipeline plans loop loop.func its.place (outside pipeline plans loop (loop.func + 1) behind)) (rw (eq-eqb loop.func loop.func refl) refl)
+      none_both its.is_reached (not (loop.func == loop.func) && is_away pipeline plans loop loop.func its.place (outside pipeline plans loop (loop.func + 1)
+      behind)) (rw (eq-eqb loop.func loop.func refl) refl)
   lowered reader (ComputedThere _ own at own_there place_is within) its there behind from =
       let same : own ≡ its = one_standing all reader own its own_there.standing there.standing in
       let its_place : its.place ≡ places.At at = ap (λ (s : Standing). s.place) (sym same) ∙ place_is in
@@ -74,7 +82,8 @@ module _ (pipeline : Pipeline) (plans : List FuncPlan) (all : List Standing) (lo
       away_by (reader == loop.func) its.is_reached reader its (outside pipeline plans loop (reader + 1) behind)
       (ap (λ (p : Place). is_away pipeline plans loop reader p (outside pipeline plans loop (reader + 1) behind)) its_place
       ∙ none_calls reader (reader + 1) behind from
-      (λ caller its_own others later caller_there calls. lowered caller (callers caller its_own (omega (arith, later)) caller_there calls) its_own caller_there others))
+      (λ caller its_own others later caller_there calls. lowered caller (callers caller its_own (omega (arith, later)) caller_there calls) its_own caller_there
+      others))
 
   -- ---- the standing of a Func, over those behind it
 
@@ -99,17 +108,22 @@ module _ (pipeline : Pipeline) (plans : List FuncPlan) (all : List Standing) (lo
   standing_at at (first ∷ others) from (suc k) plan own plan_is found =
       let behind = standings_from pipeline plans (at + 1) others in
       let next : at + 1 + k ≡ at + suc k = omega arith in
-      subst (λ (n : ℕ). StandingAt n plan own) next (standing_at (at + 1) others (from_next at (standing pipeline plans at first behind) behind from) k plan own plan_is found)
+      subst (λ (n : ℕ). StandingAt n plan own) next (standing_at (at + 1) others (from_next at (standing pipeline plans at first behind) behind from) k plan own
+      plan_is found)
 
 -- ---- where a line puts a Func
 
-said_placed : (pipeline : Pipeline) (plans : List FuncPlan) (at : ℕ) (loop : Option LoopPlace) (said : IsSaidAt pipeline plans at loop) (behind : List Standing) (is_output : Bool)
-    → (at == pipeline.output.func) ≡ is_output → cond is_output places.Root (place_of pipeline plans at behind said.plan.compute) ≡ place_at pipeline plans at behind loop
+said_placed : (pipeline : Pipeline) (plans : List FuncPlan) (at : ℕ) (loop : Option LoopPlace) (said : IsSaidAt pipeline plans at loop) (behind : List Standing)
+    (is_output : Bool)
+    → (at == pipeline.output.func) ≡ is_output → cond is_output places.Root (place_of pipeline plans at behind said.plan.compute)
+    ≡ place_at pipeline plans at behind loop
 said_placed pipeline plans at loop said behind true e = absurd (said.no_output (eqb-true at pipeline.output.func e))
 said_placed pipeline plans at loop said behind false e =
-    ap (place_of pipeline plans at behind) said.line_is ∙ ap (place_computed pipeline plans at behind) said.at_loop ∙ ap (place_at pipeline plans at behind) said.loop_is
+    ap (place_of pipeline plans at behind) said.line_is ∙ ap (place_computed pipeline plans at behind) said.at_loop
+    ∙ ap (place_at pipeline plans at behind) said.loop_is
 
-there_or_nowhere : (loop : LoopPlace) (away : Bool) (place : Place) → place ≡ cond away places.Nowhere (places.At loop) → (place ≡ places.At loop) ⊎ (place ≡ places.Nowhere)
+there_or_nowhere : (loop : LoopPlace) (away : Bool) (place : Place) → place ≡ cond away places.Nowhere (places.At loop)
+    → (place ≡ places.At loop) ⊎ (place ≡ places.Nowhere)
 there_or_nowhere loop true place e = inr e
 there_or_nowhere loop false place e = inl e
 
@@ -124,11 +138,13 @@ module _ (pipeline : Pipeline) (plans : List FuncPlan) (at : ℕ) (own : Standin
   found_so : slice_get (standings_from pipeline plans 0 plans) at ≡ Some own
   found_so = ap (λ (l : List Standing). slice_get l at) (sym are) ∙ found
 
-  pub stands : (loop wanted : LoopPlace) (plan : FuncPlan) → slice_get plans at ≡ Some plan → StandingAt pipeline plans (standings pipeline plans) wanted at plan own
+  pub stands : (loop wanted : LoopPlace) (plan : FuncPlan) → slice_get plans at ≡ Some plan
+      → StandingAt pipeline plans (standings pipeline plans) wanted at plan own
   stands loop wanted plan plan_is =
       subst (λ (l : List Standing). StandingAt pipeline plans l wanted at plan own) (sym are)
       (subst (λ (n : ℕ). StandingAt pipeline plans (standings_from pipeline plans 0 plans) wanted n plan own) (here at)
-      (standing_at pipeline plans (standings_from pipeline plans 0 plans) wanted 0 plans (λ k. ap (λ (n : ℕ). slice_get (standings_from pipeline plans 0 plans) n) (here k)) at plan own plan_is found_so))
+      (standing_at pipeline plans (standings_from pipeline plans 0 plans) wanted 0 plans (λ k. ap (λ (n : ℕ). slice_get (standings_from pipeline plans 0 plans)
+      n) (here k)) at plan own plan_is found_so))
 
   pub place_is : (loop : Option LoopPlace) (wanted : LoopPlace) (said : IsSaidAt pipeline plans at loop)
       → own.place ≡ place_at pipeline plans at (stands wanted wanted said.plan said.plan_is).behind loop
@@ -144,12 +160,14 @@ module _ (pipeline : Pipeline) (plans : List FuncPlan) (at : ℕ) (own : Standin
 
 pub stands_where_readers_do : StandsWhereReadersDo
 stands_where_readers_do pipeline plans at loop own said found = record {
-  there_or_nowhere = there_or_nowhere loop (is_called pipeline at (at + 1) (outside pipeline plans loop (at + 1) own_at.behind)) own.place (place_is pipeline plans at own found (Some loop) loop said);
+  there_or_nowhere = there_or_nowhere loop (is_called pipeline at (at + 1) (outside pipeline plans loop (at + 1) own_at.behind)) own.place
+      (place_is pipeline plans at own found (Some loop) loop said);
   only_if = within pipeline plans at own found loop;
   where_so = λ readers.
       place_is pipeline plans at own found (Some loop) loop said
       ∙ rw (none_calls pipeline plans (standings pipeline plans) loop at (at + 1) own_at.behind own_at.from
-      (λ reader its behind later reader_there calls. lowered pipeline plans (standings pipeline plans) loop reader (readers reader its (omega (arith, later)) reader_there calls) its reader_there behind)) refl;
+      (λ reader its behind later reader_there calls. lowered pipeline plans (standings pipeline plans) loop reader (readers reader its (omega (arith, later))
+      reader_there calls) its reader_there behind)) refl;
 }
   where
     own_at : StandingAt pipeline plans (standings pipeline plans) loop at said.plan own

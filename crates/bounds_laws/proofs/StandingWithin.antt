@@ -19,7 +19,8 @@ use Rattle.bounds_laws.specs.Callers.{ReadsThrough, Calls, Through, StandsAt, Ha
 use Rattle.bounds_laws.specs.Laws.{IsComputed}
 
 -- a flag that is set is that of an inlined Func
-pub flag_is : (standings : List Standing) (place : ℕ) (own : Standing) → slice_get standings place ≡ Some own → flagged (flags_of standings) place ≡ is_inlined own.place
+pub flag_is : (standings : List Standing) (place : ℕ) (own : Standing) → slice_get standings place ≡ Some own
+    → flagged (flags_of standings) place ≡ is_inlined own.place
 flag_is [] place own found = absurd cc
 flag_is (first ∷ others) zero own found = let first_is : first ≡ own = cc in ap (λ (s : Standing). is_inlined s.place) first_is
 flag_is (first ∷ others) (suc place) own found = flag_is others place own found
@@ -32,7 +33,8 @@ module _ (pipeline : Pipeline) (schedule : Schedule) (accepted : IsAccepted pipe
   unfolding standing.standings
   standings_are = accepted.standings
 
-  pub called_reached : (reader : ℕ) (its : Standing) → IsReached schedule.standings reader its → (func : ℕ) → func < reader → place_calls pipeline reader func ≡ true → IsThereReached schedule.standings func
+  pub called_reached : (reader : ℕ) (its : Standing) → IsReached schedule.standings reader its → (func : ℕ) → func < reader
+      → place_calls pipeline reader func ≡ true → IsThereReached schedule.standings func
   called_reached reader its there func before called =
       subst (λ (l : List Standing). IsThereReached l func) (sym standings_are)
       (called_is_reached pipeline schedule.funcs reader its (subst (λ (l : List Standing). IsReached l reader its) standings_are there) func before called)
@@ -41,50 +43,60 @@ module _ (pipeline : Pipeline) (schedule : Schedule) (accepted : IsAccepted pipe
     pub reached : IsThereReached schedule.standings func
     pub before : func < reader
 
-  pub read_reached : (reader : ℕ) (its : Standing) → IsReached schedule.standings reader its → (func : ℕ) → ReadsThrough pipeline schedule.standings reader func → IsReadBefore reader func
+  pub read_reached : (reader : ℕ) (its : Standing) → IsReached schedule.standings reader its → (func : ℕ) → ReadsThrough pipeline schedule.standings reader func
+      → IsReadBefore reader func
   read_reached reader its there func (Calls _ _ before called) = record { reached = called_reached reader its there func before called; before = before }
   read_reached reader its there func (Through _ between _ before flag called through) =
       let b = called_reached reader its there between before called in
       let r = read_reached between b.own b.there func through in
       record { reached = r.reached; before = omega (arith, r.before, before) }
 
-  module _ (func : ℕ) (own : Standing) (own_there : IsReached schedule.standings func own) (consumer : LoopPlace) (place_is : own.place ≡ places.At consumer) where
-    here : (n : ℕ) → 0 + n ≡ n
-    here n = omega arith
+  module _ (func : ℕ) (own : Standing) (own_there : IsReached schedule.standings func own) (consumer : LoopPlace) (place_is : own.place ≡ places.At consumer)
+    where
+      here : (n : ℕ) → 0 + n ≡ n
+      here n = omega arith
 
-    uses : HasUsesWithin pipeline schedule.funcs schedule.standings func own
-    uses = subst (λ (n : ℕ). HasUsesWithin pipeline schedule.funcs schedule.standings n own) (here func) (numbered_at (HasUsesWithin pipeline schedule.funcs schedule.standings) 0 schedule.standings accepted.uses func own own_there.standing)
+      uses : HasUsesWithin pipeline schedule.funcs schedule.standings func own
+      uses = subst (λ (n : ℕ). HasUsesWithin pipeline schedule.funcs schedule.standings n own) (here func) (numbered_at (HasUsesWithin pipeline schedule.funcs
+          schedule.standings) 0 schedule.standings accepted.uses func own own_there.standing)
 
-    rooted : IsRootReached schedule.standings consumer.func
-    rooted =
-        let h : HasConsumerAtRoot schedule.standings func own = subst (λ (n : ℕ). HasConsumerAtRoot schedule.standings n own) (here func) (numbered_at (HasConsumerAtRoot schedule.standings) 0 schedule.standings accepted.consumers_at_root func own own_there.standing) in
-        h own_there.reached consumer place_is
+      rooted : IsRootReached schedule.standings consumer.func
+      rooted =
+          let h : HasConsumerAtRoot schedule.standings func own = subst (λ (n : ℕ). HasConsumerAtRoot schedule.standings n own) (here func)
+          (numbered_at (HasConsumerAtRoot schedule.standings) 0 schedule.standings accepted.consumers_at_root func own own_there.standing) in
+          h own_there.reached consumer place_is
 
-    -- an inlined Func within the loop has its readers there
-    passed_on : (between : ℕ) (its : Standing) → IsReached schedule.standings between its → is_inlined its.place ≡ true → StandsWithin pipeline schedule.funcs schedule.standings consumer between
-        → (reader : ℕ) (reading : Standing) → between < reader → IsReached schedule.standings reader reading → place_calls pipeline reader between ≡ true → StandsWithin pipeline schedule.funcs schedule.standings consumer reader
-    passed_on between its there inlined Consumer reader reading before reading_there called =
-        let same = one_standing schedule.standings consumer.func its rooted.own there.standing rooted.there.standing in
-        let wrong : is_inlined places.Root ≡ true = ap is_inlined (sym (ap (λ (s : Standing). s.place) same ∙ rooted.root)) ∙ inlined in
-        absurd cc
-    passed_on between its there inlined (Computed _ other at other_there other_place within) reader reading before reading_there called =
-        let same = one_standing schedule.standings between its other there.standing other_there.standing in
-        let wrong : is_inlined (places.At at) ≡ true = ap is_inlined (sym (ap (λ (s : Standing). s.place) same ∙ other_place)) ∙ inlined in
-        absurd cc
-    passed_on between its there inlined (Inlined _ other other_there other_place callers) reader reading before reading_there called = callers reader reading before reading_there called
+      -- an inlined Func within the loop has its readers there
+      passed_on : (between : ℕ) (its : Standing) → IsReached schedule.standings between its → is_inlined its.place ≡ true
+          → StandsWithin pipeline schedule.funcs schedule.standings consumer between
+          → (reader : ℕ) (reading : Standing) → between < reader → IsReached schedule.standings reader reading → place_calls pipeline reader between ≡ true
+          → StandsWithin pipeline schedule.funcs schedule.standings consumer reader
+      passed_on between its there inlined Consumer reader reading before reading_there called =
+          let same = one_standing schedule.standings consumer.func its rooted.own there.standing rooted.there.standing in
+          let wrong : is_inlined places.Root ≡ true = ap is_inlined (sym (ap (λ (s : Standing). s.place) same ∙ rooted.root)) ∙ inlined in
+          absurd cc
+      passed_on between its there inlined (Computed _ other at other_there other_place within) reader reading before reading_there called =
+          let same = one_standing schedule.standings between its other there.standing other_there.standing in
+          let wrong : is_inlined (places.At at) ≡ true = ap is_inlined (sym (ap (λ (s : Standing). s.place) same ∙ other_place)) ∙ inlined in
+          absurd cc
+      passed_on between its there inlined (Inlined _ other other_there other_place callers) reader reading before reading_there called =
+          callers reader reading before reading_there called
 
-    within : (reader : ℕ) (its : Standing) → IsReached schedule.standings reader its → ReadsThrough pipeline schedule.standings reader func → StandsWithin pipeline schedule.funcs schedule.standings consumer reader
-    within reader its there (Calls _ _ before called) = uses consumer place_is reader its before there called
-    within reader its there (Through _ between _ before flag called through) =
-        let b = called_reached reader its there between before called in
-        passed_on between b.own b.there (sym (flag_is schedule.standings between b.own b.there.standing) ∙ flag) (within between b.own b.there through) reader its before there called
+      within : (reader : ℕ) (its : Standing) → IsReached schedule.standings reader its → ReadsThrough pipeline schedule.standings reader func
+          → StandsWithin pipeline schedule.funcs schedule.standings consumer reader
+      within reader its there (Calls _ _ before called) = uses consumer place_is reader its before there called
+      within reader its there (Through _ between _ before flag called through) =
+          let b = called_reached reader its there between before called in
+          passed_on between b.own b.there (sym (flag_is schedule.standings between b.own b.there.standing) ∙ flag) (within between b.own b.there through) reader
+          its before there called
 
-    stands : (reader : ℕ) (its : Standing) → IsReached schedule.standings reader its → IsComputed reader its.place → StandsWithin pipeline schedule.funcs schedule.standings consumer reader → StandsAt schedule consumer reader
-    stands reader its there computed Consumer = HasLoop refl
-    stands reader its there computed (Computed _ other at other_there other_place inside) = IsWithin other at other_there other_place inside
-    stands reader its there computed (Inlined _ other other_there other_place callers) =
-        let same = one_standing schedule.standings reader its other there.standing other_there.standing in
-        absurd (subst (λ (p : Place). IsComputed reader p) (ap (λ (s : Standing). s.place) same ∙ other_place) computed)
+      stands : (reader : ℕ) (its : Standing) → IsReached schedule.standings reader its → IsComputed reader its.place
+          → StandsWithin pipeline schedule.funcs schedule.standings consumer reader → StandsAt schedule consumer reader
+      stands reader its there computed Consumer = HasLoop refl
+      stands reader its there computed (Computed _ other at other_there other_place inside) = IsWithin other at other_there other_place inside
+      stands reader its there computed (Inlined _ other other_there other_place callers) =
+          let same = one_standing schedule.standings reader its other there.standing other_there.standing in
+          absurd (subst (λ (p : Place). IsComputed reader p) (ap (λ (s : Standing). s.place) same ∙ other_place) computed)
 
 pub readers_stand_within : ReadersStandWithin
 readers_stand_within pipeline schedule accepted reader its there computed func through =

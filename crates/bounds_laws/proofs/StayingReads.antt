@@ -1,5 +1,6 @@
 -- In dimensions in place an update reads its own Func at the argument itself.
-use Rattle.std.proofs.Common.{◌≡◌, ℕ, zero, suc, ◌<◌, ◌≤◌, Bool, true, false, not, cond, List, [], ◌∷◌, ◌++◌, Option, None, Some, ◌==◌, refl, sym, ap, subst, ◌∙◌, arith}
+use Rattle.std.proofs.Common.{◌≡◌, ℕ, zero, suc, ◌<◌, ◌≤◌, Bool, true, false, not, cond, List, [], ◌∷◌, ◌++◌, Option, None, Some, ◌==◌, refl, sym, ap, subst}
+use Rattle.std.proofs.Common.{◌∙◌, arith}
 use Rattle.std.specs.Prelude.{◌&&◌, ◌||◌, nat_lt, slice_get}
 use Rattle.std.specs.List.{AllByRecursion}
 use Rattle.std.proofs.lemmas.Bool.{and_parts, ltb-true, eqb-true, eq-eqb}
@@ -13,7 +14,8 @@ use Rattle.halide_pipeline.specs.declared.expressions.Source.{Source}
 use Rattle.halide_pipeline.specs.declared.expressions.Source.TheVariants as sources
 use Rattle.halide_pipeline.specs.declared.expressions.Variable.{Variable}
 use Rattle.halide_pipeline.specs.declared.expressions.Variable.TheVariants as variables
-use Rattle.halide_pipeline.specs.WellFormed.{dimensions, is_first_in_place, is_second, is_second_in_place, IsWellFormed, IsUpdate, Placed, placed_at, calls_in_place, is_own_call, is_alone, is_argument, is_update_variable, is_func_of, is_read, keeps, keeps_index}
+use Rattle.halide_pipeline.specs.WellFormed.{dimensions, is_first_in_place, is_second, is_second_in_place, IsWellFormed, IsUpdate, Placed, placed_at}
+use Rattle.halide_pipeline.specs.WellFormed.{calls_in_place, is_own_call, is_alone, is_argument, is_update_variable, is_func_of, is_read, keeps, keeps_index}
 use Rattle.halide_pipeline.specs.Expressions.{is_variable_at, is_variable}
 use Rattle.halide_pipeline.specs.Pipelines.{Pipeline}
 use Rattle.halide_pipeline.specs.declared.environments.Environment.{Environment}
@@ -58,7 +60,8 @@ module _ (P : Point → Type 0) where
   Answers None = Unit {0}
   Answers (Some made) = (x : Seen) (y : Option Seen) → All x.points → All (second_points y) → All (made x y).points
 
-  answers : (found : Option (Seen → Option Seen → Seen)) → Answers found → (other x : Seen) (y : Option Seen) → All other.points → All x.points → All (second_points y)
+  answers : (found : Option (Seen → Option Seen → Seen)) → Answers found → (other x : Seen) (y : Option Seen) → All other.points → All x.points
+      → All (second_points y)
       → All (answered other x y found).points
   answers None answer other x y o p q = o
   answers (Some made) answer other x y o p q = answer x y p q
@@ -73,17 +76,20 @@ module _ (reads : Reads) (is_inlined : ℕ → Bool) (inputs : List Input) (func
     abbrev Made : ℕ → Option Func → Option (Seen → Option Seen → Seen)
     Made place own = made_in (seeing reads) (inside (seeing reads) is_inlined funcs place) own
 
-    made_by : (place : ℕ) → place ≤ count → Within place → (test : Bool) (own : Option Func) → slice_get funcs place ≡ own → Answers P (Made place (cond test own None))
+    made_by : (place : ℕ) → place ≤ count → Within place → (test : Bool) (own : Option Func) → slice_get funcs place ≡ own
+        → Answers P (Made place (cond test own None))
     unfolding seeing
     made_by place few inner false own is = tt
     made_by place few inner true None is = tt
     made_by place few inner true (Some func) is = λ x y p q.
         let second = second_of (none (seeing reads)) y in
         let vars = arguments (none (seeing reads)) (unread x) (unread second) in
-        let below : AreBelow place (inlined (seeing reads) is_inlined funcs place vars func.pure).points = inner (is_argument (dimensions func)) vars (by_variable x second) func.pure (are place func is).pure in
+        let below : AreBelow place (inlined (seeing reads) is_inlined funcs place vars func.pure).points = inner (is_argument (dimensions func)) vars
+        (by_variable x second) func.pure (are place func is).pure in
         all_both P x.points (second_points y ++ (inlined (seeing reads) is_inlined funcs place vars func.pure).points) p
         (all_both P (second_points y) (inlined (seeing reads) is_inlined funcs place vars func.pure).points q
-        (weakened (λ (point : Point). IsBelow place point.source) P (λ point b. lower point (still_below place count few point.source b)) (inlined (seeing reads) is_inlined funcs place vars func.pure).points below))
+        (weakened (λ (point : Point). IsBelow place point.source) P (λ point b. lower point (still_below place count few point.source b))
+        (inlined (seeing reads) is_inlined funcs place vars func.pure).points below))
       where
         by_variable : (x second : Seen) (v : Variable) → AreBelow place (arguments (none (seeing reads)) (unread x) (unread second) v).points
         by_variable x second variables.FirstArgument = tt
@@ -92,18 +98,22 @@ module _ (reads : Reads) (is_inlined : ℕ → Bool) (inputs : List Input) (func
         by_variable x second variables.SecondReduction = tt
 
     -- a call, by the first so many Funcs
-    call : (more : ℕ) → ((place : ℕ) → place < more → place ≤ count) → ((place : ℕ) → place < more → Within place) → (s : Source) → IsBelow more s → (other x : Seen) (y : Option Seen)
-        → All P other.points → All P x.points → All P (second_points y) → All P (answered other x y (answer (inside (seeing reads) is_inlined funcs more) s)).points
+    call : (more : ℕ) → ((place : ℕ) → place < more → place ≤ count) → ((place : ℕ) → place < more → Within place) → (s : Source) → IsBelow more s
+        → (other x : Seen) (y : Option Seen)
+        → All P other.points → All P x.points → All P (second_points y)
+        → All P (answered other x y (answer (inside (seeing reads) is_inlined funcs more) s)).points
     call more few inner (sources.Input place) below other x y o p q = o
     call more few inner (sources.Func place) below other x y o p q =
         rw (inside_is (seeing reads) is_inlined funcs more place)
-        (answers P (Made place (func_in funcs is_inlined more place)) (made_by place (few place below) (inner place below) (nat_lt place more && is_inlined place) (slice_get funcs place) refl) other x y o p q)
+        (answers P (Made place (func_in funcs is_inlined more place)) (made_by place (few place below) (inner place below) (nat_lt place more
+        && is_inlined place) (slice_get funcs place) refl) other x y o p q)
 
   is_below : (count : ℕ) (s : Source) (n : ℕ) → is_read inputs funcs count s n ≡ true → IsBelow count s
   is_below count (sources.Input place) n read = tt
   is_below count (sources.Func place) n read = ltb-true place count (and_parts (nat_lt place count) (is_func_of (slice_get funcs place) n) read).0
 
-  module _ (count : ℕ) (inner : (place : ℕ) → place < count → Within place) (has : Variable → Bool) (vars : Variable → Seen) (are_vars : (v : Variable) → AreBelow count (vars v).points) where
+  module _ (count : ℕ) (inner : (place : ℕ) → place < count → Within place) (has : Variable → Bool) (vars : Variable → Seen) (are_vars : (v : Variable)
+      → AreBelow count (vars v).points) where
     abbrev ReadsBelow : Seen → Unit {0} → Type 0
     ReadsBelow s u = AreBelow count s.points
 
@@ -113,7 +123,8 @@ module _ (reads : Reads) (is_inlined : ℕ → Bool) (inputs : List Input) (func
     both : (a b : List Point) → AreBelow count a → AreBelow count b → AreBelow count (a ++ b)
     both a b first second = all_both Below a b first second
 
-    below_levels : KeptLevels ReadsBelow (is_read inputs funcs count) has (through_at (seeing reads) (inside (seeing reads) is_inlined funcs count) vars) (λ level. tt)
+    below_levels : KeptLevels ReadsBelow (is_read inputs funcs count) has (through_at (seeing reads) (inside (seeing reads) is_inlined funcs count) vars)
+        (λ level. tt)
     unfolding seeing
     below_levels (layer.Number n) kept = tt
     below_levels (layer.Variable v) kept = are_vars v
@@ -128,12 +139,14 @@ module _ (reads : Reads) (is_inlined : ℕ → Bool) (inputs : List Input) (func
     below_levels (layer.Call2 s a b) kept =
         let l = is_below count s 2 kept in
         call Below count (λ point b. b) count (λ place b. omega (arith, b)) inner s l ((seeing reads).level (layer.Call2 s a.left b.left)) a.left (Some b.left)
-        (both (a.left.points ++ b.left.points) (record { source = s; x = a.left.value; y = b.left.value } ∷ []) (both a.left.points b.left.points a.is b.is) (l, tt)) a.is b.is
+        (both (a.left.points ++ b.left.points) (record { source = s; x = a.left.value; y = b.left.value } ∷ []) (both a.left.points b.left.points a.is b.is)
+        (l, tt)) a.is b.is
 
     below_in : (e : Expr) → keeps (is_read inputs funcs count) has e ≡ true → AreBelow count (inlined (seeing reads) is_inlined funcs count vars e).points
     unfolding through
     below_in e kept =
-        kept_folds_related ReadsBelow (is_read inputs funcs count) has (through_at (seeing reads) (inside (seeing reads) is_inlined funcs count) vars) (λ level. tt) below_levels e kept
+        kept_folds_related ReadsBelow (is_read inputs funcs count) has (through_at (seeing reads) (inside (seeing reads) is_inlined funcs count) vars)
+        (λ level. tt) below_levels e kept
 
   pub within : (bound count : ℕ) → count ≤ bound → Within count
   within zero count few = below_in count (λ place l. absurd (omega (arith, few, l)))
@@ -151,7 +164,8 @@ module _ (reads : Reads) (is_inlined : ℕ → Bool) (inputs : List Input) (func
     by_layer : (y : Expr-F Expr) → (v : Variable) → is_variable_at v y ≡ true → of (roll-Expr y) ≡ vars v
     unfolding through
     by_layer (layer.Variable own) v is =
-        fold-roll-Expr Seen (through_at (seeing reads) (inside (seeing reads) is_inlined funcs count) vars) (layer.Variable own) ∙ ap vars (same_variable-true own v is)
+        fold-roll-Expr Seen (through_at (seeing reads) (inside (seeing reads) is_inlined funcs count) vars) (layer.Variable own)
+        ∙ ap vars (same_variable-true own v is)
     by_layer (layer.Number n) v is = absurd cc
     by_layer (layer.Binary op a b) v is = absurd cc
     by_layer (layer.Divide a n) v is = absurd cc
@@ -168,7 +182,8 @@ module _ (reads : Reads) (is_inlined : ℕ → Bool) (inputs : List Input) (func
 
 -- ---- the right side of an update
 
-module _ (pipeline : Pipeline) (schedule : Schedule) (rules : IsWellFormed pipeline) (reader : ℕ) (func : Func) (func_is : slice_get pipeline.funcs reader ≡ Some func)
+module _ (pipeline : Pipeline) (schedule : Schedule) (rules : IsWellFormed pipeline) (reader : ℕ) (func : Func) (func_is : slice_get pipeline.funcs reader
+    ≡ Some func)
     (at : ℕ) (update : Update) (update_is : slice_get func.updates at ≡ Some update) (reads : Reads) (number x y : ℕ) where
   formed_so : IsUpdate pipeline.inputs pipeline.funcs reader (dimensions func) update
   formed_so = (rules.funcs reader func func_is).updates at update update_is
@@ -221,11 +236,13 @@ module _ (pipeline : Pipeline) (schedule : Schedule) (rules : IsWellFormed pipel
   own_call (sources.Input place) e = absurd cc
   own_call (sources.Func place) e = eq-eqb reader place (sym (eqb-true place reader e))
 
-  one_dimension : (index : Option Expr) → keeps_index (is_read pipeline.inputs pipeline.funcs reader) (is_update_variable (dimensions func) update.second) (dimensions func) index ≡ true
+  one_dimension : (index : Option Expr) → keeps_index (is_read pipeline.inputs pipeline.funcs reader) (is_update_variable (dimensions func) update.second)
+      (dimensions func) index ≡ true
       → dimensions func ≡ 1 → is_second index ≡ true → ⊥
   one_dimension None kept one second = cc
   one_dimension (Some index) kept one second =
-      let two = eqb-true (dimensions func) 2 (and_parts (dimensions func == 2) (keeps (is_read pipeline.inputs pipeline.funcs reader) (is_update_variable (dimensions func) update.second) index) kept).0 in
+      let two = eqb-true (dimensions func) 2 (and_parts (dimensions func == 2) (keeps (is_read pipeline.inputs pipeline.funcs reader)
+      (is_update_variable (dimensions func) update.second) index) kept).0 in
       absurd (omega (arith, one, two))
 
   -- a call with one index is of a Func of one dimension
@@ -233,7 +250,8 @@ module _ (pipeline : Pipeline) (schedule : Schedule) (rules : IsWellFormed pipel
   called_one (sources.Input place) read own = absurd cc
   called_one (sources.Func place) read own =
       let same : place ≡ reader = eqb-true place reader own in
-      let is : is_func_of (slice_get pipeline.funcs place) 1 ≡ true = (and_parts (nat_lt place (suc reader)) (is_func_of (slice_get pipeline.funcs place) 1) read).1 in
+      let is : is_func_of (slice_get pipeline.funcs place) 1 ≡ true = (and_parts (nat_lt place (suc reader)) (is_func_of (slice_get pipeline.funcs place) 1)
+      read).1 in
       eqb-true (dimensions func) 1 (ap (λ (f : Option Func). is_func_of f 1) (sym (ap (λ (n : ℕ). slice_get pipeline.funcs n) same ∙ func_is)) ∙ is)
 
   levels : KeptLevels Knows (is_read pipeline.inputs pipeline.funcs (suc reader)) (is_update_variable (dimensions func) update.second)
@@ -260,10 +278,12 @@ module _ (pipeline : Pipeline) (schedule : Schedule) (rules : IsWellFormed pipel
         let k = and_parts a.left.stays (not (is_own_call reader s) || (not first || is_alone variables.FirstArgument a.left.alone)) e in
         let one : Stays (record { source = s; x = a.right.value; y = 0 }) =
         λ own. record {
-          first = λ f. a.is.0 variables.FirstArgument (implied first (is_alone variables.FirstArgument a.left.alone) (implied (is_own_call reader s) (not first || is_alone variables.FirstArgument a.left.alone) k.1 (own_call s own)) f);
+          first = λ f. a.is.0 variables.FirstArgument (implied first (is_alone variables.FirstArgument a.left.alone) (implied (is_own_call reader s) (not first
+              || is_alone variables.FirstArgument a.left.alone) k.1 (own_call s own)) f);
           second = λ f. absurd (one_dimension update.left_y formed_so.left_y (called_one s kept own) f);
         } in
-        call reads is_inlined pipeline.inputs pipeline.funcs rules.funcs Stays reader lower_stays (suc reader) (λ place l. omega (arith, l)) (λ place l. deeper place) s
+        call reads is_inlined pipeline.inputs pipeline.funcs rules.funcs Stays reader lower_stays (suc reader) (λ place l. omega (arith, l))
+        (λ place l. deeper place) s
         (is_below reads is_inlined pipeline.inputs pipeline.funcs rules.funcs (suc reader) s 1 kept) ((seeing reads).level (layer.Call1 s a.right)) a.right None
         (both_stay a.right.points (record { source = s; x = a.right.value; y = 0 } ∷ []) (a.is.1 k.0) (one, tt)) (a.is.1 k.0) tt,
   )
@@ -275,21 +295,27 @@ module _ (pipeline : Pipeline) (schedule : Schedule) (rules : IsWellFormed pipel
         let m = and_parts a.left.stays b.left.stays k.0 in
         let one : Stays (record { source = s; x = a.right.value; y = b.right.value }) =
         λ own.
-        let parts = and_parts (not first || is_alone variables.FirstArgument a.left.alone) (not second || is_alone variables.SecondArgument b.left.alone) (implied (is_own_call reader s) held k.1 (own_call s own)) in
+        let parts = and_parts (not first || is_alone variables.FirstArgument a.left.alone) (not second || is_alone variables.SecondArgument b.left.alone)
+        (implied (is_own_call reader s) held k.1 (own_call s own)) in
         record {
           first = λ f. a.is.0 variables.FirstArgument (implied first (is_alone variables.FirstArgument a.left.alone) parts.0 f);
           second = λ f. b.is.0 variables.SecondArgument (implied second (is_alone variables.SecondArgument b.left.alone) parts.1 f);
         } in
-        call reads is_inlined pipeline.inputs pipeline.funcs rules.funcs Stays reader lower_stays (suc reader) (λ place l. omega (arith, l)) (λ place l. deeper place) s
-        (is_below reads is_inlined pipeline.inputs pipeline.funcs rules.funcs (suc reader) s 2 kept) ((seeing reads).level (layer.Call2 s a.right b.right)) a.right (Some b.right)
-        (both_stay (a.right.points ++ b.right.points) (record { source = s; x = a.right.value; y = b.right.value } ∷ []) (both_stay a.right.points b.right.points (a.is.1 m.0) (b.is.1 m.1)) (one, tt)) (a.is.1 m.0) (b.is.1 m.1),
+        call reads is_inlined pipeline.inputs pipeline.funcs rules.funcs Stays reader lower_stays (suc reader) (λ place l. omega (arith, l))
+        (λ place l. deeper place) s
+        (is_below reads is_inlined pipeline.inputs pipeline.funcs rules.funcs (suc reader) s 2 kept) ((seeing reads).level (layer.Call2 s a.right b.right))
+        a.right (Some b.right)
+        (both_stay (a.right.points ++ b.right.points) (record { source = s; x = a.right.value; y = b.right.value } ∷ []) (both_stay a.right.points
+        b.right.points (a.is.1 m.0) (b.is.1 m.1)) (one, tt)) (a.is.1 m.0) (b.is.1 m.1),
   )
 
   right_stays : AllStay (seen_in pipeline schedule reads (suc reader) point update.right).points
   unfolding through calls_in_place
   right_stays =
-      (kept_folds_related Knows (is_read pipeline.inputs pipeline.funcs (suc reader)) (is_update_variable (dimensions func) update.second) (placed_at reader first second)
-      (through_at (seeing reads) (inside (seeing reads) is_inlined pipeline.funcs (suc reader)) (seen_variable point)) levels update.right formed_so.right).1 formed_so.own_calls
+      (kept_folds_related Knows (is_read pipeline.inputs pipeline.funcs (suc reader)) (is_update_variable (dimensions func) update.second)
+      (placed_at reader first second)
+      (through_at (seeing reads) (inside (seeing reads) is_inlined pipeline.funcs (suc reader)) (seen_variable point)) levels update.right formed_so.right).1
+      formed_so.own_calls
 
   -- ---- the left side
 
@@ -299,26 +325,37 @@ module _ (pipeline : Pipeline) (schedule : Schedule) (rules : IsWellFormed pipel
       weakened (λ (own : Point). IsBelow reader own.source) Stays lower_stays (seen_in pipeline schedule reads reader point e).points
       (deeper reader (is_update_variable (dimensions func) update.second) (seen_variable point) (λ v. tt) e kept)
 
-  second_stays : (index : Option Expr) → keeps_index (is_read pipeline.inputs pipeline.funcs reader) (is_update_variable (dimensions func) update.second) (dimensions func) index ≡ true
+  second_stays : (index : Option Expr) → keeps_index (is_read pipeline.inputs pipeline.funcs reader) (is_update_variable (dimensions func) update.second)
+      (dimensions func) index ≡ true
       → AllStay (second_seen pipeline schedule reads reader point index).points
   second_stays None kept = tt
-  second_stays (Some index) kept = left_stays index (and_parts (dimensions func == 2) (keeps (is_read pipeline.inputs pipeline.funcs reader) (is_update_variable (dimensions func) update.second) index) kept).1
+  second_stays (Some index) kept = left_stays index (and_parts (dimensions func == 2) (keeps (is_read pipeline.inputs pipeline.funcs reader)
+      (is_update_variable (dimensions func) update.second) index) kept).1
 
   second_is : (index : Option Expr) → is_second index ≡ true → (second_seen pipeline schedule reads reader point index).value ≡ y
   second_is None e = absurd cc
   second_is (Some index) e =
-      ap (λ (s : Seen). s.value) (alone reads is_inlined pipeline.inputs pipeline.funcs rules.funcs reader (seen_variable point) index variables.SecondArgument e)
+      ap (λ (s : Seen). s.value) (alone reads is_inlined pipeline.inputs pipeline.funcs rules.funcs reader (seen_variable point) index variables.SecondArgument
+      e)
 
-  named_stays : Stays (record { source = sources.Func reader; x = (seen_in pipeline schedule reads reader point update.left_x).value; y = (second_seen pipeline schedule reads reader point update.left_y).value })
+  named_stays : Stays (record {
+    source = sources.Func reader;
+    x = (seen_in pipeline schedule reads reader point update.left_x).value;
+    y =
+        (second_seen pipeline schedule reads reader point update.left_y).value;
+  })
   named_stays = λ own. record {
-    first = λ e. ap (λ (s : Seen). s.value) (alone reads is_inlined pipeline.inputs pipeline.funcs rules.funcs reader (seen_variable point) update.left_x variables.FirstArgument e);
+    first = λ e. ap (λ (s : Seen). s.value) (alone reads is_inlined pipeline.inputs pipeline.funcs rules.funcs reader (seen_variable point) update.left_x
+        variables.FirstArgument e);
     second = λ e. second_is update.left_y e;
   }
 
   pub all_stay : AllStay (update_points pipeline schedule reads reader update number x y)
   all_stay =
       both_stay (seen_in pipeline schedule reads reader point update.left_x).points _ (left_stays update.left_x formed_so.left_x)
-      (both_stay (second_seen pipeline schedule reads reader point update.left_y).points _ (second_stays update.left_y formed_so.left_y) (named_stays, right_stays))
+      (both_stay (second_seen pipeline schedule reads reader point update.left_y).points _ (second_stays update.left_y formed_so.left_y)
+      (named_stays, right_stays))
 
 pub own_reads_stay : OwnReadsStay
-own_reads_stay pipeline schedule rules reader func func_is at update update_is reads number x y = all_stay pipeline schedule rules reader func func_is at update update_is reads number x y
+own_reads_stay pipeline schedule rules reader func func_is at update update_is reads number x y = all_stay pipeline schedule rules reader func func_is at update
+    update_is reads number x y

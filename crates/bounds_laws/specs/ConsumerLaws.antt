@@ -3,7 +3,8 @@
 -- The consumer of a Func that is computed at a loop is the Func whose loop it is. While this loop and those outside of it are in given
 -- turns, those inside take all their values.
 -- This project's own.
-use Rattle.std.specs.Prelude.{◌≡◌, ◌<◌, ℕ, zero, suc, ◌+◌, ◌^◌, nat_lt, true, not, if◌then◌else◌, List, [], ◌∷◌, ◌++◌, take, drop, length, slice_get, Option, Some, None, Ok}
+use Rattle.std.specs.Prelude.{◌≡◌, ◌<◌, ℕ, zero, suc, ◌+◌, ◌^◌, nat_lt, true, not, if◌then◌else◌, List, [], ◌∷◌, ◌++◌, take, drop, length, slice_get, Option}
+use Rattle.std.specs.Prelude.{Some, None, Ok}
 use Rattle.std.specs.List.{AllByRecursion, Contains}
 use Rattle.halide_pipeline.specs.declared.definitions.Func.{Func}
 use Rattle.halide_pipeline.specs.declared.definitions.Update.{Update}
@@ -83,7 +84,8 @@ ConsumerArgumentsLie = (func : Func) (plan : FuncPlan) (own : SourceBox) (id : L
     → AreTurns (counts (extents_of own) plan.pure.splits) outside turns
     → Below (turns_from (length inside) turns plan.pure.loops) (consumer_loop plan own id).lasts
     × AllByRecursion
-    (λ whole. (x y : ℕ) → IsTakenTo func own whole x y → LiesIn (turns_from (length inside) turns plan.pure.loops) (consumer_view plan.pure own (consumer_loop plan own id)) x y)
+    (λ whole. (x y : ℕ) → IsTakenTo func own whole x y
+    → LiesIn (turns_from (length inside) turns plan.pure.loops) (consumer_view plan.pure own (consumer_loop plan own id)) x y)
     (wholes (extents_of own) plan.pure.splits inside turns)
 
 -- ---- points of a box at a loop
@@ -257,4 +259,5 @@ UpdateReadsInLoopsLie = (pipeline : Pipeline) (schedule : Schedule) (boxes : Box
     → (reads : Reads) → AnswerWords pipeline.inputs reads
     → (turns : Values) (x y : ℕ) → MayBeArguments func plan consuming at.inside turns its.place own x y → IsNear x → IsNear y
     → (number : ℕ) → number < points update
-    → AreBoxed (values_in plan at.inside turns) (sources.Func place) (slice_get boxes.funcs place) (update_points pipeline schedule reads reader update number x y)
+    → AreBoxed (values_in plan at.inside turns) (sources.Func place) (slice_get boxes.funcs place) (update_points pipeline schedule reads reader update number x
+    y)

@@ -65,7 +65,8 @@ module _ (side : Asked → Range) where
     abbrev pub asked_by_updates : (Update → Bool) → ℕ → Option ConsumerLoop → List Update → List Range
     asked_by_updates is_in_place at consumer [] = []
     asked_by_updates is_in_place at consumer (update ∷ others) =
-        (if is_in_place update then [] else asked_of consumer no_loops (sources.Func at) (update_asked pipeline.inputs pipeline.funcs (flags_of schedule.standings) at unplaced update))
+        (if is_in_place update then [] else asked_of consumer no_loops (sources.Func at) (update_asked pipeline.inputs pipeline.funcs
+        (flags_of schedule.standings) at unplaced update))
         ++ asked_by_updates is_in_place at consumer others
 
     abbrev pub asked_by_func : ℕ → SourceBox → Option ConsumerLoop → Source → Option Func → List Range
@@ -76,7 +77,8 @@ module _ (side : Asked → Range) where
     abbrev pub asked_by : ℕ → Option ConsumerLoop → Source → Option SourceBox → List Range
     asked_by reader consumer source None = []
     asked_by reader consumer source (Some own) =
-        asked_by_func reader (view_of (slice_get schedule.funcs reader) (slice_get schedule.standings reader) own consumer) consumer source (slice_get pipeline.funcs reader)
+        asked_by_func reader (view_of (slice_get schedule.funcs reader) (slice_get schedule.standings reader) own consumer) consumer source
+        (slice_get pipeline.funcs reader)
 
     -- by the Funcs from a place on, which have these boxes
     abbrev pub asked_from : ℕ → Option ConsumerLoop → Source → List (Option SourceBox) → List Range

@@ -76,7 +76,14 @@ module _ (lasts values : List ℕ) (below : Below values lasts) where
       let w = widened_stands lasts values below a x la in
       rw (nonzero c l)
       (plain_lies lasts values below (divided_ends (widened lasts a) c) (divide x c) (divide_word x c l la.word)
-      (λ fl fh. (omega (arith, divide_spot x c l la.word, divided_rises (widened lasts a).low (spot x) c l w.low), omega (arith, divide_spot x c l la.word, divided_rises (spot x) (widened lasts a).high c l w.high))))
+      (λ fl fh. (
+        omega (arith, divide_spot x c l la.word, divided_rises (widened lasts a).low (spot x) c l w.low),
+        omega (
+          arith,
+          divide_spot x c l la.word,
+          divided_rises (spot x) (widened lasts a).high c l w.high,
+        ),
+      )))
 
   pub remainder_lies : (x c : ℕ) → 1 ≤ c → c ≤ 0x7fffffff → Lies lasts values (remainders lasts c) (remainder x c)
   remainder_lies x c l m =
@@ -85,4 +92,5 @@ module _ (lasts values : List ℕ) (below : Below values lasts) where
       (λ fl fh. (omega (arith, r, fl, fh), omega (arith, r, fl, fh))))
 
   pub literal_lies : (n : ℕ) → n < 2 ^ 32 → Lies lasts values (literal lasts n) n
-  literal_lies n l = plain_lies lasts values below (record { low = origin + n; high = origin + n }) n l (λ fl fh. (omega (arith, fl, fh), omega (arith, fl, fh)))
+  literal_lies n l = plain_lies lasts values below (record { low = origin + n; high = origin + n }) n l
+      (λ fl fh. (omega (arith, fl, fh), omega (arith, fl, fh)))

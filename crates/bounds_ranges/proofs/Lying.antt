@@ -33,7 +33,10 @@ module _ (lasts values : List ℕ) (below : Below values lasts) where
   every_lies x word = between_lies least greatest x word (omega arith) (omega arith) (omega arith) (omega arith)
 
   pub small_of : (a : Range) (x : ℕ) → Lies lasts values a x → Small a.base lasts
-  small_of a x la = record { more = omega (arith, la.low, la.high, la.fits_low, la.fits_high); less = omega (arith, la.low, la.high, la.fits_low, la.fits_high) }
+  small_of a x la = record {
+    more = omega (arith, la.low, la.high, la.fits_low, la.fits_high);
+    less = omega (arith, la.low, la.high, la.fits_low, la.fits_high);
+  }
 
   pub widened_stands : (a : Range) (x : ℕ) → Lies lasts values a x → Stands (widened lasts a) x
   widened_stands a x la =
@@ -68,7 +71,8 @@ module _ (lasts values : List ℕ) (below : Below values lasts) where
       fit_at (nat_le (least + less_sum base lasts) ends.low) (nat_le (ends.high + more_sum base lasts) greatest) base ends x refl refl word inside
 
   -- with no base
-  pub plain_lies : (ends : Ends) (x : ℕ) → x < 2 ^ 32 → (least ≤ ends.low → ends.high ≤ greatest → (ends.low ≤ spot x) × (spot x ≤ ends.high)) → Lies lasts values (fit lasts no_base ends) x
+  pub plain_lies : (ends : Ends) (x : ℕ) → x < 2 ^ 32 → (least ≤ ends.low → ends.high ≤ greatest → (ends.low ≤ spot x) × (spot x ≤ ends.high))
+      → Lies lasts values (fit lasts no_base ends) x
   plain_lies ends x word inside = fit_lies no_base ends x word (λ l h.
       let b = inside (omega (arith, l, no_less lasts)) (omega (arith, h, no_more lasts)) in
       (omega (arith, b.0, no_more values, no_less values), omega (arith, b.1, no_more values, no_less values)))

@@ -1,5 +1,6 @@
 -- The value of an expression lies in its range.
-use Rattle.std.proofs.Common.{◌≡◌, ℕ, ◌+◌, ◌-◌, ◌%◌, ◌^◌, ◌<◌, ◌≤◌, Bool, true, false, not, cond, List, [], ◌∷◌, ◌++◌, Option, None, Some, ◌==◌, refl, arith, inl, inr}
+use Rattle.std.proofs.Common.{◌≡◌, ℕ, ◌+◌, ◌-◌, ◌%◌, ◌^◌, ◌<◌, ◌≤◌, Bool, true, false, not, cond, List, [], ◌∷◌, ◌++◌, Option, None, Some, ◌==◌, refl, arith}
+use Rattle.std.proofs.Common.{inl, inr}
 use Rattle.std.specs.Prelude.{nat_le, min, max, slice_get, if◌then◌else◌}
 use Rattle.std.proofs.lemmas.Bool.{lt-ltb, le-ltb, leb-true, cases_lt, and_parts}
 use Rattle.halide_pipeline.specs.declared.definitions.Func.{Func}
@@ -28,9 +29,11 @@ use Rattle.bounds_ranges.specs.declared.ranges.Ends.{Ends}
 use Rattle.bounds_ranges.specs.declared.expressions.Asked.{Asked}
 use Rattle.bounds_ranges.specs.declared.expressions.OwnCalls.{OwnCalls}
 use Rattle.bounds_ranges.specs.declared.ranges.Range.{Range}
-use Rattle.bounds_ranges.specs.Ranges.{no_base, add_base, negated, same_base, more_sum, less_sum, between, every, ends_of, fit, widened, added, subtracted, aligned, together, lesser, greater, hull, truths, literal, operated}
+use Rattle.bounds_ranges.specs.Ranges.{no_base, add_base, negated, same_base, more_sum, less_sum, between, every, ends_of, fit, widened, added, subtracted}
+use Rattle.bounds_ranges.specs.Ranges.{aligned, together, lesser, greater, hull, truths, literal, operated}
 use Rattle.bounds_ranges.specs.Numbers.{origin, least, greatest, spot}
-use Rattle.bounds_ranges.specs.Expressions.{Ranged, ranging, second_asked, unasked_variable, pixels_of, called, ranges_where, is_anywhere, chosen, ranged_update}
+use Rattle.bounds_ranges.specs.Expressions.{Ranged, ranging, second_asked, unasked_variable, pixels_of, called, ranges_where, is_anywhere, chosen}
+use Rattle.bounds_ranges.specs.Expressions.{ranged_update}
 use Rattle.bounds_ranges.specs.Laws.{Below, Lies, AllLie, Covers, AnswerWords, RangesCover, UpdateRangesCover}
 use Rattle.bounds_ranges.proofs.Sums.{more_below, less_below, add_sums, negated_more, negated_less, negated_small, same_sums}
 use Rattle.bounds_ranges.proofs.Lying.{between_lies, every_lies, small_of, widened_stands, fit_lies, plain_lies}
@@ -94,53 +97,82 @@ module _ (lasts values : List ℕ) (below : Below values lasts) where
   added_lies : (a b : Range) (x y : ℕ) → Lies lasts values a x → Lies lasts values b y → Lies lasts values (added lasts a b) (add x y)
   unfolding add
   added_lies a b x y la lb =
-      fit_lies lasts values below (add_base a.base b.base) (record { low = a.low + b.low - origin; high = a.high + b.high - origin }) ((x + y) % 2 ^ 32) (omega arith)
+      fit_lies lasts values below (add_base a.base b.base) (record { low = a.low + b.low - origin; high = a.high + b.high - origin }) ((x + y) % 2 ^ 32)
+      (omega arith)
       (λ l h.
       let s = add_sums a.base b.base values lasts below (small_of lasts values below a x la) (small_of lasts values below b y lb) in
       let m = more_below (add_base a.base b.base) values lasts below in
       let n = less_below (add_base a.base b.base) values lasts below in
-      sum_between x y a.low b.low a.high b.high (more_sum a.base values) (less_sum a.base values) (more_sum b.base values) (less_sum b.base values) (more_sum (add_base a.base b.base) values) (less_sum (add_base a.base b.base) values)
+      sum_between x y a.low b.low a.high b.high (more_sum a.base values) (less_sum a.base values) (more_sum b.base values) (less_sum b.base values)
+      (more_sum (add_base a.base b.base) values) (less_sum (add_base a.base b.base) values)
       la.word lb.word la.low lb.low la.high lb.high (omega (arith, l, n)) (omega (arith, h, m)) s (omega (arith, la.fits_low)) (omega (arith, lb.fits_low)))
 
   subtracted_lies : (a b : Range) (x y : ℕ) → Lies lasts values a x → Lies lasts values b y → Lies lasts values (subtracted lasts a b) (subtract x y)
   unfolding subtract
   subtracted_lies a b x y la lb =
-      fit_lies lasts values below (add_base a.base (negated b.base)) (record { low = a.low + origin - b.high; high = a.high + origin - b.low }) ((x + (2 ^ 32 - y)) % 2 ^ 32) (omega arith)
+      fit_lies lasts values below (add_base a.base (negated b.base)) (record { low = a.low + origin - b.high; high = a.high + origin - b.low })
+      ((x + (2 ^ 32 - y)) % 2 ^ 32) (omega arith)
       (λ l h.
-      let s = add_sums a.base (negated b.base) values lasts below (small_of lasts values below a x la) (negated_small b.base lasts (small_of lasts values below b y lb)) in
+      let s = add_sums a.base (negated b.base) values lasts below (small_of lasts values below a x la) (negated_small b.base lasts (small_of lasts values below
+      b y lb)) in
       let m = more_below (add_base a.base (negated b.base)) values lasts below in
       let n = less_below (add_base a.base (negated b.base)) values lasts below in
-      difference_between x y a.low b.low a.high b.high (more_sum a.base values) (less_sum a.base values) (more_sum b.base values) (less_sum b.base values) (more_sum (add_base a.base (negated b.base)) values) (less_sum (add_base a.base (negated b.base)) values)
-      la.word lb.word la.low lb.low la.high lb.high (omega (arith, l, n)) (omega (arith, h, m)) (omega (arith, s, negated_more b.base values, negated_less b.base values)) (omega (arith, la.fits_low)) (omega (arith, lb.fits_high)) (omega (arith, lb.fits_low)) (omega (arith, la.fits_high)))
+      difference_between x y a.low b.low a.high b.high (more_sum a.base values) (less_sum a.base values) (more_sum b.base values) (less_sum b.base values)
+      (more_sum (add_base a.base (negated b.base)) values) (less_sum (add_base a.base (negated b.base)) values)
+      la.word lb.word la.low lb.low la.high lb.high (omega (arith, l, n)) (omega (arith, h, m)) (omega (
+        arith,
+        s,
+        negated_more b.base values,
+        negated_less
+            b.base values,
+      )) (omega (arith, la.fits_low)) (omega (arith, lb.fits_high)) (omega (arith, lb.fits_low)) (omega (arith, la.fits_high)))
 
-  together_at : (test : Bool) (ends : Ends → Ends → Ends) (a b : Range) (x y z : ℕ) → same_base a.base b.base ≡ test → Lies lasts values a x → Lies lasts values b y → z < 2 ^ 32 → Picks ends (spot x) (spot y) (spot z)
-      → (both : CommonBase) → both ≡ cond test (record { base = a.base; first = ends_of a; second = ends_of b }) (record { base = no_base; first = widened lasts a; second = widened lasts b })
+  together_at : (test : Bool) (ends : Ends → Ends → Ends) (a b : Range) (x y z : ℕ) → same_base a.base b.base ≡ test → Lies lasts values a x
+      → Lies lasts values b y → z < 2 ^ 32 → Picks ends (spot x) (spot y) (spot z)
+      → (both : CommonBase) → both ≡ cond test (record { base = a.base; first = ends_of a; second = ends_of b }) (record {
+        base = no_base;
+        first =
+            widened lasts a;
+        second = widened lasts b;
+      })
       → Lies lasts values (fit lasts both.base (ends both.first both.second)) z
   together_at true ends a b x y z e la lb word picks both is =
       let s = same_sums a.base b.base values lasts below (small_of lasts values below a x la) (small_of lasts values below b y lb) e in
       rw is
       (fit_lies lasts values below a.base (ends (ends_of a) (ends_of b)) z word
-      (λ l h. (picks.below (ends_of a) (ends_of b) (more_sum a.base values) (less_sum a.base values) la.low (omega (arith, lb.low, s)), picks.above (ends_of a) (ends_of b) (more_sum a.base values) (less_sum a.base values) la.high (omega (arith, lb.high, s)))))
+      (λ l h. (
+        picks.below (ends_of a) (ends_of b) (more_sum a.base values) (less_sum a.base values) la.low (omega (arith, lb.low, s)),
+        picks.above (ends_of a)
+            (ends_of b) (more_sum a.base values) (less_sum a.base values) la.high (omega (arith, lb.high, s)),
+      )))
   together_at false ends a b x y z e la lb word picks both is =
       let wa = widened_stands lasts values below a x la in
       let wb = widened_stands lasts values below b y lb in
       rw is
       (plain_lies lasts values below (ends (widened lasts a) (widened lasts b)) z word
-      (λ l h. (omega (arith, picks.below (widened lasts a) (widened lasts b) 0 0 (omega (arith, wa.low)) (omega (arith, wb.low))), omega (arith, picks.above (widened lasts a) (widened lasts b) 0 0 (omega (arith, wa.high)) (omega (arith, wb.high))))))
+      (λ l h. (
+        omega (arith, picks.below (widened lasts a) (widened lasts b) 0 0 (omega (arith, wa.low)) (omega (arith, wb.low))),
+        omega
+            (arith, picks.above (widened lasts a) (widened lasts b) 0 0 (omega (arith, wa.high)) (omega (arith, wb.high))),
+      )))
 
-  together_lies : (ends : Ends → Ends → Ends) (a b : Range) (x y z : ℕ) → Lies lasts values a x → Lies lasts values b y → z < 2 ^ 32 → Picks ends (spot x) (spot y) (spot z) → Lies lasts values (together lasts ends a b) z
+  together_lies : (ends : Ends → Ends → Ends) (a b : Range) (x y z : ℕ) → Lies lasts values a x → Lies lasts values b y → z < 2 ^ 32
+      → Picks ends (spot x) (spot y) (spot z) → Lies lasts values (together lasts ends a b) z
   together_lies ends a b x y z la lb word picks = together_at (same_base a.base b.base) ends a b x y z refl la lb word picks (aligned lasts a b) refl
 
   truth_lies : (test : Bool) → Lies lasts values truths (truth test)
   truth_lies true = between_lies lasts values below origin (origin + 1) 1 (omega arith) (omega arith) (omega arith) (omega arith) (omega arith)
   truth_lies false = between_lies lasts values below origin (origin + 1) 0 (omega arith) (omega arith) (omega arith) (omega arith) (omega arith)
 
-  operated_lies : (operation : Operation) (a b : Range) (x y : ℕ) → Lies lasts values a x → Lies lasts values b y → Lies lasts values (operated lasts operation a b) (applied operation x y)
+  operated_lies : (operation : Operation) (a b : Range) (x y : ℕ) → Lies lasts values a x → Lies lasts values b y
+      → Lies lasts values (operated lasts operation a b) (applied operation x y)
   operated_lies op.Add a b x y la lb = added_lies a b x y la lb
   operated_lies op.Subtract a b x y la lb = subtracted_lies a b x y la lb
   operated_lies op.Multiply a b x y la lb = multiplied_lies lasts values below a b x y la lb
-  operated_lies op.Minimum a b x y la lb = together_lies lesser a b x y (minimum x y) la lb (one_of_two (less y x) y x lb.word la.word) (picks_least (spot x) (spot y) (spot (minimum x y)) (spot_minimum x y))
-  operated_lies op.Maximum a b x y la lb = together_lies greater a b x y (maximum x y) la lb (one_of_two (less x y) y x lb.word la.word) (picks_greatest (spot x) (spot y) (spot (maximum x y)) (spot_maximum x y))
+  operated_lies op.Minimum a b x y la lb = together_lies lesser a b x y (minimum x y) la lb (one_of_two (less y x) y x lb.word la.word)
+      (picks_least (spot x) (spot y) (spot (minimum x y)) (spot_minimum x y))
+  operated_lies op.Maximum a b x y la lb = together_lies greater a b x y (maximum x y) la lb (one_of_two (less x y) y x lb.word la.word)
+      (picks_greatest (spot x) (spot y) (spot (maximum x y)) (spot_maximum x y))
   operated_lies op.Less a b x y la lb = truth_lies (less x y)
   operated_lies op.LessOrEqual a b x y la lb = truth_lies (not (less y x))
   operated_lies op.Greater a b x y la lb = truth_lies (less y x)
@@ -148,7 +180,8 @@ module _ (lasts values : List ℕ) (below : Below values lasts) where
   operated_lies op.Equal a b x y la lb = truth_lies (x == y)
   operated_lies op.NotEqual a b x y la lb = truth_lies (not (x == y))
 
-  select_lies : (test : Bool) (a b : Range) (x y : ℕ) → Lies lasts values a x → Lies lasts values b y → Lies lasts values (together lasts hull a b) (cond test y x)
+  select_lies : (test : Bool) (a b : Range) (x y : ℕ) → Lies lasts values a x → Lies lasts values b y
+      → Lies lasts values (together lasts hull a b) (cond test y x)
   select_lies true a b x y la lb = together_lies hull a b x y y la lb lb.word (picks_second (spot x) (spot y))
   select_lies false a b x y la lb = together_lies hull a b x y x la lb la.word (picks_first (spot x) (spot y))
 
@@ -161,11 +194,14 @@ module _ (lasts values : List ℕ) (below : Below values lasts) where
   all_lie_both (first ∷ a) b (point ∷ p) q la lb = (la.0, all_lie_both a b p q la.1 lb)
 
   module _ (reads : Reads) (inputs : List Input) (words : AnswerWords inputs reads) (is_inlined : ℕ → Bool) where
-    byte_lies : (is_bytes : Bool) (x : ℕ) → x < 2 ^ 32 → (is_bytes ≡ true → x < 256) → Lies lasts values (if is_bytes then between origin (origin + 255) else every) x
-    byte_lies true x word byte = let b = byte refl in between_lies lasts values below origin (origin + 255) x word (omega arith) (omega (arith, b)) (omega (arith, b)) (omega arith)
+    byte_lies : (is_bytes : Bool) (x : ℕ) → x < 2 ^ 32 → (is_bytes ≡ true → x < 256)
+        → Lies lasts values (if is_bytes then between origin (origin + 255) else every) x
+    byte_lies true x word byte = let b = byte refl in between_lies lasts values below origin (origin + 255) x word (omega arith) (omega (arith, b))
+        (omega (arith, b)) (omega arith)
     byte_lies false x word byte = every_lies lasts values below x word
 
-    pixel_lies : (place x y : ℕ) (own : Option Input) → x < 2 ^ 32 → y < 2 ^ 32 → slice_get inputs place ≡ own → Lies lasts values (pixels_of own) (reads (sources.Input place) x y)
+    pixel_lies : (place x y : ℕ) (own : Option Input) → x < 2 ^ 32 → y < 2 ^ 32 → slice_get inputs place ≡ own
+        → Lies lasts values (pixels_of own) (reads (sources.Input place) x y)
     pixel_lies place x y None wx wy is = every_lies lasts values below (reads (sources.Input place) x y) (words.words (sources.Input place) x y wx wy)
     pixel_lies place x y (Some input) wx wy is =
         byte_lies input.is_bytes (reads (sources.Input place) x y) (words.words (sources.Input place) x y wx wy) (λ held. words.bytes place input is held x y)
@@ -178,10 +214,19 @@ module _ (lasts values : List ℕ) (below : Below values lasts) where
     R = Covers lasts values
 
     -- a read behind others
-    one_more : (s : Source) (before : List Asked) (points : List Point) (x y : Range) (v w : ℕ) → AllLie lasts values before points → Lies lasts values x v → Lies lasts values y w
+    one_more : (s : Source) (before : List Asked) (points : List Point) (x y : Range) (v w : ℕ) → AllLie lasts values before points → Lies lasts values x v
+        → Lies lasts values y w
         → AllLie lasts values (before ++ (record { source = s; x = x; y = y } ∷ [])) (points ++ (record { source = s; x = v; y = w } ∷ []))
     one_more s before points x y v w all lx ly =
-        all_lie_both before (record { source = s; x = x; y = y } ∷ []) points (record { source = s; x = v; y = w } ∷ []) all (record { source = refl; x = lx; y = ly }, tt)
+        all_lie_both before (record { source = s; x = x; y = y } ∷ []) points (record { source = s; x = v; y = w } ∷ []) all (
+          record {
+            source = refl;
+            x =
+                lx;
+            y = ly;
+          },
+          tt,
+        )
 
     levels : RelatesLevels R is_inlined (ranging lasts inputs) (seeing reads)
     unfolding ranging seeing
@@ -196,7 +241,8 @@ module _ (lasts values : List ℕ) (below : Below values lasts) where
       points = a.is.points;
     }
     levels (layer.Remainder a n) kept = record {
-      value = let k = and_parts (nat_le 1 n) (nat_le n 0x7fffffff) kept in remainder_lies lasts values below a.right.value n (leb-true 1 n k.0) (leb-true n 0x7fffffff k.1);
+      value = let k = and_parts (nat_le 1 n) (nat_le n 0x7fffffff) kept in remainder_lies lasts values below a.right.value n (leb-true 1 n k.0)
+          (leb-true n 0x7fffffff k.1);
       points = a.is.points;
     }
     levels (layer.Select c a b) kept = record {
@@ -206,7 +252,8 @@ module _ (lasts values : List ℕ) (below : Below values lasts) where
     }
     levels (layer.Call1 s a) kept = record {
       value = called_lies s a.right.value 0 a.is.value.word (omega arith);
-      points = one_more s a.left.asked a.right.points a.left.range (literal lasts 0) a.right.value 0 a.is.points a.is.value (literal_lies lasts values below 0 (omega arith));
+      points = one_more s a.left.asked a.right.points a.left.range (literal lasts 0) a.right.value 0 a.is.points a.is.value (literal_lies lasts values below 0
+          (omega arith));
     }
     levels (layer.Call2 s a b) kept = record {
       value = called_lies s a.right.value b.right.value a.is.value.word b.is.value.word;
@@ -235,12 +282,14 @@ module _ (lasts values : List ℕ) (below : Below values lasts) where
 pub ranges_cover : RangesCover
 ranges_cover lasts values below reads inputs words is_inlined funcs are count has ranges environment lie e kept =
     folds_are_related (Covers lasts values) (ranging lasts inputs) (seeing reads) is_inlined inputs funcs are
-    (levels lasts values below reads inputs words is_inlined) (args lasts values below reads inputs words is_inlined) (calls lasts values below reads inputs words is_inlined)
+    (levels lasts values below reads inputs words is_inlined) (args lasts values below reads inputs words is_inlined) (calls lasts values below reads inputs
+    words is_inlined)
     count has (unasked_variable ranges) (seen_variable environment) (λ v held. record { value = lie v held; points = tt }) e kept
 
 -- ---- updates
 
-module _ (lasts values : List ℕ) (below : Below values lasts) (reads : Reads) (inputs : List Input) (words : AnswerWords inputs reads) (is_inlined : ℕ → Bool) (funcs : List Func)
+module _ (lasts values : List ℕ) (below : Below values lasts) (reads : Reads) (inputs : List Input) (words : AnswerWords inputs reads) (is_inlined : ℕ
+    → Bool) (funcs : List Func)
     (are : AreFuncs inputs funcs) (count : ℕ) (own : OwnCalls) (has : Variable → Bool) (ranges : Variable → Range) (environment : Environment)
     (lie : (around : Bool) (v : Variable) → has v ≡ true → Lies lasts values (ranges_where lasts ranges around v) (variable environment v)) where
   -- both where arguments may be anywhere and where not
@@ -261,7 +310,8 @@ module _ (lasts values : List ℕ) (below : Below values lasts) (reads : Reads) 
       (through_at (seeing reads) seen_within (seen_variable environment))
   one_way around =
       levels_related (Covers lasts values) (ranging lasts inputs) (seeing reads) is_inlined inputs funcs are
-      (levels lasts values below reads inputs words is_inlined) (args lasts values below reads inputs words is_inlined) (calls lasts values below reads inputs words is_inlined)
+      (levels lasts values below reads inputs words is_inlined) (args lasts values below reads inputs words is_inlined) (calls lasts values below reads inputs
+      words is_inlined)
       count has (unasked_variable (ranges_where lasts ranges around)) (seen_variable environment) (λ v held. record { value = lie around v held; points = tt })
 
   both_ways : KeptLevels BothWays (is_read inputs funcs count) has

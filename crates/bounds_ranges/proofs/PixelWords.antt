@@ -14,7 +14,8 @@ use Rattle.halide_pipeline.specs.declared.expressions.Variable.TheVariants as va
 use Rattle.halide_pipeline.specs.WellFormed.{dimensions, keeps, is_read, is_argument, is_update_variable}
 use Rattle.halide_pipeline.specs.Words.{add}
 use Rattle.halide_pipeline.specs.declared.environments.Environment.{Environment}
-use Rattle.halide_pipeline.specs.Pixel.{Plane, Planes, Reads, value, variable, reads_of, with_plane, at_point, at_reduction, second_value, is_hit, after, after_all, stage, func_plane, pixels, points}
+use Rattle.halide_pipeline.specs.Pixel.{Plane, Planes, Reads, value, variable, reads_of, with_plane, at_point, at_reduction, second_value, is_hit, after}
+use Rattle.halide_pipeline.specs.Pixel.{after_all, stage, func_plane, pixels, points}
 use Rattle.bounds_inlining.specs.Laws.{AreFuncs}
 use Rattle.bounds_inlining.proofs.Pixels.{fits}
 use Rattle.bounds_inlining.proofs.Seeing.{sees_inlined_values}
@@ -28,13 +29,16 @@ no_inlined place = false
 
 module _ (inputs : List Input) (funcs : List Func) (are : AreFuncs inputs funcs) (planes : Planes) where
   -- the value of an expression whose reads and variables are words
-  value_word : (reads : Reads) → AnswerWords inputs reads → (count : ℕ) (has : Variable → Bool) (environment : Environment) → ((v : Variable) → has v ≡ true → variable environment v < 2 ^ 32)
+  value_word : (reads : Reads) → AnswerWords inputs reads → (count : ℕ) (has : Variable → Bool) (environment : Environment) → ((v : Variable) → has v ≡ true
+      → variable environment v < 2 ^ 32)
       → (e : Expr) → keeps (is_read inputs funcs count) has e ≡ true → value reads environment e < 2 ^ 32
   value_word reads words count has environment small e kept =
       subst (λ (n : ℕ). n < 2 ^ 32)
       (sees_inlined_values reads no_inlined funcs count environment e
-      ∙ fits reads no_inlined inputs funcs planes are (λ place func is flag. absurd cc) count reads (λ place n below is flag. absurd cc) (λ s n x y computed read. refl) has (variable environment) environment (λ v held. refl) e kept)
-      (ranges_cover [] [] tt reads inputs words no_inlined funcs are count has (λ v. every) environment (λ v held. every_lies [] [] tt (variable environment v) (small v held)) e kept).value.word
+      ∙ fits reads no_inlined inputs funcs planes are (λ place func is flag. absurd cc) count reads (λ place n below is flag. absurd cc)
+      (λ s n x y computed read. refl) has (variable environment) environment (λ v held. refl) e kept)
+      (ranges_cover [] [] tt reads inputs words no_inlined funcs are count has (λ v. every) environment (λ v held. every_lies [] [] tt (variable environment v)
+      (small v held)) e kept).value.word
 
   point_small : (count x y : ℕ) → x < 2 ^ 32 → y < 2 ^ 32 → (v : Variable) → is_argument count v ≡ true → variable (at_point x y) v < 2 ^ 32
   point_small count x y wx wy variables.FirstArgument has = wx
@@ -47,7 +51,8 @@ module _ (inputs : List Input) (funcs : List Func) (are : AreFuncs inputs funcs)
   second_small None step = omega arith
   second_small (Some own) step = mod-lt (own.minimum + step) (omega arith)
 
-  reduction_small : (update : Update) (number count x y : ℕ) → x < 2 ^ 32 → y < 2 ^ 32 → (v : Variable) → is_update_variable count update.second v ≡ true → variable (at_reduction update number x y) v < 2 ^ 32
+  reduction_small : (update : Update) (number count x y : ℕ) → x < 2 ^ 32 → y < 2 ^ 32 → (v : Variable) → is_update_variable count update.second v ≡ true
+      → variable (at_reduction update number x y) v < 2 ^ 32
   unfolding add
   reduction_small update number count x y wx wy variables.FirstArgument has = wx
   reduction_small update number count x y wx wy variables.SecondArgument has = wy
@@ -61,7 +66,8 @@ module _ (inputs : List Input) (funcs : List Func) (are : AreFuncs inputs funcs)
   one_of true a b la lb = la
   one_of false a b la lb = lb
 
-  pub with_words : (own : ℕ) (plane : Plane) (earlier : Planes) → Words plane → AnswerWords inputs (reads_of planes earlier) → AnswerWords inputs (reads_of planes (with_plane own plane earlier))
+  pub with_words : (own : ℕ) (plane : Plane) (earlier : Planes) → Words plane → AnswerWords inputs (reads_of planes earlier)
+      → AnswerWords inputs (reads_of planes (with_plane own plane earlier))
   with_words own plane earlier are_words words = record { words = each; bytes = words.bytes }
     where
       each : (s : Source) (x y : ℕ) → x < 2 ^ 32 → y < 2 ^ 32 → reads_of planes (with_plane own plane earlier) s x y < 2 ^ 32
@@ -76,7 +82,8 @@ module _ (inputs : List Input) (funcs : List Func) (are : AreFuncs inputs funcs)
     abbrev earlier : Planes
     earlier = pixels funcs planes own
 
-    after_words : (at : ℕ) (update : Update) → slice_get func.updates at ≡ Some update → (before : Plane) → Words before → (number : ℕ) → Words (after own update planes earlier before number)
+    after_words : (at : ℕ) (update : Update) → slice_get func.updates at ≡ Some update → (before : Plane) → Words before → (number : ℕ)
+        → Words (after own update planes earlier before number)
     unfolding after
     after_words at update is before are_words zero x y wx wy = are_words x y wx wy
     after_words at update is before are_words (suc number) x y wx wy =
@@ -85,7 +92,8 @@ module _ (inputs : List Input) (funcs : List Func) (are : AreFuncs inputs funcs)
         (after own update planes earlier before number x y)
         (value_word (reads_of planes (with_plane own (after own update planes earlier before number) earlier))
         (with_words own (after own update planes earlier before number) earlier (after_words at update is before are_words number) words)
-        (suc own) (is_update_variable (dimensions func) update.second) (at_reduction update number x y) (reduction_small update number (dimensions func) x y wx wy) update.right ((are own func func_is).updates at update is).right)
+        (suc own) (is_update_variable (dimensions func) update.second) (at_reduction update number x y) (reduction_small update number (dimensions func) x y wx
+        wy) update.right ((are own func func_is).updates at update is).right)
         (after_words at update is before are_words number x y wx wy)
 
     step_words : (updates : ℕ) → Words (stage own func planes earlier updates) → (update : Option Update) → slice_get func.updates updates ≡ update
@@ -96,23 +104,28 @@ module _ (inputs : List Input) (funcs : List Func) (are : AreFuncs inputs funcs)
     pub stage_words : (updates : ℕ) → Words (stage own func planes earlier updates)
     unfolding stage
     stage_words zero = λ x y wx wy.
-        value_word (reads_of planes earlier) words own (is_argument (dimensions func)) (at_point x y) (point_small (dimensions func) x y wx wy) func.pure (are own func func_is).pure
+        value_word (reads_of planes earlier) words own (is_argument (dimensions func)) (at_point x y) (point_small (dimensions func) x y wx wy) func.pure
+        (are own func func_is).pure
     stage_words (suc updates) = step_words updates (stage_words updates) (slice_get func.updates updates) refl
 
-  func_words : (own : ℕ) (func : Option Func) → slice_get funcs own ≡ func → AnswerWords inputs (reads_of planes (pixels funcs planes own)) → Words (func_plane own func planes (pixels funcs planes own))
+  func_words : (own : ℕ) (func : Option Func) → slice_get funcs own ≡ func → AnswerWords inputs (reads_of planes (pixels funcs planes own))
+      → Words (func_plane own func planes (pixels funcs planes own))
   func_words own None is words = λ x y wx wy. omega arith
   func_words own (Some func) is words = stage_words own func is words (length func.updates)
 
-  pub pixels_words : AnswerWords inputs (reads_of planes (pixels funcs planes 0)) → (count : ℕ) → AnswerWords inputs (reads_of planes (pixels funcs planes count))
+  pub pixels_words : AnswerWords inputs (reads_of planes (pixels funcs planes 0)) → (count : ℕ)
+      → AnswerWords inputs (reads_of planes (pixels funcs planes count))
   unfolding pixels
   pixels_words none zero = none
   pixels_words none (suc count) =
       let words = pixels_words none count in
-      with_words count (func_plane count (slice_get funcs count) planes (pixels funcs planes count)) (pixels funcs planes count) (func_words count (slice_get funcs count) refl words) words
+      with_words count (func_plane count (slice_get funcs count) planes (pixels funcs planes count)) (pixels funcs planes count)
+      (func_words count (slice_get funcs count) refl words) words
 
 pub pixels_are_words : PixelsAreWords
 pixels_are_words inputs funcs planes are none count = pixels_words inputs funcs are planes none count
 
 pub stages_are_words : StagesAreWords
 stages_are_words inputs funcs planes are own func func_is words at update update_is number x y wx wy =
-    after_words inputs funcs are planes own func func_is words at update update_is (stage own func planes (pixels funcs planes own) at) (stage_words inputs funcs are planes own func func_is words at) number x y wx wy
+    after_words inputs funcs are planes own func func_is words at update update_is (stage own func planes (pixels funcs planes own) at)
+    (stage_words inputs funcs are planes own func func_is words at) number x y wx wy

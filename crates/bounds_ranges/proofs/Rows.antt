@@ -10,7 +10,12 @@ lasts = 5 ∷ 0 ∷ 0 ∷ 0 ∷ 0 ∷ []
 
 -- so often that loop, and from 0 to a number
 abbrev strip : ℕ → ℕ → Range
-strip stride most = record { base = record { more = stride; less = 0 } ∷ zero_multiple ∷ zero_multiple ∷ zero_multiple ∷ zero_multiple ∷ []; low = origin; high = origin + most }
+strip stride most = record {
+  base = record { more = stride; less = 0 } ∷ zero_multiple ∷ zero_multiple ∷ zero_multiple ∷ zero_multiple ∷ [];
+  low =
+      origin;
+  high = origin + most;
+}
 
 abbrev seven : Range
 seven = between (origin - 7) (origin + 7)

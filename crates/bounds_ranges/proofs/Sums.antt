@@ -168,14 +168,16 @@ same_sums [] (b ∷ bs) (v ∷ values) [] below sa sb e = absurd below
 same_sums [] (b ∷ bs) (v ∷ values) (l ∷ lasts) below sa sb e =
     let p = and_parts (same_multiple zero_multiple b) (same_base [] bs) e in
     let s = same_times zero_multiple b v l below.0 (omega arith) (omega arith) (head_more b bs l lasts sb) (head_less b bs l lasts sb) p.0 in
-    let tail : more_sum [] values + less_sum bs values ≡ more_sum bs values + less_sum [] values = same_sums [] bs values lasts below.1 (record { more = omega arith; less = omega arith }) (tail_small b bs l lasts sb) p.1 in
+    let tail : more_sum [] values + less_sum bs values ≡ more_sum bs values + less_sum [] values = same_sums [] bs values lasts below.1
+    (record { more = omega arith; less = omega arith }) (tail_small b bs l lasts sb) p.1 in
     omega (arith, s, tail)
 same_sums (a ∷ aas) [] [] lasts below sa sb e = refl
 same_sums (a ∷ aas) [] (v ∷ values) [] below sa sb e = absurd below
 same_sums (a ∷ aas) [] (v ∷ values) (l ∷ lasts) below sa sb e =
     let p = and_parts (same_multiple a zero_multiple) (same_base aas []) e in
     let s = same_times a zero_multiple v l below.0 (head_more a aas l lasts sa) (head_less a aas l lasts sa) (omega arith) (omega arith) p.0 in
-    let tail : more_sum aas values + less_sum [] values ≡ more_sum [] values + less_sum aas values = same_sums aas [] values lasts below.1 (tail_small a aas l lasts sa) (record { more = omega arith; less = omega arith }) p.1 in
+    let tail : more_sum aas values + less_sum [] values ≡ more_sum [] values + less_sum aas values = same_sums aas [] values lasts below.1
+    (tail_small a aas l lasts sa) (record { more = omega arith; less = omega arith }) p.1 in
     omega (arith, s, tail)
 same_sums (a ∷ aas) (b ∷ bs) [] lasts below sa sb e = refl
 same_sums (a ∷ aas) (b ∷ bs) (v ∷ values) [] below sa sb e = absurd below

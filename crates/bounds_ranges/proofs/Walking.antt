@@ -20,7 +20,8 @@ use Rattle.bounds_ranges.specs.declared.expressions.OwnCalls.{OwnCalls}
 use Rattle.bounds_ranges.specs.declared.expressions.Variables.{Variables}
 use Rattle.bounds_ranges.specs.declared.ranges.Range.{Range}
 use Rattle.bounds_ranges.specs.Ranges.{IsFit, literal}
-use Rattle.bounds_ranges.specs.Expressions.{Ranged, ranging, called, unasked, unasked_variable, AreFit, AreFitReads, range_of, walked, walked_update, ranged_update, ranges_where, is_anywhere, chosen}
+use Rattle.bounds_ranges.specs.Expressions.{Ranged, ranging, called, unasked, unasked_variable, AreFit, AreFitReads, range_of, walked, walked_update}
+use Rattle.bounds_ranges.specs.Expressions.{ranged_update, ranges_where, is_anywhere, chosen}
 use Rattle.bounds_ranges.specs.inner.Walking.{answer_of}
 
 pub two_asked : (old first second a b : List Asked) → first ≡ old ++ a → second ≡ first ++ b → second ≡ old ++ (a ++ b)
@@ -28,11 +29,18 @@ two_asked old first second a b e f = f ∙ ap (λ (l : List Asked). l ++ b) e �
 
 -- the ranges of a definition's variables
 pub variables_are : (lasts : List ℕ) (inputs : List Input) (x y zero : Range) → zero ≡ literal lasts 0
-    → unasked_variable (range_of (record { first_argument = x; second_argument = y; first_reduction = zero; second_reduction = zero })) ≡ arguments (none (ranging lasts inputs)) (unasked x) (unasked y)
+    → unasked_variable (range_of (record { first_argument = x; second_argument = y; first_reduction = zero; second_reduction = zero }))
+    ≡ arguments (none (ranging lasts inputs)) (unasked x) (unasked y)
 unfolding ranging
 variables_are lasts inputs x y zero is = fun_ext by_variable
   where
-    by_variable : (v : Variable) → unasked_variable (range_of (record { first_argument = x; second_argument = y; first_reduction = zero; second_reduction = zero })) v ≡ arguments (none (ranging lasts inputs)) (unasked x) (unasked y) v
+    by_variable : (v : Variable) → unasked_variable (range_of (record {
+      first_argument = x;
+      second_argument = y;
+      first_reduction = zero;
+      second_reduction =
+          zero;
+    })) v ≡ arguments (none (ranging lasts inputs)) (unasked x) (unasked y) v
     by_variable variables.FirstArgument = refl
     by_variable variables.SecondArgument = refl
     by_variable variables.FirstReduction = ap unasked is
@@ -63,7 +71,8 @@ module _ (lasts : List ℕ) (inputs : List Input) (flags : List Bool) (funcs : L
   unfolding ranging
   answered1 (sources.Input place) x = refl
   answered1 (sources.Func place) x =
-      subst (λ (found : Option (Ranged → Option Ranged → Ranged)). Behind1 (sources.Func place) x found) (sym (inside_is (ranging lasts inputs) (flagged flags) funcs count place))
+      subst (λ (found : Option (Ranged → Option Ranged → Ranged)). Behind1 (sources.Func place) x found) (sym (inside_is (ranging lasts inputs) (flagged flags)
+      funcs count place))
       (made1 (sources.Func place) x (inside (ranging lasts inputs) (flagged flags) funcs place) (func_in funcs (flagged flags) count place))
 
   abbrev pub Behind2 : Source → Ranged → Ranged → Option (Ranged → Option Ranged → Ranged) → Type 0
@@ -77,34 +86,44 @@ module _ (lasts : List ℕ) (inputs : List Input) (flags : List Bool) (funcs : L
   made2 : (s : Source) (x y : Ranged) (deep : Inside Ranged) (func : Option Func) → Behind2 s x y (made_in (ranging lasts inputs) deep func)
   unfolding ranging
   made2 s x y deep None =
-      ap (λ (l : List Asked). record { range = called inputs s; asked = l }) (append_assoc x.asked y.asked (record { source = s; x = x.range; y = y.range } ∷ []))
+      ap (λ (l : List Asked). record { range = called inputs s; asked = l }) (append_assoc x.asked y.asked (record { source = s; x = x.range; y = y.range }
+      ∷ []))
   made2 s x y deep (Some func) = refl
 
   pub answered2 : (s : Source) (x y : Ranged) → Behind2 s x y (answer within s)
   unfolding ranging
   answered2 (sources.Input place) x y =
-      ap (λ (l : List Asked). record { range = called inputs (sources.Input place); asked = l }) (append_assoc x.asked y.asked (record { source = sources.Input place; x = x.range; y = y.range } ∷ []))
+      ap (λ (l : List Asked). record { range = called inputs (sources.Input place); asked = l }) (append_assoc x.asked y.asked
+      (record { source = sources.Input place; x = x.range; y = y.range } ∷ []))
   answered2 (sources.Func place) x y =
-      subst (λ (found : Option (Ranged → Option Ranged → Ranged)). Behind2 (sources.Func place) x y found) (sym (inside_is (ranging lasts inputs) (flagged flags) funcs count place))
+      subst (λ (found : Option (Ranged → Option Ranged → Ranged)). Behind2 (sources.Func place) x y found)
+      (sym (inside_is (ranging lasts inputs) (flagged flags) funcs count place))
       (made2 (sources.Func place) x y (inside (ranging lasts inputs) (flagged flags) funcs place) (func_in funcs (flagged flags) count place))
 
   -- a call that isn't inlined
-  pub answer_alone : (place : ℕ) (s : Source) (x y : Range) → s ≡ sources.Func place → func_in funcs (flagged flags) count place ≡ None → answer_of lasts inputs flags funcs count s x y ≡ alone s x y
+  pub answer_alone : (place : ℕ) (s : Source) (x y : Range) → s ≡ sources.Func place → func_in funcs (flagged flags) count place ≡ None
+      → answer_of lasts inputs flags funcs count s x y ≡ alone s x y
   answer_alone place s x y is found =
       ap (λ (t : Source). answered (alone s x y) (unasked x) (Some (unasked y)) (answer within t)) is
-      ∙ ap (λ (i : Option (Ranged → Option Ranged → Ranged)). answered (alone s x y) (unasked x) (Some (unasked y)) i) (inside_is (ranging lasts inputs) (flagged flags) funcs count place)
-      ∙ ap (λ (f : Option Func). answered (alone s x y) (unasked x) (Some (unasked y)) (made_in (ranging lasts inputs) (inside (ranging lasts inputs) (flagged flags) funcs place) f)) found
+      ∙ ap (λ (i : Option (Ranged → Option Ranged → Ranged)). answered (alone s x y) (unasked x) (Some (unasked y)) i) (inside_is (ranging lasts inputs)
+      (flagged flags) funcs count place)
+      ∙ ap (λ (f : Option Func). answered (alone s x y) (unasked x) (Some (unasked y)) (made_in (ranging lasts inputs) (inside (ranging lasts inputs)
+      (flagged flags) funcs place) f)) found
 
   -- one that is
-  pub answer_inlined : (place : ℕ) (func : Func) (s : Source) (x y zero : Range) → s ≡ sources.Func place → func_in funcs (flagged flags) count place ≡ Some func → zero ≡ literal lasts 0
+  pub answer_inlined : (place : ℕ) (func : Func) (s : Source) (x y zero : Range) → s ≡ sources.Func place → func_in funcs (flagged flags) count place
+      ≡ Some func → zero ≡ literal lasts 0
       → answer_of lasts inputs flags funcs count s x y
       ≡ walked lasts inputs flags funcs place (record { first_argument = x; second_argument = y; first_reduction = zero; second_reduction = zero }) func.pure
   unfolding ranging
   answer_inlined place func s x y zero is found z =
       ap (λ (t : Source). answered (alone s x y) (unasked x) (Some (unasked y)) (answer within t)) is
-      ∙ ap (λ (i : Option (Ranged → Option Ranged → Ranged)). answered (alone s x y) (unasked x) (Some (unasked y)) i) (inside_is (ranging lasts inputs) (flagged flags) funcs count place)
-      ∙ ap (λ (f : Option Func). answered (alone s x y) (unasked x) (Some (unasked y)) (made_in (ranging lasts inputs) (inside (ranging lasts inputs) (flagged flags) funcs place) f)) found
-      ∙ ap (λ (vars : Variable → Ranged). through (ranging lasts inputs) (inside (ranging lasts inputs) (flagged flags) funcs place) vars func.pure) (sym (variables_are lasts inputs x y zero z))
+      ∙ ap (λ (i : Option (Ranged → Option Ranged → Ranged)). answered (alone s x y) (unasked x) (Some (unasked y)) i) (inside_is (ranging lasts inputs)
+      (flagged flags) funcs count place)
+      ∙ ap (λ (f : Option Func). answered (alone s x y) (unasked x) (Some (unasked y)) (made_in (ranging lasts inputs) (inside (ranging lasts inputs)
+      (flagged flags) funcs place) f)) found
+      ∙ ap (λ (vars : Variable → Ranged). through (ranging lasts inputs) (inside (ranging lasts inputs) (flagged flags) funcs place) vars func.pure)
+      (sym (variables_are lasts inputs x y zero z))
 
 pub are_fit : (lasts : List ℕ) (x y zero : Range) → IsFit lasts x → IsFit lasts y → IsFit lasts zero
     → AreFit lasts (record { first_argument = x; second_argument = y; first_reduction = zero; second_reduction = zero })
@@ -118,11 +137,14 @@ three_asked old first second third a b c e f g = two_asked old first third a (b 
 
 pub joined2 : (old first second a b c d whole : List Asked) → first ≡ old ++ a → a ≡ c → second ≡ first ++ b → b ≡ d → whole ≡ c ++ d → second ≡ old ++ whole
 joined2 old first second a b c d whole e f g h i =
-    two_asked old first second c d (e ∙ ap (λ (l : List Asked). old ++ l) f) (g ∙ ap (λ (l : List Asked). first ++ l) h) ∙ ap (λ (l : List Asked). old ++ l) (sym i)
+    two_asked old first second c d (e ∙ ap (λ (l : List Asked). old ++ l) f) (g ∙ ap (λ (l : List Asked). first ++ l) h)
+    ∙ ap (λ (l : List Asked). old ++ l) (sym i)
 
-pub joined3 : (old first second third a b c d g h whole : List Asked) → first ≡ old ++ a → a ≡ d → second ≡ first ++ b → b ≡ g → third ≡ second ++ c → c ≡ h → whole ≡ d ++ (g ++ h) → third ≡ old ++ whole
+pub joined3 : (old first second third a b c d g h whole : List Asked) → first ≡ old ++ a → a ≡ d → second ≡ first ++ b → b ≡ g → third ≡ second ++ c → c ≡ h
+    → whole ≡ d ++ (g ++ h) → third ≡ old ++ whole
 joined3 old first second third a b c d g h whole e f i j k l m =
-    three_asked old first second third d g h (e ∙ ap (λ (x : List Asked). old ++ x) f) (i ∙ ap (λ (x : List Asked). first ++ x) j) (k ∙ ap (λ (x : List Asked). second ++ x) l) ∙ ap (λ (x : List Asked). old ++ x) (sym m)
+    three_asked old first second third d g h (e ∙ ap (λ (x : List Asked). old ++ x) f) (i ∙ ap (λ (x : List Asked). first ++ x) j) (k
+    ∙ ap (λ (x : List Asked). second ++ x) l) ∙ ap (λ (x : List Asked). old ++ x) (sym m)
 
 -- ---- an update's calls
 
@@ -134,7 +156,8 @@ module _ (lasts : List ℕ) (inputs : List Input) (flags : List Bool) (funcs : L
   within_update = inside (ranging lasts inputs) (flagged flags) funcs count
 
   abbrev level_update : Expr-F (Bool → Ranged) → Bool → Ranged
-  level_update level around = through_at (ranging lasts inputs) within_update (unasked_variable (ranges_where lasts (range_of given) around)) (chosen own around level)
+  level_update level around = through_at (ranging lasts inputs) within_update (unasked_variable (ranges_where lasts (range_of given) around))
+      (chosen own around level)
 
   abbrev first_at : Bool → Source → Bool
   first_at around s = is_anywhere own around s own.first_in_place
@@ -146,7 +169,8 @@ module _ (lasts : List ℕ) (inputs : List Input) (flags : List Bool) (funcs : L
       → of_update around expr
       ≡ record {
         range = (answer_of lasts inputs flags funcs count s (of_update (first_at around s) a).range (literal lasts 0)).range;
-        asked = (of_update (first_at around s) a).asked ++ (answer_of lasts inputs flags funcs count s (of_update (first_at around s) a).range (literal lasts 0)).asked;
+        asked = (of_update (first_at around s) a).asked ++ (answer_of lasts inputs flags funcs count s (of_update (first_at around s) a).range
+            (literal lasts 0)).asked;
       }
   unfolding ranged_update
   update_call1 around s a is =
@@ -159,7 +183,8 @@ module _ (lasts : List ℕ) (inputs : List Input) (flags : List Bool) (funcs : L
       ≡ record {
         range = (answer_of lasts inputs flags funcs count s (of_update (first_at around s) a).range (of_update (second_at around s) b).range).range;
         asked = (of_update (first_at around s) a).asked
-            ++ ((of_update (second_at around s) b).asked ++ (answer_of lasts inputs flags funcs count s (of_update (first_at around s) a).range (of_update (second_at around s) b).range).asked);
+            ++ ((of_update (second_at around s) b).asked ++ (answer_of lasts inputs flags funcs count s (of_update (first_at around s) a).range
+            (of_update (second_at around s) b).range).asked);
       }
   unfolding ranged_update
   update_call2 around s a b is =

@@ -116,7 +116,8 @@ unfoldable pub ranged_update : List ℕ → List Input → (ℕ → Bool) → Li
 ranged_update lasts inputs is_inlined funcs count own ranges e =
     fold-Expr (Bool → Ranged)
     (λ level around.
-    through_at (ranging lasts inputs) (inside (ranging lasts inputs) is_inlined funcs count) (unasked_variable (ranges_where lasts ranges around)) (chosen own around level))
+    through_at (ranging lasts inputs) (inside (ranging lasts inputs) is_inlined funcs count) (unasked_variable (ranges_where lasts ranges around))
+    (chosen own around level))
     e
 
 -- ---- as code has them

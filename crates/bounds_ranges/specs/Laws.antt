@@ -79,7 +79,8 @@ UpdateRangesCover = (lasts values : List ℕ) → Below values lasts → (reads 
     → (count : ℕ) (own : OwnCalls) (has : Variable → Bool) (ranges : Variable → Range) (environment : Environment)
     → ((around : Bool) (v : Variable) → has v ≡ true → Lies lasts values (ranges_where lasts ranges around v) (variable environment v))
     → (e : Expr) → keeps (is_read inputs funcs count) has e ≡ true → (around : Bool)
-    → Covers lasts values (ranged_update lasts inputs is_inlined funcs count own ranges e around) (inlined (seeing reads) is_inlined funcs count (seen_variable environment) e)
+    → Covers lasts values (ranged_update lasts inputs is_inlined funcs count own ranges e around) (inlined (seeing reads) is_inlined funcs count
+    (seen_variable environment) e)
 
 -- ---- pixels
 

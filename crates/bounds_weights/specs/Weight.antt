@@ -3,7 +3,8 @@
 -- A stage weighs the nodes of its expressions, with their inlined Funcs put in place, and one for each of its loops, in each copy of its
 -- code. Of an update the indexes on the left count beside the right side.
 -- This project's own.
-use Rattle.std.specs.Prelude.{◌≤◌, ◌<◌, ℕ, ◌+◌, ◌*◌, Bool, not, ◌&&◌, if◌then◌else◌, List, [], ◌∷◌, length, Option, Some, None, Result, Ok, Err, slice_get, false, ◌==◌, ◌||◌, nat_lt, max}
+use Rattle.std.specs.Prelude.{◌≤◌, ◌<◌, ℕ, ◌+◌, ◌*◌, Bool, not, ◌&&◌, if◌then◌else◌, List, [], ◌∷◌, length, Option, Some, None, Result, Ok, Err, slice_get}
+use Rattle.std.specs.Prelude.{false, ◌==◌, ◌||◌, nat_lt, max}
 use Rattle.halide_pipeline.specs.declared.definitions.Func.{Func}
 use Rattle.halide_pipeline.specs.declared.definitions.Update.{Update}
 use Rattle.halide_pipeline.specs.declared.expressions.Expr.{Expr}

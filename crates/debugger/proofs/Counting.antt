@@ -20,7 +20,8 @@ resting-makes-none (Trapped trap) rests = refl
 pub running-makes-one : (status : Status) → status ≡ Running → one_if_running status ≡ 1
 running-makes-one status runs = ap one_if_running runs
 
-stayed-by : (state : State) (hart made more : ℕ) → turn (run state (replicate made hart)) hart ≡ run state (replicate made hart) → (hart_at (run state (replicate made hart)) hart).status ≢ Running → steps_of state hart (more + made) ≡ steps_of state hart made
+stayed-by : (state : State) (hart made more : ℕ) → turn (run state (replicate made hart)) hart ≡ run state (replicate made hart)
+    → (hart_at (run state (replicate made hart)) hart).status ≢ Running → steps_of state hart (more + made) ≡ steps_of state hart made
 stayed-by state hart made zero stays rests = let e : 0 + made ≡ made = omega arith in ap (steps_of state hart) e
 stayed-by state hart made (suc more) stays rests =
     let same = run-stayed state hart made (more + made) (omega arith) stays in
@@ -29,12 +30,14 @@ stayed-by state hart made (suc more) stays rests =
     let e : suc more + made ≡ suc (more + made) = omega arith in
     ap (steps_of state hart) e ∙ omega (arith, none, before)
 
-pub steps-stayed : (state : State) (hart made turns : ℕ) → made ≤ turns → turn (run state (replicate made hart)) hart ≡ run state (replicate made hart) → (hart_at (run state (replicate made hart)) hart).status ≢ Running → steps_of state hart turns ≡ steps_of state hart made
+pub steps-stayed : (state : State) (hart made turns : ℕ) → made ≤ turns → turn (run state (replicate made hart)) hart ≡ run state (replicate made hart)
+    → (hart_at (run state (replicate made hart)) hart).status ≢ Running → steps_of state hart turns ≡ steps_of state hart made
 steps-stayed state hart made turns within stays rests =
     let e : turns ≡ (turns - made) + made = omega arith in
     ap (steps_of state hart) e ∙ stayed-by state hart made (turns - made) stays rests
 
-pub steps-more : (state : State) (hart n : ℕ) → steps_of state hart (n + 1) ≡ steps_of state hart n + one_if_running (hart_at (run state (replicate n hart)) hart).status
+pub steps-more : (state : State) (hart n : ℕ) → steps_of state hart (n + 1) ≡ steps_of state hart n + one_if_running (hart_at (run state (replicate n hart))
+    hart).status
 steps-more state hart n = let e : n + 1 ≡ suc n = omega arith in ap (steps_of state hart) e
 
 pub rest-steps : (state : State) (hart turns : ℕ) → hart < length state.harts → (hart_at state hart).status ≢ Running → steps_of state hart turns ≡ 0
@@ -52,17 +55,20 @@ same_hart turns hart count other more is found = ap hart_of (sym is ∙ found)
 -- ---- turns of a log
 
 -- turns of one hart that stand at a place are counted as those of the log there
-pub steps-standing : (session : SessionState) (place hart count n : ℕ) → Stand session.log.turns place hart count → n ≤ count → steps_of (state_at session place) hart n ≡ steps_from session place n
+pub steps-standing : (session : SessionState) (place hart count n : ℕ) → Stand session.log.turns place hart count → n ≤ count
+    → steps_of (state_at session place) hart n ≡ steps_from session place n
 steps-standing session place hart count zero stand within = refl
 steps-standing session place hart count (suc n) stand within =
     let before = steps-standing session place hart count n stand (omega arith) in
-    let state : state_at session (place + n) ≡ run (state_at session place) (replicate n hart) = run-standing (machine_of session.image session.log.harts) session.log.turns place hart count n stand (omega arith) in
+    let state : state_at session (place + n) ≡ run (state_at session place) (replicate n hart) = run-standing (machine_of session.image session.log.harts)
+    session.log.turns place hart count n stand (omega arith) in
     let next = ap (counts_next (state_at session (place + n))) (next-standing session.log.turns place hart count n stand (omega arith)) in
     let last = next ∙ ap (λ (s : State). one_if_running (hart_at s hart).status) state in
     omega (arith, before, last)
 
 -- some turns and then some more
-pub steps-on : (session : SessionState) (place n more : ℕ) → steps_from session place (n + more) ≡ steps_from session place n + steps_from session (place + n) more
+pub steps-on : (session : SessionState) (place n more : ℕ) → steps_from session place (n + more) ≡ steps_from session place n + steps_from session (place + n)
+    more
 steps-on session place n zero = let e : n + 0 ≡ n = omega arith in ap (steps_from session place) e ∙ omega arith
 steps-on session place n (suc more) =
     let e : n + suc more ≡ suc (n + more) = omega arith in

@@ -1,5 +1,6 @@
 -- Kept places, whichever are let go and wherever a machine is put back to.
-use Rattle.std.proofs.Common.{◌≡◌, ◌∙◌, ◌+◌, ◌/◌, ◌%◌, ◌<◌, ◌≤◌, ℕ, zero, suc, Bool, false, refl, sym, ap, subst, arith, List, [], ◌∷◌, ◌++◌, length, take, All, Option, Some, None, remove}
+use Rattle.std.proofs.Common.{◌≡◌, ◌∙◌, ◌+◌, ◌/◌, ◌%◌, ◌<◌, ◌≤◌, ℕ, zero, suc, Bool, false, refl, sym, ap, subst, arith, List, [], ◌∷◌, ◌++◌, length, take, All}
+use Rattle.std.proofs.Common.{Option, Some, None, remove}
 use Rattle.std.specs.Prelude.{option_map, slice_get, slice_index, slice_index_or}
 use Rattle.std.proofs.lemmas.List.{ext_get_or}
 use Rattle.std.proofs.lemmas.List.Elements.{All-cons, All-nil, All-weaker}
@@ -35,7 +36,8 @@ last-same : (f g : ℕ → ℕ) (copies : List KeptPlace) → ((i : ℕ) → f i
 last-same f g [] same i = same i
 last-same f g (copy ∷ copies) same i = last-same (over copy.pages.items f) (over copy.pages.items g) copies (over_congruent copy.pages.items f g same) i
 
-kept-same : (image : ImageContents) (log : LogState) (f g : ℕ → ℕ) (copies : List KeptPlace) → ((i : ℕ) → f i ≡ g i) → AreKept image log f copies → AreKept image log g copies
+kept-same : (image : ImageContents) (log : LogState) (f g : ℕ → ℕ) (copies : List KeptPlace) → ((i : ℕ) → f i ≡ g i) → AreKept image log f copies
+    → AreKept image log g copies
 kept-same image log f g [] same are = tt
 kept-same image log f g (copy ∷ copies) same are = (
   record {
@@ -52,19 +54,24 @@ last-push : (f : ℕ → ℕ) (copies : List KeptPlace) (copy : KeptPlace) (i : 
 last-push f [] copy i = refl
 last-push f (first ∷ copies) copy i = last-push (over first.pages.items f) copies copy i
 
-kept-push : (image : ImageContents) (log : LogState) (f : ℕ → ℕ) (copies : List KeptPlace) (copy : KeptPlace) → AreKept image log f copies → IsKept image log (last_of f copies) copy → AreKept image log f (copies ++ copy ∷ [])
+kept-push : (image : ImageContents) (log : LogState) (f : ℕ → ℕ) (copies : List KeptPlace) (copy : KeptPlace) → AreKept image log f copies
+    → IsKept image log (last_of f copies) copy → AreKept image log f (copies ++ copy ∷ [])
 kept-push image log f [] copy are is = (is, tt)
 kept-push image log f (first ∷ copies) copy are is = (are.0, kept-push image log (over first.pages.items f) copies copy are.1 is)
 
 -- ---- one place more
 
-pub one-more : (image : ImageContents) (log : LogState) (kept new : Kept) (copy : KeptPlace) (memory : List ℕ) → new.below.items ≡ kept.below.items → new.places.items ≡ kept.places.items ++ copy ∷ [] → length new.written.items ≡ length kept.written.items
-    → KeptFits image log kept memory → IsKept image log (last_kept image kept) copy → memory ≡ (there image log copy.place).memory → KeptFits image log new memory
+pub one-more : (image : ImageContents) (log : LogState) (kept new : Kept) (copy : KeptPlace) (memory : List ℕ) → new.below.items ≡ kept.below.items
+    → new.places.items ≡ kept.places.items ++ copy ∷ [] → length new.written.items ≡ length kept.written.items
+    → KeptFits image log kept memory → IsKept image log (last_kept image kept) copy → memory ≡ (there image log copy.place).memory
+    → KeptFits image log new memory
 one-more image log kept new copy memory same more flags fits is here = record {
   slots = ap (λ (xs : List (Option PageCopy)). length xs) same ∙ fits.slots;
   flags = flags ∙ fits.flags;
   below = subst (λ (xs : List (Option PageCopy)). AreBelow (length image.bytes) xs) (sym same) fits.below;
-  places = subst (λ (xs : List (Option PageCopy)). AreKept image log (lowest xs (slice_index image.bytes)) new.places.items) (sym same) (subst (λ (cs : List KeptPlace). AreKept image log (first_of image kept) cs) (sym more) (kept-push image log (first_of image kept) kept.places.items copy fits.places is));
+  places = subst (λ (xs : List (Option PageCopy)). AreKept image log (lowest xs (slice_index image.bytes)) new.places.items) (sym same)
+      (subst (λ (cs : List KeptPlace). AreKept image log (first_of image kept) cs) (sym more) (kept-push image log (first_of image kept) kept.places.items copy
+      fits.places is));
   last = record {
     each = λ i below isnt.
         let holds = subst (λ (m : List ℕ). Holds m (over copy.pages.items (last_kept image kept))) (sym here) is.holds in
@@ -76,7 +83,8 @@ one-more image log kept new copy memory same more flags fits is here = record {
 }
 
 -- the last place of those that are kept in another way
-pub still-kept : (image : ImageContents) (log : LogState) (f g : ℕ → ℕ) (copy : KeptPlace) → ((i : ℕ) → f i ≡ g i) → IsKept image log f copy → IsKept image log g copy
+pub still-kept : (image : ImageContents) (log : LogState) (f g : ℕ → ℕ) (copy : KeptPlace) → ((i : ℕ) → f i ≡ g i) → IsKept image log f copy
+    → IsKept image log g copy
 still-kept image log f g copy same is = record {
   within = is.within;
   every = is.every;
@@ -93,31 +101,38 @@ Settled below new first = (f : ℕ → ℕ) (i : ℕ) → lowest new f i ≡ ove
 last-let-go : (image : ImageContents) (below new : List (Option PageCopy)) (first : KeptPlace) (others : List KeptPlace) → Settled below new first → (i : ℕ)
     → last_of (lowest below (slice_index image.bytes)) (first ∷ others) i ≡ last_of (lowest new (slice_index image.bytes)) others i
 last-let-go image below new first others settled i =
-    sym (last-same (lowest new (slice_index image.bytes)) (over first.pages.items (lowest below (slice_index image.bytes))) others (settled (slice_index image.bytes)) i)
+    sym (last-same (lowest new (slice_index image.bytes)) (over first.pages.items (lowest below (slice_index image.bytes))) others
+    (settled (slice_index image.bytes)) i)
 
-kept-let-go : (image : ImageContents) (log : LogState) (below new : List (Option PageCopy)) (first : KeptPlace) (others : List KeptPlace) → Settled below new first
+kept-let-go : (image : ImageContents) (log : LogState) (below new : List (Option PageCopy)) (first : KeptPlace) (others : List KeptPlace)
+    → Settled below new first
     → AreKept image log (lowest below (slice_index image.bytes)) (first ∷ others) → AreKept image log (lowest new (slice_index image.bytes)) others
 kept-let-go image log below new first others settled are =
-    kept-same image log (over first.pages.items (lowest below (slice_index image.bytes))) (lowest new (slice_index image.bytes)) others (λ i. sym (settled (slice_index image.bytes) i)) are.1
+    kept-same image log (over first.pages.items (lowest below (slice_index image.bytes))) (lowest new (slice_index image.bytes)) others
+    (λ i. sym (settled (slice_index image.bytes) i)) are.1
 
-pub gone-last : (image : ImageContents) (kept new : Kept) (first : KeptPlace) (others : List KeptPlace) → kept.places.items ≡ first ∷ others → new.places.items ≡ others
+pub gone-last : (image : ImageContents) (kept new : Kept) (first : KeptPlace) (others : List KeptPlace) → kept.places.items ≡ first ∷ others
+    → new.places.items ≡ others
     → Settled kept.below.items new.below.items first → (i : ℕ) → last_kept image kept i ≡ last_kept image new i
 gone-last image kept new first others is rest settled i =
     ap (λ (cs : List KeptPlace). last_of (first_of image kept) cs i) is
     ∙ last-let-go image kept.below.items new.below.items first others settled i
     ∙ ap (λ (cs : List KeptPlace). last_of (first_of image new) cs i) (sym rest)
 
-pub gone-fits : (image : ImageContents) (log : LogState) (kept new : Kept) (first : KeptPlace) (others : List KeptPlace) (memory : List ℕ) → kept.places.items ≡ first ∷ others → new.places.items ≡ others
+pub gone-fits : (image : ImageContents) (log : LogState) (kept new : Kept) (first : KeptPlace) (others : List KeptPlace) (memory : List ℕ)
+    → kept.places.items ≡ first ∷ others → new.places.items ≡ others
     → new.written.items ≡ kept.written.items → length new.below.items ≡ length kept.below.items → Settled kept.below.items new.below.items first
     → (AreBelow (length image.bytes) kept.below.items → ArePages (length image.bytes) first → AreBelow (length image.bytes) new.below.items)
     → KeptFits image log kept memory → KeptFits image log new memory
 gone-fits image log kept new first others memory is rest flags slots settled pages fits =
-    let are : AreKept image log (first_of image kept) (first ∷ others) = subst (λ (cs : List KeptPlace). AreKept image log (first_of image kept) cs) is fits.places in
+    let are : AreKept image log (first_of image kept) (first ∷ others) = subst (λ (cs : List KeptPlace). AreKept image log (first_of image kept) cs) is
+    fits.places in
     record {
       slots = slots ∙ fits.slots;
       flags = ap (λ (xs : List Bool). length xs) flags ∙ fits.flags;
       below = pages fits.below are.0.pages;
-      places = subst (λ (cs : List KeptPlace). AreKept image log (first_of image new) cs) (sym rest) (kept-let-go image log kept.below.items new.below.items first others settled are);
+      places = subst (λ (cs : List KeptPlace). AreKept image log (first_of image new) cs) (sym rest) (kept-let-go image log kept.below.items new.below.items
+          first others settled are);
       last = record {
         each = λ i below isnt.
             fits.last.each i below (ap (λ (xs : List Bool). is_written xs (i / 4096)) (sym flags) ∙ isnt)
@@ -126,30 +141,40 @@ gone-fits image log kept new first others memory is rest flags slots settled pag
     }
 
 -- the pages of the first place have places of their own
-pub first-below : (image : ImageContents) (log : LogState) (kept : Kept) (first : KeptPlace) (others : List KeptPlace) (memory : List ℕ) → kept.places.items ≡ first ∷ others → KeptFits image log kept memory
+pub first-below : (image : ImageContents) (log : LogState) (kept : Kept) (first : KeptPlace) (others : List KeptPlace) (memory : List ℕ)
+    → kept.places.items ≡ first ∷ others → KeptFits image log kept memory
     → All (λ (page : PageCopy). page.number < length kept.below.items) first.pages.items
 first-below image log kept first others memory is fits =
-    let are : AreKept image log (first_of image kept) (first ∷ others) = subst (λ (cs : List KeptPlace). AreKept image log (first_of image kept) cs) is fits.places in
-    All-weaker (IsPage (length image.bytes)) (λ (page : PageCopy). page.number < length kept.below.items) (λ page p. (let at = p.there in let slots = fits.slots in omega (arith, at, slots))) first.pages.items are.0.pages
+    let are : AreKept image log (first_of image kept) (first ∷ others) = subst (λ (cs : List KeptPlace). AreKept image log (first_of image kept) cs) is
+    fits.places in
+    All-weaker (IsPage (length image.bytes)) (λ (page : PageCopy). page.number < length kept.below.items) (λ page p. (let at = p.there in let slots =
+    fits.slots in omega (arith, at, slots))) first.pages.items are.0.pages
 
 -- ---- a machine that is put back
 
-kept-at : (image : ImageContents) (log : LogState) (f : ℕ → ℕ) (copies : List KeptPlace) (at : ℕ) (copy : KeptPlace) → AreKept image log f copies → slice_get copies at ≡ Some copy
+kept-at : (image : ImageContents) (log : LogState) (f : ℕ → ℕ) (copies : List KeptPlace) (at : ℕ) (copy : KeptPlace) → AreKept image log f copies
+    → slice_get copies at ≡ Some copy
     → IsKept image log (last_of f (take at copies)) copy × Holds (there image log copy.place).memory (last_of f (take (suc at) copies))
 kept-at image log f [] at copy are is = absurd cc
 kept-at image log f (first ∷ copies) zero copy are is =
-    let same : first ≡ copy = cc in
-    (subst (λ (c : KeptPlace). IsKept image log f c) same are.0, subst (λ (c : KeptPlace). Holds (there image log c.place).memory (over first.pages.items f)) same are.0.holds)
+    let same : first ≡ copy = cc in (
+      subst (λ (c : KeptPlace). IsKept image log f c) same are.0,
+      subst (λ (c : KeptPlace). Holds (there image log c.place).memory (over first.pages.items f))
+          same are.0.holds,
+    )
 kept-at image log f (first ∷ copies) (suc at) copy are is = kept-at image log (over first.pages.items f) copies at copy are.1 is
 
-get-place : (copies : List KeptPlace) (at place : ℕ) → option_map (λ (c : KeptPlace). c.place) (slice_get copies at) ≡ Some place → (copy : KeptPlace) × (slice_get copies at ≡ Some copy) × (copy.place ≡ place)
+get-place : (copies : List KeptPlace) (at place : ℕ) → option_map (λ (c : KeptPlace). c.place) (slice_get copies at) ≡ Some place
+    → (copy : KeptPlace) × (slice_get copies at ≡ Some copy) × (copy.place ≡ place)
 get-place copies at place is = go (slice_get copies at) refl is
   where
-    go : (o : Option KeptPlace) → slice_get copies at ≡ o → option_map (λ (c : KeptPlace). c.place) o ≡ Some place → (copy : KeptPlace) × (slice_get copies at ≡ Some copy) × (copy.place ≡ place)
+    go : (o : Option KeptPlace) → slice_get copies at ≡ o → option_map (λ (c : KeptPlace). c.place) o ≡ Some place
+        → (copy : KeptPlace) × (slice_get copies at ≡ Some copy) × (copy.place ≡ place)
     go None e isnt = absurd cc
     go (Some copy) e same = (copy, e, cc)
 
-pub put-there : (image : ImageContents) (log : LogState) (kept : Kept) (at place : ℕ) (memory new : List ℕ) (harts : List HartState) → KeptFits image log kept memory
+pub put-there : (image : ImageContents) (log : LogState) (kept : Kept) (at place : ℕ) (memory new : List ℕ) (harts : List HartState)
+    → KeptFits image log kept memory
     → option_map (λ (c : KeptPlace). c.place) (slice_get kept.places.items at) ≡ Some place → length new ≡ length image.bytes
     → Holds new (last_of (first_of image kept) (take (at + 1) kept.places.items))
     → ((copy : KeptPlace) → slice_get kept.places.items at ≡ Some copy → harts ≡ copy.harts.items)
@@ -173,7 +198,8 @@ put-there image log kept at place memory new harts fits is size holds own =
     ∙ ap (λ (t : List ℕ). record { text = t; memory = state.memory; harts = state.harts }) (sym shape.text)
 
 -- pages that aren't marked behind it are as at the last place
-pub fits-back : (image : ImageContents) (log : LogState) (kept new : Kept) (count : ℕ) (memory memory' : List ℕ) → KeptFits image log kept memory → new.below.items ≡ kept.below.items → new.places.items ≡ kept.places.items
+pub fits-back : (image : ImageContents) (log : LogState) (kept new : Kept) (count : ℕ) (memory memory' : List ℕ) → KeptFits image log kept memory
+    → new.below.items ≡ kept.below.items → new.places.items ≡ kept.places.items
     → length new.written.items ≡ length kept.written.items → Holds memory' (last_of (first_of image kept) (take count kept.places.items))
     → ((f : ℕ → ℕ) (i : ℕ) → is_written new.written.items (i / 4096) ≡ false → last_of f kept.places.items i ≡ last_of f (take count kept.places.items) i)
     → KeptFits image log new memory'
@@ -181,7 +207,8 @@ fits-back image log kept new count memory memory' fits same places flags holds u
   slots = ap (λ (xs : List (Option PageCopy)). length xs) same ∙ fits.slots;
   flags = flags ∙ fits.flags;
   below = subst (λ (xs : List (Option PageCopy)). AreBelow (length image.bytes) xs) (sym same) fits.below;
-  places = subst (λ (xs : List (Option PageCopy)). AreKept image log (lowest xs (slice_index image.bytes)) new.places.items) (sym same) (subst (λ (cs : List KeptPlace). AreKept image log (first_of image kept) cs) (sym places) fits.places);
+  places = subst (λ (xs : List (Option PageCopy)). AreKept image log (lowest xs (slice_index image.bytes)) new.places.items) (sym same)
+      (subst (λ (cs : List KeptPlace). AreKept image log (first_of image kept) cs) (sym places) fits.places);
   last = record {
     each = λ i below isnt.
         holds.each i below
@@ -192,7 +219,8 @@ fits-back image log kept new count memory memory' fits same places flags holds u
 }
 
 -- and at the start, where neither are those that were let go
-pub fits-start : (image : ImageContents) (log : LogState) (kept new : Kept) (memory : List ℕ) → KeptFits image log kept memory → new.below.items ≡ kept.below.items → new.places.items ≡ kept.places.items
+pub fits-start : (image : ImageContents) (log : LogState) (kept new : Kept) (memory : List ℕ) → KeptFits image log kept memory
+    → new.below.items ≡ kept.below.items → new.places.items ≡ kept.places.items
     → length new.written.items ≡ length kept.written.items
     → ((f : ℕ → ℕ) (i : ℕ) → is_written new.written.items (i / 4096) ≡ false → lowest kept.below.items f i ≡ f i)
     → ((f : ℕ → ℕ) (i : ℕ) → is_written new.written.items (i / 4096) ≡ false → last_of f kept.places.items i ≡ f i)
@@ -201,7 +229,8 @@ fits-start image log kept new memory fits same places flags below behind = recor
   slots = ap (λ (xs : List (Option PageCopy)). length xs) same ∙ fits.slots;
   flags = flags ∙ fits.flags;
   below = subst (λ (xs : List (Option PageCopy)). AreBelow (length image.bytes) xs) (sym same) fits.below;
-  places = subst (λ (xs : List (Option PageCopy)). AreKept image log (lowest xs (slice_index image.bytes)) new.places.items) (sym same) (subst (λ (cs : List KeptPlace). AreKept image log (first_of image kept) cs) (sym places) fits.places);
+  places = subst (λ (xs : List (Option PageCopy)). AreKept image log (lowest xs (slice_index image.bytes)) new.places.items) (sym same)
+      (subst (λ (cs : List KeptPlace). AreKept image log (first_of image kept) cs) (sym places) fits.places);
   last = record {
     each = λ i within isnt.
         sym (below (slice_index image.bytes) i isnt)
@@ -212,30 +241,36 @@ fits-start image log kept new memory fits same places flags below behind = recor
 }
 
 -- what is asked of a machine that stands at a place
-pub can-put-back : (image : ImageContents) (log : LogState) (kept : Kept) (memory : List ℕ) (machine : State) → KeptFits image log kept memory → KeepsShape (machine_of image log.harts) machine → CanPutBack (length machine.memory) (length machine.harts) kept
+pub can-put-back : (image : ImageContents) (log : LogState) (kept : Kept) (memory : List ℕ) (machine : State) → KeptFits image log kept memory
+    → KeepsShape (machine_of image log.harts) machine → CanPutBack (length machine.memory) (length machine.harts) kept
 can-put-back image log kept memory machine fits shape = record {
   below = subst (λ (n : ℕ). AreBelow n kept.below.items) (sym shape.bytes) fits.below;
   pages = subst (λ (n : ℕ). All (ArePages n) kept.places.items) (sym shape.bytes) (all-pages (first_of image kept) kept.places.items fits.places);
-  harts = subst (λ (n : ℕ). All (λ (copy : KeptPlace). length copy.harts.items ≡ n) kept.places.items) (sym shape.harts) (all-harts (first_of image kept) kept.places.items fits.places);
+  harts = subst (λ (n : ℕ). All (λ (copy : KeptPlace). length copy.harts.items ≡ n) kept.places.items) (sym shape.harts) (all-harts (first_of image kept)
+      kept.places.items fits.places);
 }
   where
     all-pages : (f : ℕ → ℕ) (copies : List KeptPlace) → AreKept image log f copies → All (ArePages (length image.bytes)) copies
     all-pages f [] are = All-nil (ArePages (length image.bytes))
     all-pages f (copy ∷ copies) are = All-cons (ArePages (length image.bytes)) copy copies are.0.pages (all-pages (over copy.pages.items f) copies are.1)
 
-    all-harts : (f : ℕ → ℕ) (copies : List KeptPlace) → AreKept image log f copies → All (λ (copy : KeptPlace). length copy.harts.items ≡ length (machine_of image log.harts).harts) copies
+    all-harts : (f : ℕ → ℕ) (copies : List KeptPlace) → AreKept image log f copies
+        → All (λ (copy : KeptPlace). length copy.harts.items ≡ length (machine_of image log.harts).harts) copies
     all-harts f [] are = All-nil (λ (c : KeptPlace). length c.harts.items ≡ length (machine_of image log.harts).harts)
-    all-harts f (copy ∷ copies) are = All-cons (λ (c : KeptPlace). length c.harts.items ≡ length (machine_of image log.harts).harts) copy copies (ap (λ (hs : List HartState). length hs) are.0.harts ∙ (shape-there image log copy.place).harts) (all-harts (over copy.pages.items f) copies are.1)
+    all-harts f (copy ∷ copies) are = All-cons (λ (c : KeptPlace). length c.harts.items ≡ length (machine_of image log.harts).harts) copy copies
+        (ap (λ (hs : List HartState). length hs) are.0.harts ∙ (shape-there image log copy.place).harts) (all-harts (over copy.pages.items f) copies are.1)
 
 -- ---- turns
 
-pub fits-marked : (image : ImageContents) (log : LogState) (kept new : Kept) (memory memory' : List ℕ) → new.below.items ≡ kept.below.items → new.places.items ≡ kept.places.items
+pub fits-marked : (image : ImageContents) (log : LogState) (kept new : Kept) (memory memory' : List ℕ) → new.below.items ≡ kept.below.items
+    → new.places.items ≡ kept.places.items
     → KeptFits image log kept memory → Marks memory memory' kept.written.items new.written.items → KeptFits image log new memory'
 fits-marked image log kept new memory memory' same places fits marks = record {
   slots = ap (λ (xs : List (Option PageCopy)). length xs) same ∙ fits.slots;
   flags = marks.flags ∙ fits.flags;
   below = subst (λ (xs : List (Option PageCopy)). AreBelow (length image.bytes) xs) (sym same) fits.below;
-  places = subst (λ (xs : List (Option PageCopy)). AreKept image log (lowest xs (slice_index image.bytes)) new.places.items) (sym same) (subst (λ (cs : List KeptPlace). AreKept image log (first_of image kept) cs) (sym places) fits.places);
+  places = subst (λ (xs : List (Option PageCopy)). AreKept image log (lowest xs (slice_index image.bytes)) new.places.items) (sym same)
+      (subst (λ (cs : List KeptPlace). AreKept image log (first_of image kept) cs) (sym places) fits.places);
   last = record {
     each = λ i below isnt.
         let size = marks.as_many in
@@ -248,7 +283,8 @@ fits-marked image log kept new memory memory' same places fits marks = record {
 
 -- ---- what is kept of a machine that stands at a place
 
-pub copy-kept : (image : ImageContents) (log : LogState) (kept : Kept) (place : ℕ) (machine : State) (copy : KeptPlace) → KeptFits image log kept machine.memory → machine ≡ there image log place → place ≤ length log.turns
+pub copy-kept : (image : ImageContents) (log : LogState) (kept : Kept) (place : ℕ) (machine : State) (copy : KeptPlace) → KeptFits image log kept machine.memory
+    → machine ≡ there image log place → place ≤ length log.turns
     → place % 4096 ≡ 0 → IsCopy place machine kept.written.items copy → IsKept image log (last_kept image kept) copy
 copy-kept image log kept place machine copy fits here within every is =
     let at : there image log place ≡ there image log copy.place = ap (there image log) (sym is.place_is) in
@@ -262,7 +298,8 @@ copy-kept image log kept place machine copy fits here within every is =
       holds = subst (λ (s : State). Holds s.memory (over copy.pages.items (last_kept image kept))) state (is.holds (last_kept image kept) fits.last);
     }
 
-pub copy-is : (place : ℕ) (machine : State) (written : List Bool) (bytes : List ℕ) (copy : KeptPlace) → bytes ≡ machine.memory → copy.place ≡ place → copy.harts.items ≡ machine.harts → All (IsPage (length bytes)) copy.pages.items
+pub copy-is : (place : ℕ) (machine : State) (written : List Bool) (bytes : List ℕ) (copy : KeptPlace) → bytes ≡ machine.memory → copy.place ≡ place
+    → copy.harts.items ≡ machine.harts → All (IsPage (length bytes)) copy.pages.items
     → ((f : ℕ → ℕ) → HoldsUnwritten written bytes f → Holds bytes (over copy.pages.items f)) → IsCopy place machine written copy
 copy-is place machine written bytes copy same named harts pages holds = record {
   place_is = named;
@@ -280,7 +317,8 @@ none-more (slot ∷ below) empty zero = empty 0
 none-more (slot ∷ below) empty (suc n) = none-more below (λ k. empty (suc k)) n
 
 -- the first place and those behind it
-pub first-and-rest : (places : List KeptPlace) (first : KeptPlace) → 1 ≤ length places → first ≡ slice_index_or places 0 first → places ≡ first ∷ remove places 0
+pub first-and-rest : (places : List KeptPlace) (first : KeptPlace) → 1 ≤ length places → first ≡ slice_index_or places 0 first
+    → places ≡ first ∷ remove places 0
 first-and-rest [] first some is = absurd (omega (arith, some))
 first-and-rest (place ∷ places) first some is = ap (λ (p : KeptPlace). p ∷ places) (sym is)
 
@@ -300,7 +338,8 @@ none-fits image log kept free = record {
 -- ---- what calls leave of the kept places
 
 -- the same places and pages as before
-pub same-fits : (image : ImageContents) (log : LogState) (kept new : Kept) (memory : List ℕ) → new.below.items ≡ kept.below.items → new.places.items ≡ kept.places.items → new.written.items ≡ kept.written.items
+pub same-fits : (image : ImageContents) (log : LogState) (kept new : Kept) (memory : List ℕ) → new.below.items ≡ kept.below.items
+    → new.places.items ≡ kept.places.items → new.written.items ≡ kept.written.items
     → KeptFits image log kept memory → KeptFits image log new memory
 same-fits image log kept new memory same places flags fits =
     fits-marked image log kept new memory memory same places fits
@@ -318,10 +357,13 @@ let-go image log kept new first was now memory is rest flags was-is now-is slots
     let there = first-below image log kept first others memory is fits in
     let settled : Settled kept.below.items new.below.items first =
     subst (λ (xs : List (Option PageCopy)). Settled kept.below.items xs first) (sym now-is)
-    (subst (λ (xs : List (Option PageCopy)). Settled xs now first) was-is (settles (subst (λ (xs : List (Option PageCopy)). All (λ (page : PageCopy). page.number < length xs) first.pages.items) (sym was-is) there))) in
+    (subst (λ (xs : List (Option PageCopy)). Settled xs now first) was-is
+    (settles (subst (λ (xs : List (Option PageCopy)). All (λ (page : PageCopy). page.number < length xs) first.pages.items) (sym was-is) there))) in
     let below : AreBelow (length image.bytes) kept.below.items → ArePages (length image.bytes) first → AreBelow (length image.bytes) new.below.items =
-    λ are own. subst (λ (xs : List (Option PageCopy)). AreBelow (length image.bytes) xs) (sym now-is) (pages (length image.bytes) (subst (λ (xs : List (Option PageCopy)). AreBelow (length image.bytes) xs) (sym was-is) are) own) in
-    let as-many : length new.below.items ≡ length kept.below.items = ap (λ (xs : List (Option PageCopy)). length xs) now-is ∙ slots ∙ ap (λ (xs : List (Option PageCopy)). length xs) was-is in
+    λ are own. subst (λ (xs : List (Option PageCopy)). AreBelow (length image.bytes) xs) (sym now-is) (pages (length image.bytes)
+    (subst (λ (xs : List (Option PageCopy)). AreBelow (length image.bytes) xs) (sym was-is) are) own) in
+    let as-many : length new.below.items ≡ length kept.below.items = ap (λ (xs : List (Option PageCopy)). length xs) now-is ∙ slots
+    ∙ ap (λ (xs : List (Option PageCopy)). length xs) was-is in
     (gone-fits image log kept new first others memory is rest flags as-many settled below fits, gone-last image kept new first others is rest settled)
 
 -- ---- what calls put back of a machine
@@ -332,21 +374,26 @@ get-there (first ∷ copies) zero below = (first, refl)
 get-there (first ∷ copies) (suc at) below = get-there copies at (omega (arith, below))
 
 -- data of the image under the pages that were let go, and those of so many places over them
-pub put-held : (image : ImageContents) (kept : Kept) (count : ℕ) (bytes : List ℕ) (below : List (Option PageCopy)) (places : List KeptPlace) (old one two three : State)
+pub put-held : (image : ImageContents) (kept : Kept) (count : ℕ) (bytes : List ℕ) (below : List (Option PageCopy)) (places : List KeptPlace)
+    (old one two three : State)
     → bytes ≡ image.bytes → one ≡ with_data old bytes → below ≡ kept.below.items → places ≡ kept.places.items
-    → ((f : ℕ → ℕ) → Holds one.memory f → Holds two.memory (lowest below f)) → ((f : ℕ → ℕ) → Holds two.memory f → Holds three.memory (last_of f (take count places)))
+    → ((f : ℕ → ℕ) → Holds one.memory f → Holds two.memory (lowest below f)) → ((f : ℕ → ℕ) → Holds two.memory f
+    → Holds three.memory (last_of f (take count places)))
     → Holds three.memory (last_of (first_of image kept) (take count kept.places.items))
 put-held image kept count bytes below places old one two three same first below-is places-is second third =
     let memory : one.memory ≡ image.bytes = ap (λ (s : State). s.memory) first ∙ same in
-    let begin : Holds one.memory (slice_index image.bytes) = subst (λ (m : List ℕ). Holds m (slice_index image.bytes)) (sym memory) (record { each = λ i inside. refl }) in
+    let begin : Holds one.memory (slice_index image.bytes) = subst (λ (m : List ℕ). Holds m (slice_index image.bytes)) (sym memory)
+    (record { each = λ i inside. refl }) in
     subst (λ (cs : List KeptPlace). Holds three.memory (last_of (first_of image kept) (take count cs))) places-is
     (subst (λ (xs : List (Option PageCopy)). Holds three.memory (last_of (lowest xs (slice_index image.bytes)) (take count places))) below-is
     (third (lowest below (slice_index image.bytes)) (second (slice_index image.bytes) begin)))
 
 -- and harts of the last of them
-pub put-state : (image : ImageContents) (log : LogState) (kept : Kept) (at place : ℕ) (memory bytes : List ℕ) (old one two three four : State) → KeptFits image log kept memory
+pub put-state : (image : ImageContents) (log : LogState) (kept : Kept) (at place : ℕ) (memory bytes : List ℕ) (old one two three four : State)
+    → KeptFits image log kept memory
     → option_map (λ (c : KeptPlace). c.place) (slice_get kept.places.items at) ≡ Some place → old.text ≡ image.words → bytes ≡ image.bytes
-    → one ≡ with_data old bytes → two ≡ with_data one two.memory → length two.memory ≡ length one.memory → three ≡ with_data two three.memory → length three.memory ≡ length two.memory
+    → one ≡ with_data old bytes → two ≡ with_data one two.memory → length two.memory ≡ length one.memory → three ≡ with_data two three.memory
+    → length three.memory ≡ length two.memory
     → Holds three.memory (last_of (first_of image kept) (take (at + 1) kept.places.items))
     → ((copy : KeptPlace) → slice_get kept.places.items at ≡ Some copy → four ≡ with_harts three copy.harts.items)
     → four ≡ there image log place
@@ -354,12 +401,15 @@ put-state image log kept at place memory bytes old one two three four fits is te
     let found = get-place kept.places.items at place is in
     let last : four ≡ with_harts three found.0.harts.items = own found.0 found.1 in
     let words : three.text ≡ image.words = ap (λ (s : State). s.text) third ∙ ap (λ (s : State). s.text) second ∙ ap (λ (s : State). s.text) first ∙ text in
-    let size : length three.memory ≡ length image.bytes = third-size ∙ second-size ∙ ap (λ (s : State). length s.memory) first ∙ ap (λ (m : List ℕ). length m) bytes-is in
+    let size : length three.memory ≡ length image.bytes = third-size ∙ second-size ∙ ap (λ (s : State). length s.memory) first
+    ∙ ap (λ (m : List ℕ). length m) bytes-is in
     last
     ∙ ap (λ (t : List ℕ). record { text = t; memory = three.memory; harts = found.0.harts.items }) words
-    ∙ put-there image log kept at place memory three.memory found.0.harts.items fits is size holds (λ copy got. sym (ap (λ (s : State). s.harts) last) ∙ ap (λ (s : State). s.harts) (own copy got))
+    ∙ put-there image log kept at place memory three.memory found.0.harts.items fits is size holds (λ copy got. sym (ap (λ (s : State). s.harts) last)
+    ∙ ap (λ (s : State). s.harts) (own copy got))
 
-pub put-memory : (kept : Kept) (at : ℕ) (three four : State) → at < length kept.places.items → ((copy : KeptPlace) → slice_get kept.places.items at ≡ Some copy → four ≡ with_harts three copy.harts.items) → four.memory ≡ three.memory
+pub put-memory : (kept : Kept) (at : ℕ) (three four : State) → at < length kept.places.items → ((copy : KeptPlace) → slice_get kept.places.items at ≡ Some copy
+    → four ≡ with_harts three copy.harts.items) → four.memory ≡ three.memory
 put-memory kept at three four below own =
     let found = get-there kept.places.items at below in
     ap (λ (s : State). s.memory) (own found.0 found.1)

@@ -27,7 +27,8 @@ pub record Walking (before after : CountedSession) (target : ℕ) : Type 0 where
   pub steps : after.steps ≡ counted before.steps (steps_from before.state from (after.state.place - from))
 
 -- where no turn is made yet
-pub walking-none : (before after : CountedSession) (target : ℕ) → before.steps < 2 ^ 64 → after.steps ≡ before.steps → (before.state.place ≤ target → before.state.place ≤ after.state.place)
+pub walking-none : (before after : CountedSession) (target : ℕ) → before.steps < 2 ^ 64 → after.steps ≡ before.steps → (before.state.place ≤ target
+    → before.state.place ≤ after.state.place)
     → (after.state.place % 4096 ≢ 0 → after.state.place ≡ before.state.place) → Walking before after target
 walking-none before after target few e onwards begins =
     let place = after.state.place in
@@ -43,7 +44,8 @@ walking-none before after target few e onwards begins =
     }
 
 -- some turns more
-pub walking-on : (before here after : CountedSession) (target : ℕ) → Walking before here target → here.state ≡ moved before.state here.state.place → here.state.place < after.state.place → here.steps ≤ after.steps
+pub walking-on : (before here after : CountedSession) (target : ℕ) → Walking before here target → here.state ≡ moved before.state here.state.place
+    → here.state.place < after.state.place → here.steps ≤ after.steps
     → after.steps ≡ counted here.steps (steps_from here.state here.state.place (after.state.place - here.state.place)) → Walking before after target
 walking-on before here after target walking same behind grows is =
     let from = walking.from in
@@ -65,7 +67,8 @@ walking-on before here after target walking same behind grows is =
       begins = walking.begins;
       grows = omega (arith, walking.grows, grows);
       steps = is ∙ ap (λ (k : ℕ). counted k (steps_from here.state place more)) walking.steps
-          ∙ counted-on before.steps (steps_from before.state from n) (steps_from here.state place more) (steps_from before.state from (after.state.place - from)) all;
+          ∙ counted-on before.steps (steps_from before.state from n) (steps_from here.state place more) (steps_from before.state from
+          (after.state.place - from)) all;
     }
 
 pub walked-there : (before after : CountedSession) (target : ℕ) → Walking before after target → after.state.place ≡ target → Walked before after target

@@ -13,7 +13,8 @@ use Rattle.turn_log.specs.RunAt.{Stand, run_at}
 use Rattle.turn_log.proofs.RunAtLaws.{run_at-stands, run_at-below, run_at-none}
 
 -- turns of one hart that stand at a place lead to the places behind it
-pub run-standing : (start : State) (turns : List ℕ) (place hart count n : ℕ) → Stand turns place hart count → n ≤ count → run start (take (place + n) turns) ≡ run (run start (take place turns)) (replicate n hart)
+pub run-standing : (start : State) (turns : List ℕ) (place hart count n : ℕ) → Stand turns place hart count → n ≤ count
+    → run start (take (place + n) turns) ≡ run (run start (take place turns)) (replicate n hart)
 run-standing start turns place hart count n stand within =
     let front : take n (drop place turns) ≡ replicate n hart =
     ap (take n) stand.parts
@@ -24,7 +25,9 @@ run-standing start turns place hart count n stand within =
     ∙ ap (run (run start (take place turns))) front
 
 -- a hart that isn't running leaves the state as it is at each of them
-pub run-resting : (start : State) (turns : List ℕ) (place hart count n : ℕ) → Stand turns place hart count → n ≤ count → hart < length (run start (take place turns)).harts → (hart_at (run start (take place turns)) hart).status ≢ Running → run start (take (place + n) turns) ≡ run start (take place turns)
+pub run-resting : (start : State) (turns : List ℕ) (place hart count n : ℕ) → Stand turns place hart count → n ≤ count
+    → hart < length (run start (take place turns)).harts → (hart_at (run start (take place turns)) hart).status ≢ Running
+    → run start (take (place + n) turns) ≡ run start (take place turns)
 run-resting start turns place hart count n stand within below rests =
     let state = run start (take place turns) in
     run-standing start turns place hart count n stand within ∙ run-staying state hart n (turn-resting state hart below rests)

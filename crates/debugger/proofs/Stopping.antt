@@ -1,5 +1,6 @@
 -- Which places stop, from the states on both sides of some turns.
-use Rattle.std.proofs.Common.{◌≡◌, ℕ, suc, ◌+◌, ◌-◌, ◌<◌, ◌≤◌, ◌==◌, ◌||◌, Bool, true, false, not, List, [], ◌∷◌, Option, Some, None, refl, ap, sym, ◌∙◌, arith, inl, inr}
+use Rattle.std.proofs.Common.{◌≡◌, ℕ, suc, ◌+◌, ◌-◌, ◌<◌, ◌≤◌, ◌==◌, ◌||◌, Bool, true, false, not, List, [], ◌∷◌, Option, Some, None, refl, ap, sym, ◌∙◌, arith}
+use Rattle.std.proofs.Common.{inl, inr}
 use Rattle.std.specs.Prelude.{slice_get}
 use Rattle.std.specs.List.{list_any}
 use Rattle.std.specs.Option.{option_eq}
@@ -15,7 +16,8 @@ any-none (x ∷ xs) = any-none xs
 
 -- ---- breaks
 
-pub breaks-next : (session : SessionState) (place hart : ℕ) → slice_get session.log.turns place ≡ Some hart → list_any (break_stops session place) session.breaks ≡ list_any (λ mark. mark == (hart_at (state_at session place) hart).pc) session.breaks
+pub breaks-next : (session : SessionState) (place hart : ℕ) → slice_get session.log.turns place ≡ Some hart
+    → list_any (break_stops session place) session.breaks ≡ list_any (λ mark. mark == (hart_at (state_at session place) hart).pc) session.breaks
 breaks-next session place hart next = ap (λ o. list_any (stands_on (state_at session place) o) session.breaks) next
 
 pub breaks-end : (session : SessionState) (place : ℕ) → slice_get session.log.turns place ≡ None → list_any (break_stops session place) session.breaks ≡ false
@@ -33,14 +35,17 @@ differs-itself state (address ∷ watches) =
     ap (λ b. not b || list_any (differs state state) watches) (same-itself (word_in state address)) ∙ differs-itself state watches
 
 -- where text and data are the same
-pub differs-none : (before after : State) (watches : List ℕ) → after.text ≡ before.text → after.memory ≡ before.memory → list_any (differs before after) watches ≡ false
+pub differs-none : (before after : State) (watches : List ℕ) → after.text ≡ before.text → after.memory ≡ before.memory → list_any (differs before after) watches
+    ≡ false
 differs-none before after watches text memory =
     ap (λ (t : List ℕ). list_any (differs before (record { text = t; memory = after.memory; harts = after.harts })) watches) text
     ∙ ap (λ (m : List ℕ). list_any (differs before (record { text = before.text; memory = m; harts = after.harts })) watches) memory
     ∙ differs-itself before watches
 
 -- behind the last of some turns, of which those before it changed nothing
-pub watches-behind : (session : SessionState) (place turns : ℕ) → 1 ≤ turns → state_at session (place + (turns - 1)) ≡ state_at session place → list_any (watch_stops session (place + turns)) session.watches ≡ list_any (differs (state_at session place) (state_at session (place + turns))) session.watches
+pub watches-behind : (session : SessionState) (place turns : ℕ) → 1 ≤ turns → state_at session (place + (turns - 1)) ≡ state_at session place
+    → list_any (watch_stops session (place + turns)) session.watches ≡ list_any (differs (state_at session place) (state_at session (place + turns)))
+    session.watches
 watches-behind session place turns some still =
     let last = place + (turns - 1) in
     let e : place + turns ≡ suc last = omega arith in
@@ -57,10 +62,13 @@ or-false true = refl
 or-false false = refl
 
 -- a place between turns that change nothing stops exactly where the hart stands on a break
-pub stops-between : (session : SessionState) (place turns hart : ℕ) → 1 ≤ turns → state_at session (place + turns) ≡ state_at session place → state_at session (place + (turns - 1)) ≡ state_at session place → slice_get session.log.turns (place + turns) ≡ Some hart → stops session (place + turns) ≡ list_any (λ mark. mark == (hart_at (state_at session place) hart).pc) session.breaks
+pub stops-between : (session : SessionState) (place turns hart : ℕ) → 1 ≤ turns → state_at session (place + turns) ≡ state_at session place
+    → state_at session (place + (turns - 1)) ≡ state_at session place → slice_get session.log.turns (place + turns) ≡ Some hart
+    → stops session (place + turns) ≡ list_any (λ mark. mark == (hart_at (state_at session place) hart).pc) session.breaks
 stops-between session place turns hart some here before next =
     let breaks = breaks-next session (place + turns) hart next ∙ ap (λ s. list_any (λ mark. mark == (hart_at s hart).pc) session.breaks) here in
-    let quiet = watches-behind session place turns some before ∙ ap (λ s. list_any (differs (state_at session place) s) session.watches) here ∙ differs-itself (state_at session place) session.watches in
+    let quiet = watches-behind session place turns some before ∙ ap (λ s. list_any (differs (state_at session place) s) session.watches) here
+    ∙ differs-itself (state_at session place) session.watches in
     ap (λ b. b || list_any (watch_stops session (place + turns)) session.watches) breaks
     ∙ ap (λ b. list_any (λ mark. mark == (hart_at (state_at session place) hart).pc) session.breaks || b) quiet
     ∙ or-false (list_any (λ mark. mark == (hart_at (state_at session place) hart).pc) session.breaks)
@@ -70,19 +78,37 @@ stops-between session place turns hart some here before next =
 pub latest-behind : (session : SessionState) (from end : ℕ) → stops session end ≡ true → Latest session from end (Some end)
 latest-behind session from end stop = (omega arith, stop, λ k after within. absurd (omega arith))
 
-pub latest-between : (session : SessionState) (from place turns : ℕ) → 1 < turns → ((k : ℕ) → place < k → k < place + turns → stops session k ≡ true) → stops session (place + turns) ≡ false → Latest session from (place + turns) (Some (place + turns - 1))
-latest-between session from place turns two between behind =
-    (omega arith, between (place + turns - 1) (omega arith) (omega arith), λ k after within. let e : k ≡ place + turns = omega arith in ap (stops session) e ∙ behind)
+pub latest-between : (session : SessionState) (from place turns : ℕ) → 1 < turns → ((k : ℕ) → place < k → k < place + turns → stops session k ≡ true)
+    → stops session (place + turns) ≡ false → Latest session from (place + turns) (Some (place + turns - 1))
+latest-between session from place turns two between behind = (
+  omega arith,
+  between (place + turns - 1) (omega arith) (omega arith),
+  λ k after within. let e : k ≡ place + turns = omega arith in ap (stops session) e
+      ∙ behind,
+)
 
-further : (session : SessionState) (place turns k : ℕ) → place < k → k ≤ place + turns → ((k : ℕ) → place < k → k < place + turns → stops session k ≡ false) → stops session (place + turns) ≡ false → stops session k ≡ false
+further : (session : SessionState) (place turns k : ℕ) → place < k → k ≤ place + turns → ((k : ℕ) → place < k → k < place + turns → stops session k ≡ false)
+    → stops session (place + turns) ≡ false → stops session k ≡ false
 further session place turns k after within between behind =
-    elim (cases_lt k (place + turns)) [ inl less ↦ between k after less | inr not_less ↦ let e : k ≡ place + turns = omega arith in ap (stops session) e ∙ behind ]
+    elim (cases_lt k (place + turns)) [
+      | inl less ↦ between k after less
+      | inr not_less ↦ let e : k ≡ place + turns = omega arith in ap (stops session) e
+          ∙ behind
+    ]
 
-pub latest-keeps : (session : SessionState) (from place turns : ℕ) (last : Option ℕ) → ((k : ℕ) → place < k → k < place + turns → stops session k ≡ false) → stops session (place + turns) ≡ false → Latest session from place last → Latest session from (place + turns) last
+pub latest-keeps : (session : SessionState) (from place turns : ℕ) (last : Option ℕ) → ((k : ℕ) → place < k → k < place + turns → stops session k ≡ false)
+    → stops session (place + turns) ≡ false → Latest session from place last → Latest session from (place + turns) last
 latest-keeps session from place turns None between behind latest =
     λ k from-k within. elim (cases_lt place k) [ inl after ↦ further session place turns k after within between behind | inr here ↦ latest k from-k here ]
-latest-keeps session from place turns (Some stop) between behind latest =
-    (omega (arith, latest.0), latest.1, λ k after within. elim (cases_lt place k) [ inl past ↦ further session place turns k past within between behind | inr here ↦ latest.2 k after here ])
+latest-keeps session from place turns (Some stop) between behind latest = (
+  omega (arith, latest.0),
+  latest.1,
+  λ k after within. elim (cases_lt place k) [
+    | inl past ↦ further session place turns k past within between behind
+    | inr
+        here ↦ latest.2 k after here
+  ],
+)
 
 -- at the start only breaks stop
 pub stops-start : (session : SessionState) (on_break : Bool) → on_break ≡ list_any (break_stops session 0) session.breaks → stops session 0 ≡ on_break

@@ -1,5 +1,6 @@
 -- The last writing turn, along a list of turns.
-use Rattle.std.proofs.Common.{◌≡◌, ◌∙◌, ◌+◌, ℕ, zero, suc, Bool, true, false, refl, sym, ap, subst, arith, List, [], ◌∷◌, ◌++◌, length, length-append, append_assoc, take, Option, Some, None}
+use Rattle.std.proofs.Common.{◌≡◌, ◌∙◌, ◌+◌, ℕ, zero, suc, Bool, true, false, refl, sym, ap, subst, arith, List, [], ◌∷◌, ◌++◌, length, length-append}
+use Rattle.std.proofs.Common.{append_assoc, take, Option, Some, None}
 use Rattle.std.specs.Prelude.{if◌then◌else◌, option_and_then, slice_get}
 use Rattle.multi_hart.specs.Run.{State, hart_at, run, turn, is_in}
 use Rattle.vector_codegen_sharing.specs.Turns.{is_word_in, last_writer, written_next}
@@ -36,11 +37,15 @@ hart_of_last place before known state (hart ∷ turns) =
     let all : List ℕ = before ++ hart ∷ turns in
     let next : (before ++ hart ∷ []) ++ turns ≡ all = append_assoc before (hart ∷ []) turns in
     let count : length (before ++ hart ∷ []) ≡ length before + 1 = omega (arith, length-append before (hart ∷ [])) in
-    let rest = hart_of_last place (before ++ hart ∷ []) (if is_in place (written_next state hart) then Some (length before) else known) (turn state hart) turns in
+    let rest = hart_of_last place (before ++ hart ∷ []) (if is_in place (written_next state hart) then Some (length before) else known) (turn state hart) turns
+    in
     ap (λ o. last_writer place o (turn state hart) turns) (same (is_in place (written_next state hart)))
-    ∙ subst (λ (ts : List ℕ). last_writer place (option_and_then (slice_get ts) (if is_in place (written_next state hart) then Some (length before) else known)) (turn state hart) turns
-    ≡ option_and_then (slice_get ts) (last_turn (is_in place) (length (before ++ hart ∷ [])) (if is_in place (written_next state hart) then Some (length before) else known) (turn state hart) turns)) next rest
-    ∙ ap (λ n. option_and_then (slice_get all) (last_turn (is_in place) n (if is_in place (written_next state hart) then Some (length before) else known) (turn state hart) turns)) count
+    ∙ subst (λ (ts : List ℕ). last_writer place (option_and_then (slice_get ts) (if is_in place (written_next state hart) then Some (length before) else known))
+    (turn state hart) turns
+    ≡ option_and_then (slice_get ts) (last_turn (is_in place) (length (before ++ hart ∷ [])) (if is_in place (written_next state hart) then Some (length before)
+    else known) (turn state hart) turns)) next rest
+    ∙ ap (λ n. option_and_then (slice_get all) (last_turn (is_in place) n (if is_in place (written_next state hart) then Some (length before) else known)
+    (turn state hart) turns)) count
   where
     same : (b : Bool) → (if b then Some hart else option_and_then (slice_get (before ++ hart ∷ turns)) known)
         ≡ option_and_then (slice_get (before ++ hart ∷ turns)) (if b then Some (length before) else known)
@@ -72,12 +77,14 @@ pub not_blamed : (begin : State) (done : List ℕ) (now : State) (hart word : �
     → is_word_in word (written_next now hart) ≡ false → Blames begin done word last → Blames begin (done ++ hart ∷ []) word last
 not_blamed begin done now hart word None state isnt blames =
     last-append (is_word_in word) 0 None begin done hart
-    ∙ kept (is_word_in word (written_next (run begin done) hart)) (0 + length done) _ (ap (λ s. is_word_in word (written_next s hart)) (sym state) ∙ isnt) ∙ blames
+    ∙ kept (is_word_in word (written_next (run begin done) hart)) (0 + length done) _ (ap (λ s. is_word_in word (written_next s hart)) (sym state) ∙ isnt)
+    ∙ blames
 not_blamed begin done now hart word (Some w) state isnt blames =
     let same = taken_before done (hart ∷ []) w.turn w.hart blames.hart_is in
     record {
       is_last = last-append (is_word_in word) 0 None begin done hart
-          ∙ kept (is_word_in word (written_next (run begin done) hart)) (0 + length done) _ (ap (λ s. is_word_in word (written_next s hart)) (sym state) ∙ isnt) ∙ blames.is_last;
+          ∙ kept (is_word_in word (written_next (run begin done) hart)) (0 + length done) _ (ap (λ s. is_word_in word (written_next s hart)) (sym state) ∙ isnt)
+          ∙ blames.is_last;
       hart_is = got_before done (hart ∷ []) w.turn w.hart blames.hart_is;
       pc_is = blames.pc_is ∙ ap (λ ts. (hart_at (run begin ts) w.hart).pc) (sym same);
       before_is = blames.before_is ∙ ap (λ ts. held (run begin ts) word) (sym same);
@@ -86,7 +93,8 @@ not_blamed begin done now hart word (Some w) state isnt blames =
 
 -- a turn that does
 pub is_blamed : (begin : State) (done : List ℕ) (now after : State) (word : ℕ) (w : Write) → now ≡ run begin done → after ≡ turn now w.hart
-    → is_word_in word (written_next now w.hart) ≡ true → length done ≡ w.turn → w.pc ≡ (hart_at now w.hart).pc → w.before ≡ held now word → w.after ≡ held after word
+    → is_word_in word (written_next now w.hart) ≡ true → length done ≡ w.turn → w.pc ≡ (hart_at now w.hart).pc → w.before ≡ held now word
+    → w.after ≡ held after word
     → IsLastWrite begin (done ++ w.hart ∷ []) word w
 is_blamed begin done now after word w state turned writes place pc before behind =
     let taken : take w.turn (done ++ w.hart ∷ []) ≡ done = ap (λ n. take n (done ++ w.hart ∷ [])) (sym place) ∙ all_taken done (w.hart ∷ []) in

@@ -1,5 +1,6 @@
 -- Marks of words, along a list of turns.
-use Rattle.std.proofs.Common.{◌≡◌, ◌≢◌, ◌∙◌, ◌+◌, ◌*◌, ◌<◌, ◌≤◌, ◌%◌, ℕ, zero, suc, Bool, true, false, refl, sym, ap, subst, arith, List, [], ◌∷◌, ◌++◌, length, append_assoc, append-nil, replicate, take, Option, Some, None}
+use Rattle.std.proofs.Common.{◌≡◌, ◌≢◌, ◌∙◌, ◌+◌, ◌*◌, ◌<◌, ◌≤◌, ◌%◌, ℕ, zero, suc, Bool, true, false, refl, sym, ap, subst, arith, List, [], ◌∷◌, ◌++◌, length}
+use Rattle.std.proofs.Common.{append_assoc, append-nil, replicate, take, Option, Some, None}
 use Rattle.std.specs.Prelude.{if◌then◌else◌, slice_get, slice_index, unwrap_or}
 use Rattle.hart_core.specs.declared.harts.Status.TheVariants.{Running}
 use Rattle.multi_hart.specs.Run.{KeepsShape, State, hart_at, run, turn}
@@ -43,7 +44,8 @@ got_there [] ys k below = absurd (omega (arith, below))
 got_there (x ∷ xs) ys zero below = refl
 got_there (x ∷ xs) ys (suc k) below = got_there xs ys k (omega (arith, below))
 
-kept_mark : (marking : Marking) (done : List ℕ) (hart : ℕ) (last : Option ℕ) → IsBelow last (length done) → mark_of marking done last ≡ mark_of marking (done ++ hart ∷ []) last
+kept_mark : (marking : Marking) (done : List ℕ) (hart : ℕ) (last : Option ℕ) → IsBelow last (length done)
+    → mark_of marking done last ≡ mark_of marking (done ++ hart ∷ []) last
 kept_mark marking done hart None below = refl
 kept_mark Harts done hart (Some n) below = ap (λ o. unwrap_or o 0) (sym (got_there done (hart ∷ []) n below))
 kept_mark Turns done hart (Some n) below = refl
@@ -78,7 +80,8 @@ turn_marked marking first begin done now hart mark old new state as_many is mark
         marked.each k below
         ∙ choose (is_word_in word (written_next now hart))
         ∙ ap (λ o. mark_of marking (done ++ hart ∷ []) o)
-        (ap (λ s. if is_word_in word (written_next s hart) then Some (0 + length done) else last) state ∙ sym (last-append (is_word_in word) 0 None begin done hart))
+        (ap (λ s. if is_word_in word (written_next s hart) then Some (0 + length done) else last) state
+        ∙ sym (last-append (is_word_in word) 0 None begin done hart))
 
 -- a turn that writes nothing
 pub quiet_marked : (marking : Marking) (first : ℕ) (begin : State) (done : List ℕ) (now : State) (hart : ℕ) (marks : List ℕ) → now ≡ run begin done

@@ -23,7 +23,8 @@ pub record WritesStored (state : State) (number : ℕ) : Type 0 where
   pub legal : illegal_fault insn (hart_at state number) ≡ None
   pub writes_it : written_next state number ≡ places_stored insn (hart_at state number)
 
-pub stepped : (state : State) (number : ℕ) → slice_get state.harts number ≡ Some (hart_at state number) → outcome state number ≡ Stepped → WritesStored state number
+pub stepped : (state : State) (number : ℕ) → slice_get state.harts number ≡ Some (hart_at state number) → outcome state number ≡ Stepped
+    → WritesStored state number
 stepped state number there is =
     let did = stores.stepped state number there is in
     record {
@@ -33,7 +34,8 @@ stepped state number there is =
       writes_it = written_there state number there ∙ did.writes_it;
     }
 
-pub not_stepped : (state : State) (number : ℕ) → slice_get state.harts number ≡ Some (hart_at state number) → outcome state number ≢ Stepped → written_next state number ≡ []
+pub not_stepped : (state : State) (number : ℕ) → slice_get state.harts number ≡ Some (hart_at state number) → outcome state number ≢ Stepped
+    → written_next state number ≡ []
 not_stepped state number there isnt = written_there state number there ∙ stores.not_stepped state number there isnt
 
 -- a hart whose next instruction doesn't store writes nothing

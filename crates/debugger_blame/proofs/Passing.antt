@@ -1,5 +1,6 @@
 -- Turns of a log that are passed, one stretch after the other.
-use Rattle.std.proofs.Common.{◌≡◌, ◌≢◌, ◌∙◌, ◌<◌, ◌≤◌, ◌+◌, ◌-◌, ℕ, zero, suc, false, refl, sym, ap, subst, arith, List, [], ◌∷◌, ◌++◌, length, length-append, append_assoc, append-nil, replicate, take, drop, Option, Some}
+use Rattle.std.proofs.Common.{◌≡◌, ◌≢◌, ◌∙◌, ◌<◌, ◌≤◌, ◌+◌, ◌-◌, ℕ, zero, suc, false, refl, sym, ap, subst, arith, List, [], ◌∷◌, ◌++◌, length, length-append}
+use Rattle.std.proofs.Common.{append_assoc, append-nil, replicate, take, drop, Option, Some}
 use Rattle.std.specs.Prelude.{slice_get}
 use Rattle.std.proofs.Math.Seq.{take-add}
 use Rattle.std.proofs.lemmas.List.{length-replicate, take-append-le, take-replicate}
@@ -30,7 +31,8 @@ shape_of state after hart is = subst (KeepsShape state) (sym is) (shape-turn sta
 
 -- ---- a hart that doesn't run
 
-rests_quietly : (text : List ℕ) (bytes : ℕ) (hart : HartState) (s : Status) → s ≢ Running → writes (if_running s (due (length text) bytes hart (fetched text hart.pc))) hart ≡ []
+rests_quietly : (text : List ℕ) (bytes : ℕ) (hart : HartState) (s : Status) → s ≢ Running
+    → writes (if_running s (due (length text) bytes hart (fetched text hart.pc))) hart ≡ []
 rests_quietly text bytes hart Running other = absurd (other refl)
 rests_quietly text bytes hart Finished other = refl
 rests_quietly text bytes hart (Trapped trap) other = refl
@@ -60,7 +62,8 @@ one_more (suc n) x =
     let same : suc n + 1 ≡ suc (n + 1) = omega arith in
     rw same (ap (λ xs. x ∷ xs) (one_more n x))
 
-pub rest_added : (done : List ℕ) (made count hart : ℕ) → made ≤ count → (done ++ replicate made hart) ++ replicate (count - made) hart ≡ done ++ replicate count hart
+pub rest_added : (done : List ℕ) (made count hart : ℕ) → made ≤ count → (done ++ replicate made hart) ++ replicate (count - made) hart ≡ done
+    ++ replicate count hart
 rest_added done made count hart few = append_assoc done (replicate made hart) (replicate (count - made) hart) ∙ ap (λ xs. done ++ xs) (joined made count few)
   where
     joined : (m n : ℕ) → m ≤ n → replicate m hart ++ replicate (n - m) hart ≡ replicate n hart
@@ -83,14 +86,16 @@ run_added start begin now done made hart is from =
 pub length_added : (done : List ℕ) (made hart place : ℕ) → length done ≡ place → length (done ++ replicate made hart) ≡ place + made
 length_added done made hart place is = omega (arith, length-append done (replicate made hart), length-replicate made hart, is)
 
-pub turn_added : (begin : State) (done : List ℕ) (made hart word : ℕ) (last : Option Write) → Blames begin ((done ++ replicate made hart) ++ hart ∷ []) word last
+pub turn_added : (begin : State) (done : List ℕ) (made hart word : ℕ) (last : Option Write)
+    → Blames begin ((done ++ replicate made hart) ++ hart ∷ []) word last
     → Blames begin (done ++ replicate (made + 1) hart) word last
 turn_added begin done made hart word last blames =
     subst (λ (ts : List ℕ). Blames begin ts word last)
     (append_assoc done (replicate made hart) (hart ∷ []) ∙ ap (λ xs. done ++ xs) (sym (one_more made hart))) blames
 
 -- the turns up to behind a stretch
-pub stretch_taken : (turns : List ℕ) (place hart count : ℕ) → Stand turns place hart count → take (place + count) turns ≡ take place turns ++ replicate count hart
+pub stretch_taken : (turns : List ℕ) (place hart count : ℕ) → Stand turns place hart count → take (place + count) turns ≡ take place turns
+    ++ replicate count hart
 stretch_taken turns place hart count stand =
     take-add place count turns
     ∙ ap (λ xs. take place turns ++ xs) (ap (take count) stand.parts

@@ -1,5 +1,6 @@
 -- Turns of words that store nothing, one behind the other.
-use Rattle.std.proofs.Common.{◌≡◌, ◌∙◌, ◌+◌, ◌-◌, ◌*◌, ◌/◌, ◌%◌, ◌^◌, ◌<◌, ◌≤◌, ◌||◌, ℕ, zero, suc, true, false, refl, sym, ap, subst, arith, List, [], ◌∷◌, ◌++◌, length, append_assoc, append-nil, replicate, Option, Some, None, inl, inr, nat_lt, if◌then◌else◌}
+use Rattle.std.proofs.Common.{◌≡◌, ◌∙◌, ◌+◌, ◌-◌, ◌*◌, ◌/◌, ◌%◌, ◌^◌, ◌<◌, ◌≤◌, ◌||◌, ℕ, zero, suc, true, false, refl, sym, ap, subst, arith, List, [], ◌∷◌}
+use Rattle.std.proofs.Common.{◌++◌, length, append_assoc, append-nil, replicate, Option, Some, None, inl, inr, nat_lt, if◌then◌else◌}
 use Rattle.std.specs.Prelude.{is_some, map, option_and_then, slice_get, slice_index, slice_set}
 use Rattle.std.proofs.lemmas.Bool.{cases_eq, cases_lt, le-ltb}
 use Rattle.std.proofs.lemmas.List.{get_or-replicate, get_or-set_other, get_or-set_same, get_or_past, length-map, length-replicate}
@@ -140,14 +141,16 @@ does_next text memory hart (Traps trap) came goes = absurd cc
 does_next text memory hart (Does insn) came goes = pc_behind insn hart (numbers_read text memory hart insn) (goes insn refl)
 
 pc_after : (state : State) (hart : ℕ) → hart < length state.harts → outcome state hart ≡ Stepped
-    → some_goes_on (option_and_then decoded (fetched state.text (hart_at state hart).pc)) ≡ true → (hart_at (turn state hart) hart).pc ≡ next_pc (hart_at state hart)
+    → some_goes_on (option_and_then decoded (fetched state.text (hart_at state hart).pc)) ≡ true
+    → (hart_at (turn state hart) hart).pc ≡ next_pc (hart_at state hart)
 pc_after state hart below stepped goes =
     let one = hart_at state hart in
     let there = hart_there state hart below in
     let next = next_of state.text (length state.memory) one in
     let came : (made state.text state.memory one next).outcome ≡ Stepped = rw (there) at stepped in
     let behind : hart_at (turn state hart) hart ≡ (step state.text state.memory one).hart =
-    ap (λ s. hart_at s hart) (ap (turned state hart) there) ∙ get_or-set_same state.harts hart (step state.text state.memory one).hart (opening_hart 0 0 0) below in
+    ap (λ s. hart_at s hart) (ap (turned state hart) there) ∙ get_or-set_same state.harts hart (step state.text state.memory one).hart (opening_hart 0 0 0)
+    below in
     ap (λ (h : HartState). h.pc) behind
     ∙ does_next state.text state.memory one next came (λ insn is.
     (let meant_so = does_meant state.text (length state.memory) one insn is in
@@ -193,7 +196,8 @@ stands_then state hart count made way (suc k) below =
     let now = run state (replicate k hart) in
     let place : ℕ = way.quiet.place in
     let before = stands_then state hart count made way k (omega (arith, below)) in
-    let goes = ap (λ w. some_goes_on (option_and_then decoded w)) (fetched_then state hart (place + k) k before) ∙ way.quiet.quiet.go_on k (omega (arith, below, way.within)) in
+    let goes = ap (λ w. some_goes_on (option_and_then decoded w)) (fetched_then state hart (place + k) k before)
+    ∙ way.quiet.quiet.go_on k (omega (arith, below, way.within)) in
     let shape = shape-run state (replicate k hart) in
     let next = pc_after now hart (omega (arith, shape.harts, way.below)) (way.steps k (omega (arith, below))) goes in
     let one : suc k ≡ k + 1 = omega arith in
@@ -204,12 +208,14 @@ stands_then state hart count made way (suc k) below =
     ∙ next ∙ ap (λ pc. (pc + 4) % 2 ^ 32) before ∙ wrapped (place + k) (omega (arith, there, way.few)) ∙ last
 
 -- none of them writes anything
-pub quiet_then : (state : State) (hart count made : ℕ) → IsWay state hart count made → (k : ℕ) → k < made → written_next (run state (replicate k hart)) hart ≡ []
+pub quiet_then : (state : State) (hart count made : ℕ) → IsWay state hart count made → (k : ℕ) → k < made → written_next (run state (replicate k hart)) hart
+    ≡ []
 quiet_then state hart count made way k below =
     let now = run state (replicate k hart) in
     let shape = shape-run state (replicate k hart) in
     let stands = stands_then state hart count made way k below in
-    let none = ap (option_and_then store_in) (fetched_then state hart (way.quiet.place + k) k stands) ∙ way.quiet.quiet.stores_none k (omega (arith, below, way.within)) in
+    let none = ap (option_and_then store_in) (fetched_then state hart (way.quiet.place + k) k stands)
+    ∙ way.quiet.quiet.stores_none k (omega (arith, below, way.within)) in
     quiet_without_store now hart (hart_there now hart (omega (arith, shape.harts, way.below))) none
 
 -- turns that write nothing leave the marks

@@ -1,5 +1,6 @@
 -- Which words have a byte among places.
-use Rattle.std.proofs.Common.{◌≡◌, ◌∙◌, ◌+◌, ◌*◌, ◌||◌, ◌==◌, ℕ, Bool, true, false, refl, sym, ap, arith, List, [], ◌∷◌, ◌++◌, ◌≤◌, length, ◌-◌, drop, get_or, subst, take}
+use Rattle.std.proofs.Common.{◌≡◌, ◌∙◌, ◌+◌, ◌*◌, ◌||◌, ◌==◌, ℕ, Bool, true, false, refl, sym, ap, arith, List, [], ◌∷◌, ◌++◌, ◌≤◌, length, ◌-◌, drop, get_or}
+use Rattle.std.proofs.Common.{subst, take}
 use Rattle.std.proofs.Math.Seq.{take-length}
 use Rattle.std.specs.Prelude.{if◌then◌else◌, slice_index}
 use Rattle.std.proofs.lemmas.Bool.Decides.{nat_tests}
@@ -20,7 +21,8 @@ or_swap false true false d = refl
 or_swap false false c d = refl
 
 -- four pairs, taken apart
-or_apart : (a0 b0 a1 b1 a2 b2 a3 b3 : Bool) → (((a0 || b0) || (a1 || b1)) || (a2 || b2)) || (a3 || b3) ≡ (((a0 || a1) || a2) || a3) || (((b0 || b1) || b2) || b3)
+or_apart : (a0 b0 a1 b1 a2 b2 a3 b3 : Bool) → (((a0 || b0) || (a1 || b1)) || (a2 || b2)) || (a3 || b3) ≡ (((a0 || a1) || a2) || a3)
+    || (((b0 || b1) || b2) || b3)
 or_apart a0 b0 a1 b1 a2 b2 a3 b3 =
     ap (λ x. (x || (a2 || b2)) || (a3 || b3)) (or_swap a0 b0 a1 b1)
     ∙ ap (λ x. x || (a3 || b3)) (or_swap (a0 || a1) (b0 || b1) a2 b2)
@@ -40,9 +42,12 @@ pub word_in_both : (word : ℕ) (xs ys : List ℕ) → is_word_in word (xs ++ ys
 word_in_both word xs ys =
     ap (λ x. ((x || is_in (word + 1) (xs ++ ys)) || is_in (word + 2) (xs ++ ys)) || is_in (word + 3) (xs ++ ys)) (in_both word xs ys)
     ∙ ap (λ x. (((is_in word xs || is_in word ys) || x) || is_in (word + 2) (xs ++ ys)) || is_in (word + 3) (xs ++ ys)) (in_both (word + 1) xs ys)
-    ∙ ap (λ x. (((is_in word xs || is_in word ys) || (is_in (word + 1) xs || is_in (word + 1) ys)) || x) || is_in (word + 3) (xs ++ ys)) (in_both (word + 2) xs ys)
-    ∙ ap (λ x. (((is_in word xs || is_in word ys) || (is_in (word + 1) xs || is_in (word + 1) ys)) || (is_in (word + 2) xs || is_in (word + 2) ys)) || x) (in_both (word + 3) xs ys)
-    ∙ or_apart (is_in word xs) (is_in word ys) (is_in (word + 1) xs) (is_in (word + 1) ys) (is_in (word + 2) xs) (is_in (word + 2) ys) (is_in (word + 3) xs) (is_in (word + 3) ys)
+    ∙ ap (λ x. (((is_in word xs || is_in word ys) || (is_in (word + 1) xs || is_in (word + 1) ys)) || x) || is_in (word + 3) (xs ++ ys))
+    (in_both (word + 2) xs ys)
+    ∙ ap (λ x. (((is_in word xs || is_in word ys) || (is_in (word + 1) xs || is_in (word + 1) ys)) || (is_in (word + 2) xs || is_in (word + 2) ys)) || x)
+    (in_both (word + 3) xs ys)
+    ∙ or_apart (is_in word xs) (is_in word ys) (is_in (word + 1) xs) (is_in (word + 1) ys) (is_in (word + 2) xs) (is_in (word + 2) ys) (is_in (word + 3) xs)
+    (is_in (word + 3) ys)
 
 one_place : (word place : ℕ) → is_word_in word (place ∷ []) ≡ is_byte_of_word word place
 one_place word place =
@@ -163,7 +168,8 @@ pub none_marked : (first mark : ℕ) (words : List ℕ) → Marked first (λ wor
 none_marked first mark words = record { each = λ k below. refl }
 
 -- the first of numbers, and those behind it
-pub numbers_marked : (first : ℕ) (width : ElementWidth) (addresses : List ℕ) (mark : ℕ) (old between new : List ℕ) → 1 ≤ length addresses → length between ≡ length old
+pub numbers_marked : (first : ℕ) (width : ElementWidth) (addresses : List ℕ) (mark : ℕ) (old between new : List ℕ) → 1 ≤ length addresses
+    → length between ≡ length old
     → Marked first (λ word. is_word_in word (places_of (access_at (size_of width) (get_or addresses 0 0)))) mark old between
     → Marked first (λ word. is_word_in word (touched (accesses_at width (take (length addresses - 1) (drop 1 addresses))))) mark between new
     → Marked first (λ word. is_word_in word (touched (accesses_at width addresses))) mark old new

@@ -1,5 +1,6 @@
 -- Pages that are laid over data, and what data hold then.
-use Rattle.std.proofs.Common.{◌≡◌, ◌∙◌, ◌+◌, ◌*◌, ◌/◌, ◌%◌, ◌<◌, ◌≤◌, ◌==◌, ℕ, Bool, false, refl, sym, ap, subst, arith, List, [], ◌∷◌, ◌++◌, length, All, Option, Some, None, inl, inr}
+use Rattle.std.proofs.Common.{◌≡◌, ◌∙◌, ◌+◌, ◌*◌, ◌/◌, ◌%◌, ◌<◌, ◌≤◌, ◌==◌, ℕ, Bool, false, refl, sym, ap, subst, arith, List, [], ◌∷◌, ◌++◌, length, All}
+use Rattle.std.proofs.Common.{Option, Some, None, inl, inr}
 use Rattle.std.specs.Prelude.{if◌then◌else◌, nat_lt, slice_index, slice_set}
 use Rattle.std.proofs.lemmas.Bool.{cases_lt, cases_eq, cond-true, cond-false, eq-eqb, ne_eqb, lt-ltb, le-ltb}
 use Rattle.std.proofs.lemmas.List.{get_or-set_same, get_or-set_other, get_or_past}
@@ -19,7 +20,8 @@ laid-outside : (copy : PageCopy) (f : ℕ → ℕ) (i : ℕ) → (i / 4096 ≡ c
 laid-outside copy f i other = cond-false ((i / 4096) == copy.number) _ (f i) (ne_eqb (i / 4096) copy.number other)
 
 -- a page that is put back
-pub laid_put : (old new : List ℕ) (copy : PageCopy) → IsPut old (copy.number * 4096) copy.bytes.items new → IsPage (length old) copy → (f : ℕ → ℕ) → Holds old f → Holds new (laid copy f)
+pub laid_put : (old new : List ℕ) (copy : PageCopy) → IsPut old (copy.number * 4096) copy.bytes.items new → IsPage (length old) copy → (f : ℕ → ℕ) → Holds old f
+    → Holds new (laid copy f)
 laid_put old new copy put page f holds = record {
   each = λ i below.
       let size : length new ≡ length old = put.as_many in
@@ -45,7 +47,8 @@ laid_same copy f g i same = ap (λ n. if (i / 4096) == copy.number then slice_in
 
 over-same : (copies : List PageCopy) (f g : ℕ → ℕ) → ((i : ℕ) → f i ≡ g i) → (i : ℕ) → over copies f i ≡ over copies g i
 over-same [] f g same i = same i
-over-same (copy ∷ copies) f g same i = over-same copies (laid copy f) (laid copy g) (λ k. ap (λ n. if (k / 4096) == copy.number then slice_index copy.bytes.items (k % 4096) else n) (same k)) i
+over-same (copy ∷ copies) f g same i = over-same copies (laid copy f) (laid copy g) (λ k. ap (λ n. if (k / 4096) == copy.number then slice_index
+    copy.bytes.items (k % 4096) else n) (same k)) i
 
 pub over_push : (copies : List PageCopy) (copy : PageCopy) (f : ℕ → ℕ) (i : ℕ) → over (copies ++ copy ∷ []) f i ≡ laid copy (over copies f) i
 over_push [] copy f i = refl
@@ -62,13 +65,16 @@ pub record CopiedUpTo (bytes : List ℕ) (written : List Bool) (copies : List Pa
   pub below : (f : ℕ → ℕ) (i : ℕ) → HoldsUnwritten written bytes f → i < length bytes → i / 4096 < number → slice_index bytes i ≡ over copies f i
   pub above : (f : ℕ → ℕ) (i : ℕ) → number ≤ i / 4096 → over copies f i ≡ f i
 
-pub copied_one : (bytes' : List ℕ) (written : List Bool) (pages : List PageCopy) (number : ℕ) (copy : PageCopy) → CopiedUpTo bytes' written pages number → copy.number ≡ number → IsPage (length bytes') copy
-    → ((i : ℕ) → i < length bytes' → i / 4096 ≡ number → slice_index copy.bytes.items (i % 4096) ≡ slice_index bytes' i) → CopiedUpTo bytes' written (pages ++ copy ∷ []) (number + 1)
+pub copied_one : (bytes' : List ℕ) (written : List Bool) (pages : List PageCopy) (number : ℕ) (copy : PageCopy) → CopiedUpTo bytes' written pages number
+    → copy.number ≡ number → IsPage (length bytes') copy
+    → ((i : ℕ) → i < length bytes' → i / 4096 ≡ number → slice_index copy.bytes.items (i % 4096) ≡ slice_index bytes' i)
+    → CopiedUpTo bytes' written (pages ++ copy ∷ []) (number + 1)
 copied_one bytes' written pages number copy so_far is page bytes = record {
   pages = All-push (IsPage (length bytes')) pages copy so_far.pages page;
   below = λ f i holds within under.
       elim (cases_lt (i / 4096) number) [
-        | inl before ↦ so_far.below f i holds within before ∙ sym (laid-outside copy (over pages f) i (λ e. omega (arith, before, is, e))) ∙ sym (over_push pages copy f i)
+        | inl before ↦ so_far.below f i holds within before ∙ sym (laid-outside copy (over pages f) i (λ e. omega (arith, before, is, e)))
+            ∙ sym (over_push pages copy f i)
         | inr here ↦
             let same : i / 4096 ≡ number = omega (arith, under, here) in
             sym (bytes i within same) ∙ sym (laid-inside copy (over pages f) i (same ∙ sym is)) ∙ sym (over_push pages copy f i)
@@ -76,7 +82,8 @@ copied_one bytes' written pages number copy so_far is page bytes = record {
   above = λ f i up. over_push pages copy f i ∙ laid-outside copy (over pages f) i (λ e. omega (arith, up, is, e)) ∙ so_far.above f i (omega (arith, up));
 }
 
-pub passed_one : (bytes' : List ℕ) (written : List Bool) (pages : List PageCopy) (number : ℕ) → CopiedUpTo bytes' written pages number → is_written written number ≡ false → CopiedUpTo bytes' written pages (number + 1)
+pub passed_one : (bytes' : List ℕ) (written : List Bool) (pages : List PageCopy) (number : ℕ) → CopiedUpTo bytes' written pages number
+    → is_written written number ≡ false → CopiedUpTo bytes' written pages (number + 1)
 passed_one bytes' written pages number so_far isnt = record {
   pages = so_far.pages;
   below = λ f i holds within under.
@@ -89,7 +96,8 @@ passed_one bytes' written pages number so_far isnt = record {
   above = λ f i up. so_far.above f i (omega (arith, up));
 }
 
-pub all_copied : (bytes' : List ℕ) (written : List Bool) (pages : List PageCopy) → CopiedUpTo bytes' written pages (length written) → length written ≡ pages_of (length bytes') → (f : ℕ → ℕ) → HoldsUnwritten written bytes' f → Holds bytes' (over pages f)
+pub all_copied : (bytes' : List ℕ) (written : List Bool) (pages : List PageCopy) → CopiedUpTo bytes' written pages (length written)
+    → length written ≡ pages_of (length bytes') → (f : ℕ → ℕ) → HoldsUnwritten written bytes' f → Holds bytes' (over pages f)
 all_copied bytes' written pages so_far size f holds = record {
   each = λ i within. so_far.below f i holds within (omega (arith, size, within));
 }
@@ -111,7 +119,8 @@ up-to-behind : (below : List (Option PageCopy)) (f : ℕ → ℕ) (number i : �
 up-to-behind below f number i up = cond-false (nat_lt (i / 4096) number) (lowest below f i) (f i) (le-ltb (i / 4096) number up)
 
 -- what a slot has at its own page
-slot-here : (below : List (Option PageCopy)) (f : ℕ → ℕ) (number i : ℕ) (slot : Option PageCopy) → slot_at below number ≡ slot → i / 4096 ≡ number → found slot i (f i) ≡ lowest below f i
+slot-here : (below : List (Option PageCopy)) (f : ℕ → ℕ) (number i : ℕ) (slot : Option PageCopy) → slot_at below number ≡ slot → i / 4096 ≡ number
+    → found slot i (f i) ≡ lowest below f i
 slot-here below f number i slot is same = sym (ap (λ n. found (slot_at below n) i (f i)) same ∙ ap (λ (o : Option PageCopy). found o i (f i)) is)
 
 -- a page that isn't the number's own is as before
@@ -121,7 +130,8 @@ elsewhere below f number i other = elim (cases_lt (i / 4096) number) [
   | inr up ↦ up-to-behind below f number i up ∙ sym (up-to-behind below f (number + 1) i (omega (arith, up, other)))
 ]
 
-slot-laid : (below : List (Option PageCopy)) (f g : ℕ → ℕ) (number i : ℕ) (slot : Option PageCopy) → slot_at below number ≡ slot → ((copy : PageCopy) → slot ≡ Some copy → copy.number ≡ number) → g i ≡ up_to number below f i → laid_slot slot g i ≡ up_to (number + 1) below f i
+slot-laid : (below : List (Option PageCopy)) (f g : ℕ → ℕ) (number i : ℕ) (slot : Option PageCopy) → slot_at below number ≡ slot
+    → ((copy : PageCopy) → slot ≡ Some copy → copy.number ≡ number) → g i ≡ up_to number below f i → laid_slot slot g i ≡ up_to (number + 1) below f i
 slot-laid below f g number i None is numbered before = elim (cases_eq (i / 4096) number) [
   | inl same ↦
       before ∙ up-to-behind below f number i (omega (arith, same)) ∙ slot-here below f number i None is same
@@ -138,7 +148,8 @@ slot-laid below f g number i (Some copy) is numbered before =
     ]
 
 -- one slot more
-pub slot_more : (size : ℕ) (below : List (Option PageCopy)) (f g : ℕ → ℕ) (number : ℕ) (slot : Option PageCopy) → AreBelow size below → slot_at below number ≡ slot → ((i : ℕ) → g i ≡ up_to number below f i) → (i : ℕ) → laid_slot slot g i ≡ up_to (number + 1) below f i
+pub slot_more : (size : ℕ) (below : List (Option PageCopy)) (f g : ℕ → ℕ) (number : ℕ) (slot : Option PageCopy) → AreBelow size below
+    → slot_at below number ≡ slot → ((i : ℕ) → g i ≡ up_to number below f i) → (i : ℕ) → laid_slot slot g i ≡ up_to (number + 1) below f i
 slot_more size below f g number slot are is before i =
     slot-laid below f g number i slot is (λ copy some. are.number number copy (is ∙ some)) (before i)
 
@@ -155,7 +166,8 @@ set-here below n slot less = get_or-set_same below n slot None less
 set-other : (below : List (Option PageCopy)) (n k : ℕ) (slot : Option PageCopy) → (k ≡ n → ⊥) → slot_at (slice_set below n slot) k ≡ slot_at below k
 set-other below n k slot other = get_or-set_other below n k slot None other
 
-pub settled_one : (below : List (Option PageCopy)) (copy : PageCopy) (f : ℕ → ℕ) (i : ℕ) → copy.number < length below → lowest (slice_set below copy.number (Some copy)) f i ≡ laid copy (lowest below f) i
+pub settled_one : (below : List (Option PageCopy)) (copy : PageCopy) (f : ℕ → ℕ) (i : ℕ) → copy.number < length below
+    → lowest (slice_set below copy.number (Some copy)) f i ≡ laid copy (lowest below f) i
 settled_one below copy f i less =
     elim (cases_eq (i / 4096) copy.number) [
       | inl same ↦
@@ -167,14 +179,19 @@ settled_one below copy f i less =
           ∙ sym (laid-outside copy (lowest below f) i other)
     ]
 
-pub settled_below : (size : ℕ) (below : List (Option PageCopy)) (copy : PageCopy) → copy.number < length below → AreBelow size below → IsPage size copy → AreBelow size (slice_set below copy.number (Some copy))
+pub settled_below : (size : ℕ) (below : List (Option PageCopy)) (copy : PageCopy) → copy.number < length below → AreBelow size below → IsPage size copy
+    → AreBelow size (slice_set below copy.number (Some copy))
 settled_below size below copy less are page = record {
   number = λ n other is. elim (cases_eq n copy.number) [
-    | inl same ↦ (let one : Some copy ≡ Some other = sym (set-here below copy.number (Some copy) less) ∙ ap (slot_at (slice_set below copy.number (Some copy))) (sym same) ∙ is in let it : copy ≡ other = cc in ap (λ (p : PageCopy). p.number) (sym it) ∙ sym same)
+    | inl same ↦ (let one : Some copy ≡ Some other = sym (set-here below copy.number (Some copy) less)
+        ∙ ap (slot_at (slice_set below copy.number (Some copy))) (sym same) ∙ is in let it : copy ≡ other = cc in ap (λ (p : PageCopy). p.number) (sym it)
+        ∙ sym same)
     | inr apart ↦ are.number n other (sym (set-other below copy.number n (Some copy) apart) ∙ is)
   ];
   page = λ n other is. elim (cases_eq n copy.number) [
-    | inl same ↦ (let one : Some copy ≡ Some other = sym (set-here below copy.number (Some copy) less) ∙ ap (slot_at (slice_set below copy.number (Some copy))) (sym same) ∙ is in let it : copy ≡ other = cc in subst (λ (p : PageCopy). IsPage size p) it page)
+    | inl same ↦ (let one : Some copy ≡ Some other = sym (set-here below copy.number (Some copy) less)
+        ∙ ap (slot_at (slice_set below copy.number (Some copy))) (sym same) ∙ is in let it : copy ≡ other = cc in subst (λ (p : PageCopy). IsPage size p) it
+        page)
     | inr apart ↦ are.page n other (sym (set-other below copy.number n (Some copy) apart) ∙ is)
   ];
 }

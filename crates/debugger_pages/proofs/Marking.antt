@@ -1,5 +1,6 @@
 -- Pages that are marked along turns.
-use Rattle.std.proofs.Common.{◌≡◌, ◌∙◌, ◌+◌, ◌-◌, ◌/◌, ◌<◌, ◌≤◌, ℕ, Bool, true, refl, sym, ap, arith, List, [], ◌++◌, ◌∷◌, length, length-set, take, drop, get_or, All, Some, None, subst, inl, inr, true≢false}
+use Rattle.std.proofs.Common.{◌≡◌, ◌∙◌, ◌+◌, ◌-◌, ◌/◌, ◌<◌, ◌≤◌, ℕ, Bool, true, refl, sym, ap, arith, List, [], ◌++◌, ◌∷◌, length, length-set, take, drop}
+use Rattle.std.proofs.Common.{get_or, All, Some, None, subst, inl, inr, true≢false}
 use Rattle.std.specs.Prelude.{◌≢◌, option_and_then, slice_get, slice_index, slice_index_or, slice_set}
 use Rattle.std.proofs.Math.Seq.{take-length}
 use Rattle.std.proofs.lemmas.Bool.{cases_Bool, cases_eq, cases_lt, cond-false, cond-true, eq-eqb, ne_eqb}
@@ -35,7 +36,8 @@ marked_one was number = record {
   flags = length-set was number true;
   stay = λ page isnt. elim (cases_eq page number) [
     | inl same ↦ elim (cases_lt number (length was)) [
-      | inl there ↦ absurd (true≢false (sym (ap (λ n. slice_index_or (slice_set was number true) n true) same ∙ get_or-set_same was number true true there) ∙ isnt))
+      | inl there ↦ absurd (true≢false (sym (ap (λ n. slice_index_or (slice_set was number true) n true) same ∙ get_or-set_same was number true true there)
+          ∙ isnt))
       | inr past ↦ absurd (true≢false (sym (get_or_past (slice_set was number true) page true (omega (arith, past, same, length-set was number true))) ∙ isnt))
     ]
     | inr other ↦ sym (get_or-set_other was number page true true other) ∙ isnt
@@ -66,7 +68,13 @@ marks_then old new last was now after a b = record {
 
 -- a turn that writes nothing
 pub marks_quiet : (old new : List ℕ) (was : List Bool) → new ≡ old → Marks old new was was
-marks_quiet old new was same = record { as_many = ap (λ (m : List ℕ). length m) same; flags = refl; stay = λ page isnt. isnt; kept = λ i below isnt. ap (λ (m : List ℕ). slice_index m i) same }
+marks_quiet old new was same = record {
+  as_many = ap (λ (m : List ℕ). length m) same;
+  flags = refl;
+  stay = λ page isnt. isnt;
+  kept =
+      λ i below isnt. ap (λ (m : List ℕ). slice_index m i) same;
+}
 
 -- ---- places whose pages are marked
 
@@ -99,7 +107,10 @@ covers_both written xs ys a b = record {
 }
 
 pub covers_later : (was now : List Bool) (places : List ℕ) → Marked was now → Covers was places → Covers now places
-covers_later was now places marked covers = record { each = λ place is from. marked_stays was now ((place - data_start) / 4096) marked (covers.each place is from) }
+covers_later was now places marked covers = record {
+  each = λ place is from. marked_stays was now ((place - data_start) / 4096) marked
+      (covers.each place is from);
+}
 
 -- one of these places
 in-one : (place x : ℕ) (xs : List ℕ) (P : Type 0) → is_in place (x ∷ xs) ≡ true → (place ≡ x → P) → (is_in place xs ≡ true → P) → P
@@ -113,7 +124,8 @@ in-none : (place : ℕ) (P : Type 0) → is_in place [] ≡ true → P
 in-none place P is = absurd (true≢false (sym is))
 
 -- a number whose first byte and whose last are marked
-page-of : (written : List Bool) (first last place : ℕ) → (data_start ≤ first → is_written written ((first - data_start) / 4096) ≡ true) → (data_start ≤ last → is_written written ((last - data_start) / 4096) ≡ true)
+page-of : (written : List Bool) (first last place : ℕ) → (data_start ≤ first → is_written written ((first - data_start) / 4096) ≡ true)
+    → (data_start ≤ last → is_written written ((last - data_start) / 4096) ≡ true)
     → first ≤ place → place ≤ last → last ≤ first + 3 → data_start ≤ place → is_written written ((place - data_start) / 4096) ≡ true
 page-of written first last place a b low high near from =
     elim (cases_eq ((place - data_start) / 4096) ((last - data_start) / 4096)) [
@@ -125,14 +137,16 @@ page-of written first last place a b low high near from =
     ]
   where
     -- data begin at the first byte of a page
-    before : (first last place : ℕ) → first ≤ place → place ≤ last → last ≤ first + 3 → data_start ≤ place → ((place - data_start) / 4096 ≡ (last - data_start) / 4096 → ⊥) → data_start ≤ first
+    before : (first last place : ℕ) → first ≤ place → place ≤ last → last ≤ first + 3 → data_start ≤ place
+        → ((place - data_start) / 4096 ≡ (last - data_start) / 4096 → ⊥) → data_start ≤ first
     before first last place low high near from other =
         elim (cases_lt first data_start) [
           | inl less ↦ absurd (other (omega (arith, less, low, high, near, from)))
           | inr up ↦ up
         ]
 
-    with_first : (first last place : ℕ) → first ≤ place → place ≤ last → last ≤ first + 3 → data_start ≤ place → ((place - data_start) / 4096 ≡ (last - data_start) / 4096 → ⊥) → (place - data_start) / 4096 ≡ (first - data_start) / 4096
+    with_first : (first last place : ℕ) → first ≤ place → place ≤ last → last ≤ first + 3 → data_start ≤ place
+        → ((place - data_start) / 4096 ≡ (last - data_start) / 4096 → ⊥) → (place - data_start) / 4096 ≡ (first - data_start) / 4096
     with_first first last place low high near from other =
         let up = before first last place low high near from other in
         elim (cases_eq ((place - data_start) / 4096) ((first - data_start) / 4096)) [
@@ -141,28 +155,37 @@ page-of written first last place a b low high near from =
         ]
 
 pub covers_number : (written : List Bool) (address : ℕ) (width : ElementWidth) (last : ℕ) → last + 1 ≡ bytes_in (size_of width)
-    → (data_start ≤ address → is_written written ((address - data_start) / 4096) ≡ true) → (data_start ≤ address + last → is_written written ((address + last - data_start) / 4096) ≡ true)
+    → (data_start ≤ address → is_written written ((address - data_start) / 4096) ≡ true) → (data_start ≤ address + last
+    → is_written written ((address + last - data_start) / 4096) ≡ true)
     → Covers written (places_of (access_at (size_of width) address))
 covers_number written address Bits8 last is a b = record {
   each = λ place within from.
-      in-one place address [] _ within (λ e. page-of written address (address + last) place a b (omega (arith, e)) (omega (arith, e)) (omega (arith, is)) from) (in-none place _);
+      in-one place address [] _ within (λ e. page-of written address (address + last) place a b (omega (arith, e)) (omega (arith, e)) (omega (arith, is)) from)
+      (in-none place _);
 }
 covers_number written address Bits16 last is a b = record {
   each = λ place within from.
-      in-one place address ((address + 1) ∷ []) _ within (λ e. page-of written address (address + last) place a b (omega (arith, e)) (omega (arith, e)) (omega (arith, is)) from)
-      (λ w. in-one place (address + 1) [] _ w (λ e. page-of written address (address + last) place a b (omega (arith, e)) (omega (arith, e, is)) (omega (arith, is)) from) (in-none place _));
+      in-one place address ((address + 1) ∷ []) _ within (λ e. page-of written address (address + last) place a b (omega (arith, e)) (omega (arith, e))
+      (omega (arith, is)) from)
+      (λ w. in-one place (address + 1) [] _ w (λ e. page-of written address (address + last) place a b (omega (arith, e)) (omega (arith, e, is))
+      (omega (arith, is)) from) (in-none place _));
 }
 covers_number written address Bits32 last is a b = record {
   each = λ place within from.
-      in-one place address ((address + 1) ∷ (address + 2) ∷ (address + 3) ∷ []) _ within (λ e. page-of written address (address + last) place a b (omega (arith, e)) (omega (arith, e)) (omega (arith, is)) from)
-      (λ w. in-one place (address + 1) ((address + 2) ∷ (address + 3) ∷ []) _ w (λ e. page-of written address (address + last) place a b (omega (arith, e)) (omega (arith, e, is)) (omega (arith, is)) from)
-      (λ v. in-one place (address + 2) ((address + 3) ∷ []) _ v (λ e. page-of written address (address + last) place a b (omega (arith, e)) (omega (arith, e, is)) (omega (arith, is)) from)
-      (λ u. in-one place (address + 3) [] _ u (λ e. page-of written address (address + last) place a b (omega (arith, e)) (omega (arith, e, is)) (omega (arith, is)) from) (in-none place _))));
+      in-one place address ((address + 1) ∷ (address + 2) ∷ (address + 3) ∷ []) _ within (λ e. page-of written address (address + last) place a b
+      (omega (arith, e)) (omega (arith, e)) (omega (arith, is)) from)
+      (λ w. in-one place (address + 1) ((address + 2) ∷ (address + 3) ∷ []) _ w (λ e. page-of written address (address + last) place a b (omega (arith, e))
+      (omega (arith, e, is)) (omega (arith, is)) from)
+      (λ v. in-one place (address + 2) ((address + 3) ∷ []) _ v (λ e. page-of written address (address + last) place a b (omega (arith, e))
+      (omega (arith, e, is)) (omega (arith, is)) from)
+      (λ u. in-one place (address + 3) [] _ u (λ e. page-of written address (address + last) place a b (omega (arith, e)) (omega (arith, e, is))
+      (omega (arith, is)) from) (in-none place _))));
 }
 
 -- ---- a turn whose places are marked
 
-pub marks_stored : (state : State) (number : ℕ) (was now : List Bool) → slice_get state.harts number ≡ Some (hart_at state number) → Marked was now → Covers now (written state number) → Marks state.memory (turn state number).memory was now
+pub marks_stored : (state : State) (number : ℕ) (was now : List Bool) → slice_get state.harts number ≡ Some (hart_at state number) → Marked was now
+    → Covers now (written state number) → Marks state.memory (turn state number).memory was now
 marks_stored state number was now there marked covers = record {
   as_many = (shape-turn state number).bytes;
   flags = marked.flags;
@@ -176,14 +199,16 @@ marks_stored state number was now there marked covers = record {
 }
 
 -- what the instruction stores is what the turn writes, or it writes nothing
-pub store_marks : (state : State) (number : ℕ) (insn : Insn) (stored : Stored) (was now : List Bool) → slice_get state.harts number ≡ Some (hart_at state number)
+pub store_marks : (state : State) (number : ℕ) (insn : Insn) (stored : Stored) (was now : List Bool)
+    → slice_get state.harts number ≡ Some (hart_at state number)
     → option_and_then store_in (fetched state.text (hart_at state number).pc) ≡ Some insn
     → (illegal_fault insn (hart_at state number) ≡ None → places_in stored ≡ places_stored insn (hart_at state number))
     → Marked was now → Covers now (places_in stored) → Marks state.memory (turn state number).memory was now
 store_marks state number insn stored was now there stores means marked covers = go (outcome state number) refl
   where
     other : outcome state number ≢ Stepped → Marks state.memory (turn state number).memory was now
-    other isnt = marks_stored state number was now there marked (subst (λ (ps : List ℕ). Covers now ps) (sym (not_stepped state number there isnt)) (covers_none now))
+    other isnt = marks_stored state number was now there marked (subst (λ (ps : List ℕ). Covers now ps) (sym (not_stepped state number there isnt))
+        (covers_none now))
 
     go : (o : Outcome) → outcome state number ≡ o → Marks state.memory (turn state number).memory was now
     go Stepped is =
@@ -198,17 +223,20 @@ store_marks state number insn stored was now there stores means marked covers = 
     go (HasTrapped trap) is = other (λ e. (let apart : HasTrapped trap ≡ Stepped = sym is ∙ e in cc))
 
 -- and of a hart whose instruction doesn't store
-pub quiet_memory : (state : State) (number : ℕ) → number < length state.harts → option_and_then store_in (fetched state.text (hart_at state number).pc) ≡ None → (turn state number).memory ≡ state.memory
+pub quiet_memory : (state : State) (number : ℕ) → number < length state.harts → option_and_then store_in (fetched state.text (hart_at state number).pc) ≡ None
+    → (turn state number).memory ≡ state.memory
 quiet_memory state number below none = all-stay state number (there-is state number below) (quiet_without_store state number (there-is state number below) none)
 
 -- ---- numbers one behind the other
 
-pub none_covered : (written : List Bool) (width : ElementWidth) (addresses : List ℕ) → length addresses < 1 → Covers written (touched (accesses_at width addresses))
+pub none_covered : (written : List Bool) (width : ElementWidth) (addresses : List ℕ) → length addresses < 1
+    → Covers written (touched (accesses_at width addresses))
 none_covered written width [] few = covers_none written
 none_covered written width (address ∷ others) few = absurd (omega (arith, few))
 
 pub numbers_covered : (width : ElementWidth) (addresses : List ℕ) (between new : List Bool) → 1 ≤ length addresses → Marked between new
-    → Covers between (places_of (access_at (size_of width) (get_or addresses 0 0))) → Covers new (touched (accesses_at width (take (length addresses - 1) (drop 1 addresses))))
+    → Covers between (places_of (access_at (size_of width) (get_or addresses 0 0)))
+    → Covers new (touched (accesses_at width (take (length addresses - 1) (drop 1 addresses))))
     → Covers new (touched (accesses_at width addresses))
 numbers_covered width [] between new some marked first again = absurd (omega (arith, some))
 numbers_covered width (address ∷ others) between new some marked first again =

@@ -45,13 +45,15 @@ by_word : (text : List ℕ) (bytes : ℕ) (hart : HartState) (w : Option ℕ) �
 by_word text bytes hart None is other does = absurd cc
 by_word text bytes hart (Some word) is other does = by_meaning text bytes hart (decoded word) (ap (option_and_then decoded) is) other does
 
-by_status : (text : List ℕ) (bytes : ℕ) (hart : HartState) (s : Status) (other : Insn) → if_running s (due (length text) bytes hart (fetched text hart.pc)) ≡ Does other
+by_status : (text : List ℕ) (bytes : ℕ) (hart : HartState) (s : Status) (other : Insn) → if_running s (due (length text) bytes hart (fetched text hart.pc))
+    ≡ Does other
     → DoesMeant text hart (if_running s (due (length text) bytes hart (fetched text hart.pc)))
 by_status text bytes hart Running other does = by_word text bytes hart (fetched text hart.pc) refl other does
 by_status text bytes hart Finished other does = absurd cc
 by_status text bytes hart (Trapped trap) other does = absurd cc
 
-pub does_meant : (text : List ℕ) (bytes : ℕ) (hart : HartState) (other : Insn) → next_of text bytes hart ≡ Does other → DoesMeant text hart (next_of text bytes hart)
+pub does_meant : (text : List ℕ) (bytes : ℕ) (hart : HartState) (other : Insn) → next_of text bytes hart ≡ Does other
+    → DoesMeant text hart (next_of text bytes hart)
 does_meant text bytes hart other does = by_status text bytes hart hart.status other does
 
 -- ---- outcomes
@@ -80,7 +82,8 @@ pub record WritesStored (state : State) (number : ℕ) : Type 0 where
   pub legal : illegal_fault insn (hart_at state number) ≡ None
   pub writes_it : written state number ≡ places_stored insn (hart_at state number)
 
-pub stepped : (state : State) (number : ℕ) → slice_get state.harts number ≡ Some (hart_at state number) → outcome state number ≡ Stepped → WritesStored state number
+pub stepped : (state : State) (number : ℕ) → slice_get state.harts number ≡ Some (hart_at state number) → outcome state number ≡ Stepped
+    → WritesStored state number
 stepped state number there is =
     let hart = hart_at state number in
     let next = next_of state.text (length state.memory) hart in
@@ -94,7 +97,8 @@ stepped state number there is =
       writes_it = ap (λ n. writes n hart) meant_so.does;
     }
 
-pub not_stepped : (state : State) (number : ℕ) → slice_get state.harts number ≡ Some (hart_at state number) → outcome state number ≢ Stepped → written state number ≡ []
+pub not_stepped : (state : State) (number : ℕ) → slice_get state.harts number ≡ Some (hart_at state number) → outcome state number ≢ Stepped
+    → written state number ≡ []
 not_stepped state number there isnt =
     let hart = hart_at state number in
     let next = next_of state.text (length state.memory) hart in
@@ -117,7 +121,8 @@ store_is (Some w) insn store is stores = go (is_store insn) (ap if_store (sym is
     go true e = cc
     go false e = absurd cc
 
-pub store_none : (word : Option ℕ) (insn : Insn) (hart : HartState) → option_and_then decoded word ≡ Some insn → option_and_then store_in word ≡ None → places_stored insn hart ≡ []
+pub store_none : (word : Option ℕ) (insn : Insn) (hart : HartState) → option_and_then decoded word ≡ Some insn → option_and_then store_in word ≡ None
+    → places_stored insn hart ≡ []
 store_none None insn hart is stores = absurd cc
 store_none (Some w) insn hart is stores = other_stores_nothing insn hart (go (is_store insn) (ap if_store (sym is) ∙ stores))
   where

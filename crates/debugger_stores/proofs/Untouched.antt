@@ -1,5 +1,6 @@
 -- Bytes that a turn doesn't write.
-use Rattle.std.proofs.Common.{◌≡◌, ◌∙◌, ◌+◌, ◌-◌, ◌==◌, ◌<◌, ◌≤◌, ℕ, Bool, true, false, refl, sym, ap, subst, arith, List, [], ◌∷◌, length, Option, Some, None, eq-eqb}
+use Rattle.std.proofs.Common.{◌≡◌, ◌∙◌, ◌+◌, ◌-◌, ◌==◌, ◌<◌, ◌≤◌, ℕ, Bool, true, false, refl, sym, ap, subst, arith, List, [], ◌∷◌, length, Option, Some, None}
+use Rattle.std.proofs.Common.{eq-eqb}
 use Rattle.std.specs.Prelude.{◌≢◌, if◌then◌else◌, nat_lt, cond, slice_get, slice_index}
 use Rattle.std.proofs.lemmas.Bool.{cond_both, ltb-true}
 use Rattle.memory.specs.Access.{NotIn, byte_at, data_start, put}
@@ -14,7 +15,8 @@ not_in : (place : ℕ) (places : List ℕ) → is_in place places ≡ false → 
 not_in place [] none = tt
 not_in place (other ∷ others) none = go (not_in place others) (place == other) refl none
   where
-    go : (is_in place others ≡ false → NotIn place others) → (b : Bool) → place == other ≡ b → (if b then true else is_in place others) ≡ false → NotIn place (other ∷ others)
+    go : (is_in place others ≡ false → NotIn place others) → (b : Bool) → place == other ≡ b → (if b then true else is_in place others) ≡ false
+        → NotIn place (other ∷ others)
     go rest true e isnt = absurd cc
     go rest false e isnt = (λ same. (let yes = eq-eqb place other same in let no : true ≡ false = sym yes ∙ e in absurd cc), rest isnt)
 
@@ -27,7 +29,8 @@ byte-of text memory i =
 
 -- data behind a turn of a hart that is there
 pub memory-of : (state : State) (number : ℕ) → slice_get state.harts number ≡ Some (hart_at state number)
-    → (turn state number).memory ≡ put state.memory (effect state.text state.memory (hart_at state number)).places (effect state.text state.memory (hart_at state number)).bytes
+    → (turn state number).memory ≡ put state.memory (effect state.text state.memory (hart_at state number)).places (effect state.text state.memory
+    (hart_at state number)).bytes
 memory-of state number there = ap (λ (one : Option HartState). (turned state number one).memory) there
 
 -- a byte that isn't written stays
@@ -36,7 +39,8 @@ pub stays : (state : State) (number i : ℕ) → slice_get state.harts number �
 stays state number i there isnt =
     let hart = hart_at state number in
     let e = effect state.text state.memory hart in
-    let apart : NotIn (data_start + i) e.places = subst (λ (ps : List ℕ). NotIn (data_start + i) ps) (sym (places-are state.text state.memory hart)) (not_in (data_start + i) (written state number) isnt) in
+    let apart : NotIn (data_start + i) e.places = subst (λ (ps : List ℕ). NotIn (data_start + i) ps) (sym (places-are state.text state.memory hart))
+    (not_in (data_start + i) (written state number) isnt) in
     ap (λ m. slice_index m i) (memory-of state number there)
     ∙ sym (byte-of state.text (put state.memory e.places e.bytes) i)
     ∙ byte-put state.text state.memory e.places e.bytes (data_start + i) apart
@@ -47,7 +51,8 @@ none-put memory [] bytes none = refl
 none-put memory (place ∷ places) bytes none = absurd cc
 
 -- and where none is, data stay
-pub all-stay : (state : State) (number : ℕ) → slice_get state.harts number ≡ Some (hart_at state number) → written state number ≡ [] → (turn state number).memory ≡ state.memory
+pub all-stay : (state : State) (number : ℕ) → slice_get state.harts number ≡ Some (hart_at state number) → written state number ≡ []
+    → (turn state number).memory ≡ state.memory
 all-stay state number there none =
     let hart = hart_at state number in
     memory-of state number there ∙ none-put state.memory _ _ (places-are state.text state.memory hart ∙ none)

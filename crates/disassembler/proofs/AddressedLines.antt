@@ -1,5 +1,6 @@
 -- The lines of words that are listed one after the other, each with its address.
-use Rattle.std.proofs.Common.{◌≡◌, ◌∙◌, ℕ, refl, sym, ap, List, [], ◌∷◌, ◌++◌, ◌+◌, ◌-◌, ◌*◌, ◌<◌, ◌≤◌, suc, arith, drop, get_or, take, length, length-append, append-nil, append_assoc, subst}
+use Rattle.std.proofs.Common.{◌≡◌, ◌∙◌, ℕ, refl, sym, ap, List, [], ◌∷◌, ◌++◌, ◌+◌, ◌-◌, ◌*◌, ◌<◌, ◌≤◌, suc, arith, drop, get_or, take, length, length-append}
+use Rattle.std.proofs.Common.{append-nil, append_assoc, subst}
 use Rattle.std.proofs.Math.Seq.{take-length}
 use Rattle.disassembler.specs.Listing.{addressed_line, addressed_listing}
 
@@ -50,7 +51,8 @@ first_listed start words [] address old now new d some is more = absurd (omega (
 first_listed start words (word ∷ others) address old now new d some is more =
     let fewer : length (word ∷ others) - 1 ≡ length others = omega arith in
     let left : take (length (word ∷ others) - 1) others ≡ others = ap (λ n. take n others) fewer ∙ take-length others in
-    subst (λ (r : List ℕ). IsListed start words r (address + 4) old new) (sym left) (next_listed start words (word ∷ others) address old now new word others is refl more)
+    subst (λ (r : List ℕ). IsListed start words r (address + 4) old new) (sym left) (next_listed start words (word ∷ others) address old now new word others is
+    refl more)
 
 none_left : (rest : List ℕ) → length rest < 1 → rest ≡ []
 none_left [] few = refl

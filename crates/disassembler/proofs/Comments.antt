@@ -1,5 +1,6 @@
 -- A comment behind a line leaves its tokens.
-use Rattle.std.proofs.Common.{◌≡◌, ◌∙◌, ◌⊎◌, ℕ, zero, suc, ◌+◌, ◌<◌, ◌==◌, Bool, true, false, List, [], ◌∷◌, ◌++◌, length, take, drop, refl, sym, ap, ap₂, subst, inl, inr, arith, length-append}
+use Rattle.std.proofs.Common.{◌≡◌, ◌∙◌, ◌⊎◌, ℕ, zero, suc, ◌+◌, ◌<◌, ◌==◌, Bool, true, false, List, [], ◌∷◌, ◌++◌, length, take, drop, refl, sym, ap, ap₂}
+use Rattle.std.proofs.Common.{subst, inl, inr, arith, length-append}
 use Rattle.std.specs.Prelude.{if◌then◌else◌}
 use Rattle.std.specs.List.{prefix_len}
 use Rattle.line_text.specs.Lines.{ends, is_blank, is_digit, skip_blanks}
@@ -105,7 +106,8 @@ module _ (comment : List ℕ) where
       kept : front_token (some.0 ∷ (some.1 ++ behind comment)) ≡ followed (front_token (some.0 ∷ some.1))
       kept = front_kept some.0 some.1
 
-      by_end : (b : Bool) → (if b then [] else (front_token (some.0 ∷ (some.1 ++ behind comment))).0 ∷ tokens_from n (front_token (some.0 ∷ (some.1 ++ behind comment))).1)
+      by_end : (b : Bool) → (if b then [] else (front_token (some.0 ∷ (some.1 ++ behind comment))).0
+          ∷ tokens_from n (front_token (some.0 ∷ (some.1 ++ behind comment))).1)
           ≡ (if b then [] else (front_token (some.0 ∷ some.1)).0 ∷ tokens_from n (front_token (some.0 ∷ some.1)).1)
       by_end true = refl
       by_end false =
@@ -121,4 +123,5 @@ module _ (comment : List ℕ) where
 pub commented : (line comment : List ℕ) (tokens : List Token) → Reads line tokens → tokens_of (line ++ behind comment) ≡ tokens
 unfolding tokens_of
 commented line comment tokens reads =
-    same_tokens comment (suc (length (line ++ behind comment))) line ∙ reads (suc (length (line ++ behind comment))) (omega (arith, length-append line (behind comment)))
+    same_tokens comment (suc (length (line ++ behind comment))) line
+    ∙ reads (suc (length (line ++ behind comment))) (omega (arith, length-append line (behind comment)))

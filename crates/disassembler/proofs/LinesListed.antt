@@ -1,5 +1,6 @@
 -- The lines of words that are listed one after the other.
-use Rattle.std.proofs.Common.{◌≡◌, ◌∙◌, ℕ, refl, sym, ap, List, [], ◌∷◌, ◌++◌, ◌-◌, ◌<◌, ◌≤◌, arith, drop, get_or, take, length, append-nil, append_assoc, subst, OnErr, Result, Ok, Err}
+use Rattle.std.proofs.Common.{◌≡◌, ◌∙◌, ℕ, refl, sym, ap, List, [], ◌∷◌, ◌++◌, ◌-◌, ◌<◌, ◌≤◌, arith, drop, get_or, take, length, append-nil, append_assoc}
+use Rattle.std.proofs.Common.{subst, OnErr, Result, Ok, Err}
 use Rattle.std.proofs.Math.Seq.{take-append_seam, take-length}
 use Rattle.disassembler.specs.Listing.{listed, listing}
 

@@ -1,5 +1,6 @@
 -- Numbers and registers as a listing has them are tokens.
-use Rattle.std.proofs.Common.{◌≡◌, ℕ, zero, suc, ◌+◌, ◌*◌, ◌/◌, ◌%◌, ◌^◌, ◌<◌, ◌≤◌, ◌&&◌, Bool, true, ℤ, pos, negsuc, ◌-ℤ◌, ◌≤ℤ◌, unsigned_abs, List, [], ◌∷◌, ◌++◌, length, refl, ap, ◌∙◌, arith, length-append, pow-suc}
+use Rattle.std.proofs.Common.{◌≡◌, ℕ, zero, suc, ◌+◌, ◌*◌, ◌/◌, ◌%◌, ◌^◌, ◌<◌, ◌≤◌, ◌&&◌, Bool, true, ℤ, pos, negsuc, ◌-ℤ◌, ◌≤ℤ◌, unsigned_abs, List, [], ◌∷◌}
+use Rattle.std.proofs.Common.{◌++◌, length, refl, ap, ◌∙◌, arith, length-append, pow-suc}
 use Rattle.std.specs.List.{list_all}
 use Rattle.std.specs.Fmt.{decimal, signed_decimal}
 use Rattle.std.proofs.lemmas.Fmt.{decimal_nonempty}
@@ -47,7 +48,8 @@ digits_read (byte ∷ digits) rest token tokens some all means stops reads =
 below_zero : (n : ℕ) → pos 0 -ℤ pos (suc n) ≡ negsuc n
 below_zero n = grind (arith, ints, nat_tests)
 
-pub signed_reads : (number : ℤ) (rest : List ℕ) (tokens : List Token) → negsuc 4294967295 ≤ℤ number → number ≤ℤ pos 4294967296 → span rest ≡ 0 → Reads rest tokens
+pub signed_reads : (number : ℤ) (rest : List ℕ) (tokens : List Token) → negsuc 4294967295 ≤ℤ number → number ≤ℤ pos 4294967296 → span rest ≡ 0
+    → Reads rest tokens
     → Reads (signed_decimal number ++ rest) (t.Number number ∷ tokens)
 signed_reads (pos n) rest tokens least most stops reads =
     let small : n ≤ 2 ^ 32 = omega (arith, ints, most) in
@@ -59,7 +61,8 @@ signed_reads (negsuc n) rest tokens least most stops reads =
     let fits : suc n < 2 ^ 64 = omega (arith, small) in
     let same = below_zero n in
     negative_reads (decimal (suc n)) rest (t.Number (negsuc n)) tokens (digits_continue (decimal (suc n)) (decimal_digits (suc n) fits)) stops
-    (negative_is (decimal (suc n)) (suc n) (decimal_nonempty (suc n) fits) (decimal_digits (suc n) fits) (decimal_value (suc n) fits) small ∙ ap (λ (z : ℤ). t.Number z) same) reads
+    (negative_is (decimal (suc n)) (suc n) (decimal_nonempty (suc n) fits) (decimal_digits (suc n) fits) (decimal_value (suc n) fits) small
+    ∙ ap (λ (z : ℤ). t.Number z) same) reads
 
 -- ---- hexadecimal
 
@@ -72,7 +75,8 @@ digit_in_word d small = grind (arith, nat_tests)
 digit_value : (d : ℕ) → d < 16 → hexadecimal_value (hexadecimal_digit d) ≡ d
 digit_value d small = grind (arith, nat_tests)
 
-pub all_digits : (class : ℕ → Bool) (each : (d : ℕ) → d < 16 → class (hexadecimal_digit d) ≡ true) (count number : ℕ) → list_all class (last_digits count number) ≡ true
+pub all_digits : (class : ℕ → Bool) (each : (d : ℕ) → d < 16 → class (hexadecimal_digit d) ≡ true) (count number : ℕ)
+    → list_all class (last_digits count number) ≡ true
 unfolding last_digits
 all_digits class each zero number = refl
 all_digits class each (suc count) number =
@@ -100,16 +104,19 @@ unfolding number_token prefixed
 prefixed_token [] n some all value small = absurd (omega (arith, some))
 prefixed_token (byte ∷ digits) n some all value small = rw (all, value, capped_small n small) refl
 
-pub hexadecimal_reads : (count number : ℕ) (rest : List ℕ) (tokens : List Token) → 0 < count → number < 16 ^ count → number ≤ 2 ^ 32 → span rest ≡ 0 → Reads rest tokens
+pub hexadecimal_reads : (count number : ℕ) (rest : List ℕ) (tokens : List Token) → 0 < count → number < 16 ^ count → number ≤ 2 ^ 32 → span rest ≡ 0
+    → Reads rest tokens
     → Reads (hexadecimal_text count number ++ rest) (t.Number (pos number) ∷ tokens)
 unfolding hexadecimal_text
 hexadecimal_reads count number rest tokens some short small stops reads =
     number_reads 48 (120 ∷ last_digits count number) rest (t.Number (pos number)) tokens refl
     (all_digits continues_word digit_in_word count number) stops
-    (prefixed_token (last_digits count number) number (digits_some count number some) (all_digits is_hexadecimal digit_is_hexadecimal count number) (digits_value count number short) small) reads
+    (prefixed_token (last_digits count number) number (digits_some count number some) (all_digits is_hexadecimal digit_is_hexadecimal count number)
+    (digits_value count number short) small) reads
 
 -- the same of a number that isn't negative
-pub natural_reads : (count : ℕ) (number : ℤ) (rest : List ℕ) (tokens : List Token) → 0 < count → pos 0 ≤ℤ number → unsigned_abs number < 16 ^ count → unsigned_abs number ≤ 2 ^ 32
+pub natural_reads : (count : ℕ) (number : ℤ) (rest : List ℕ) (tokens : List Token) → 0 < count → pos 0 ≤ℤ number → unsigned_abs number < 16 ^ count
+    → unsigned_abs number ≤ 2 ^ 32
     → span rest ≡ 0 → Reads rest tokens → Reads (hexadecimal_text count (unsigned_abs number) ++ rest) (t.Number number ∷ tokens)
 natural_reads count (pos n) rest tokens some least short small stops reads = hexadecimal_reads count n rest tokens some short small stops reads
 natural_reads count (negsuc n) rest tokens some least short small stops reads = absurd (omega (arith, ints, least))

@@ -1,11 +1,13 @@
 -- The operands of slots as a listing has them are the tokens of what the slots show.
-use Rattle.std.proofs.Common.{◌≡◌, ℕ, zero, suc, ◌^◌, ◌<◌, ◌&&◌, nat_lt, Bool, true, false, if◌then◌else◌, ℤ, pos, negsuc, ◌*ℤ◌, ◌≤ℤ◌, unsigned_abs, List, [], ◌∷◌, ◌++◌, refl, sym, ap, subst, arith, append_assoc, codes}
+use Rattle.std.proofs.Common.{◌≡◌, ℕ, zero, suc, ◌^◌, ◌<◌, ◌&&◌, nat_lt, Bool, true, false, if◌then◌else◌, ℤ, pos, negsuc, ◌*ℤ◌, ◌≤ℤ◌, unsigned_abs, List, []}
+use Rattle.std.proofs.Common.{◌∷◌, ◌++◌, refl, sym, ap, subst, arith, append_assoc, codes}
 use Rattle.std.specs.Fmt.{signed_decimal}
 use Rattle.std.proofs.lemmas.Bool.{ltb-true}
 use Rattle.std.proofs.lemmas.Int.{ints}
 use Rattle.assembler_mnemonics.specs.Slots.{field_at, FitsSlot, FitsSlots}
 use Rattle.assembler_mnemonics.specs.Registers.{integer_letter, vector_letter}
-use Rattle.assembler_mnemonics.specs.Configuration.{width_names, group_names, tail_names, mask_names, width_code, group_code, tail_code, mask_code, has_names, name_at}
+use Rattle.assembler_mnemonics.specs.Configuration.{width_names, group_names, tail_names, mask_names, width_code, group_code, tail_code, mask_code, has_names}
+use Rattle.assembler_mnemonics.specs.Configuration.{name_at}
 use Rattle.assembler_mnemonics.specs.declared.slots.Slot.{Slot}
 use Rattle.assembler_mnemonics.specs.declared.slots.Slot.TheVariants.{Integer, Vector, MaskRegister, Number, Upper, Based, Address, Target, Configuration, Mask}
 use Rattle.assembler_syntax.specs.declared.tokens.Token.{Token}
@@ -25,7 +27,8 @@ moved written grouped tokens same reads = subst (λ bytes. Reads bytes tokens) (
 
 -- ---- brackets
 
-bracket_reads : (word rest : List ℕ) (tokens : List Token) → is_word word ≡ true → Reads rest tokens → Reads (bracketed word ++ rest) (t.Open ∷ t.Word word ∷ t.Close ∷ tokens)
+bracket_reads : (word rest : List ℕ) (tokens : List Token) → is_word word ≡ true → Reads rest tokens
+    → Reads (bracketed word ++ rest) (t.Open ∷ t.Word word ∷ t.Close ∷ tokens)
 bracket_reads word rest tokens is reads =
     moved (bracketed word ++ rest) (40 ∷ (word ++ 41 ∷ rest)) (t.Open ∷ t.Word word ∷ t.Close ∷ tokens)
     (ap (λ bytes. 40 ∷ bytes) (append_assoc word (41 ∷ []) rest))
@@ -56,7 +59,8 @@ mask_word (suc zero) small = refl
 mask_word (suc (suc code)) small = absurd (omega (arith, small))
 
 -- four words with commas between them
-four_reads : (a b c d rest : List ℕ) (tokens : List Token) → is_word a ≡ true → is_word b ≡ true → is_word c ≡ true → is_word d ≡ true → span rest ≡ 0 → Reads rest tokens
+four_reads : (a b c d rest : List ℕ) (tokens : List Token) → is_word a ≡ true → is_word b ≡ true → is_word c ≡ true → is_word d ≡ true → span rest ≡ 0
+    → Reads rest tokens
     → Reads ((a ++ 44 ∷ b ++ 44 ∷ c ++ 44 ∷ d) ++ rest) (t.Word a ∷ t.Comma ∷ t.Word b ∷ t.Comma ∷ t.Word c ∷ t.Comma ∷ t.Word d ∷ tokens)
 four_reads a b c d rest tokens first second third fourth stops reads =
     let same : (a ++ 44 ∷ b ++ 44 ∷ c ++ 44 ∷ d) ++ rest ≡ a ++ 44 ∷ (b ++ 44 ∷ (c ++ 44 ∷ (d ++ rest))) = simp append_assoc in
@@ -83,7 +87,8 @@ names_read : (vtype : ℕ) (rest : List ℕ) (tokens : List Token) → has_names
     → Reads (vtype_text vtype ++ rest) (operands_tokens (vtype_shown vtype) ++ tokens)
 unfolding vtype_text names_text vtype_shown operands_tokens later_tokens
 names_read vtype rest tokens named stops reads = let words = names_are_words vtype named in
-    rw named (four_reads (name_at width_names (width_code vtype)) (name_at group_names (group_code vtype)) (name_at tail_names (tail_code vtype)) (name_at mask_names (mask_code vtype))
+    rw named (four_reads (name_at width_names (width_code vtype)) (name_at group_names (group_code vtype)) (name_at tail_names (tail_code vtype))
+    (name_at mask_names (mask_code vtype))
     rest tokens words.0 words.1 words.2 words.3 stops reads)
 
 digits_read : (vtype : ℕ) (rest : List ℕ) (tokens : List Token) → has_names vtype ≡ false → vtype < 4096 → span rest ≡ 0 → Reads rest tokens
@@ -94,10 +99,11 @@ digits_read vtype rest tokens unnamed small stops reads =
 
 vtype_reads : (vtype : ℕ) (rest : List ℕ) (tokens : List Token) → vtype < 4096 → span rest ≡ 0 → Reads rest tokens
     → Reads (vtype_text vtype ++ rest) (operands_tokens (vtype_shown vtype) ++ tokens)
-vtype_reads vtype rest tokens small stops reads = elim (has_names vtype) as (λ named. has_names vtype ≡ named → Reads (vtype_text vtype ++ rest) (operands_tokens (vtype_shown vtype) ++ tokens)) [
-  | true ↦ λ e. names_read vtype rest tokens e stops reads
-  | false ↦ λ e. digits_read vtype rest tokens e small stops reads
-] refl
+vtype_reads vtype rest tokens small stops reads = elim (has_names vtype) as (λ named. has_names vtype ≡ named
+    → Reads (vtype_text vtype ++ rest) (operands_tokens (vtype_shown vtype) ++ tokens)) [
+      | true ↦ λ e. names_read vtype rest tokens e stops reads
+      | false ↦ λ e. digits_read vtype rest tokens e small stops reads
+    ] refl
 
 configuration_small : (vtype greatest : ℤ) → pos 0 ≤ℤ vtype → vtype ≤ℤ greatest → greatest ≤ℤ pos 4095 → unsigned_abs vtype < 4096
 configuration_small (pos n) (pos m) least most bound = omega (arith, ints, most, bound)
@@ -110,7 +116,8 @@ upper_small (negsuc n) least most = absurd (omega (arith, ints, least))
 
 -- ---- a slot whose operand is written
 
-pub slot_reads : (slot : Slot) (fields : List ℤ) (count : ℕ) (rest : List ℕ) (tokens : List Token) → is_written slot fields ≡ true → Reaches count slot → FitsSlot fields slot → span rest ≡ 0 → Reads rest tokens
+pub slot_reads : (slot : Slot) (fields : List ℤ) (count : ℕ) (rest : List ℕ) (tokens : List Token) → is_written slot fields ≡ true → Reaches count slot
+    → FitsSlot fields slot → span rest ≡ 0 → Reads rest tokens
     → Reads (operand_text slot fields ++ rest) (operands_tokens (shown slot fields) ++ tokens)
 unfolding operand_text shown operands_tokens later_tokens
 slot_reads (Integer field) fields count rest tokens written reach fits stops reads =
@@ -127,11 +134,13 @@ slot_reads (Based offset base) fields count rest tokens written reach fits stops
     let word = register_in integer_letter fields base in
     let is : is_word word ≡ true = register_word integer_letter (field_at fields base) refl fits.1.0 fits.1.1 in
     moved _ _ _ (append_assoc (signed_decimal (field_at fields offset)) (bracketed word) rest)
-    (signed_reads (field_at fields offset) (bracketed word ++ rest) _ (omega (arith, ints, fits.0.0)) (omega (arith, ints, fits.0.1)) refl (bracket_reads word rest tokens is reads))
+    (signed_reads (field_at fields offset) (bracketed word ++ rest) _ (omega (arith, ints, fits.0.0)) (omega (arith, ints, fits.0.1)) refl
+    (bracket_reads word rest tokens is reads))
 slot_reads (Address base) fields count rest tokens written reach fits stops reads =
     bracket_reads (register_in integer_letter fields base) rest tokens (register_word integer_letter (field_at fields base) refl fits.0 fits.1) reads
 slot_reads (Target field reach') fields count rest tokens written reach fits stops reads =
-    signed_reads (field_at fields field *ℤ pos 2) rest tokens (omega (arith, ints, fits.0, fits.1, reach.1)) (omega (arith, ints, fits.0, fits.1, reach.1)) stops reads
+    signed_reads (field_at fields field *ℤ pos 2) rest tokens (omega (arith, ints, fits.0, fits.1, reach.1)) (omega (arith, ints, fits.0, fits.1, reach.1))
+    stops reads
 slot_reads (Configuration field greatest) fields count rest tokens written reach fits stops reads =
     vtype_reads (unsigned_abs (field_at fields field)) rest tokens (configuration_small (field_at fields field) greatest fits.0 fits.1 reach.1) stops reads
 slot_reads (Mask field) fields count rest tokens written reach fits stops reads = rw written (word_reads (codes "v0.t") rest tokens refl stops reads)
@@ -141,7 +150,8 @@ slot_reads (Mask field) fields count rest tokens written reach fits stops reads 
 abbrev Some_shown : Slot → List ℤ → Type 0
 Some_shown slot fields = (operand : Operand) × (others : List Operand) × (shown slot fields ≡ operand ∷ others)
 
-chosen_some : (test : Bool) (a b : Operand) (more rest : List Operand) → (operand : Operand) × (others : List Operand) × ((if test then a ∷ more else b ∷ rest) ≡ operand ∷ others)
+chosen_some : (test : Bool) (a b : Operand) (more rest : List Operand) → (operand : Operand) × (others : List Operand) × ((if test then a ∷ more else b ∷ rest)
+    ≡ operand ∷ others)
 chosen_some true a b more rest = (a, more, refl)
 chosen_some false a b more rest = (b, rest, refl)
 
@@ -178,16 +188,19 @@ later_of slot fields others written = let some = written_shows slot fields writt
 later_stops : (slots : List Slot) (fields : List ℤ) → span (later_text slots fields) ≡ 0
 unfolding later_text
 later_stops [] fields = refl
-later_stops (slot ∷ slots) fields = elim (is_written slot fields) as (λ written. span ((if written then 44 ∷ operand_text slot fields else []) ++ later_text slots fields) ≡ 0) [
-  | true ↦ refl
-  | false ↦ later_stops slots fields
-]
+later_stops (slot ∷ slots) fields = elim (is_written slot fields) as (λ written. span ((if written then 44 ∷ operand_text slot fields else [])
+    ++ later_text slots fields) ≡ 0) [
+      | true ↦ refl
+      | false ↦ later_stops slots fields
+    ]
 
-later_written : (slot : Slot) (slots : List Slot) (fields : List ℤ) → is_written slot fields ≡ true → later_text (slot ∷ slots) fields ≡ 44 ∷ (operand_text slot fields ++ later_text slots fields)
+later_written : (slot : Slot) (slots : List Slot) (fields : List ℤ) → is_written slot fields ≡ true → later_text (slot ∷ slots) fields ≡ 44
+    ∷ (operand_text slot fields ++ later_text slots fields)
 unfolding later_text
 later_written slot slots fields written = rw written refl
 
-later_unwritten : (slot : Slot) (slots : List Slot) (fields : List ℤ) → is_written slot fields ≡ false → later_text (slot ∷ slots) fields ≡ later_text slots fields
+later_unwritten : (slot : Slot) (slots : List Slot) (fields : List ℤ) → is_written slot fields ≡ false
+    → later_text (slot ∷ slots) fields ≡ later_text slots fields
 unfolding later_text
 later_unwritten slot slots fields written = rw written refl
 
@@ -195,15 +208,18 @@ all_shown_more : (slot : Slot) (slots : List Slot) (fields : List ℤ) → all_s
 unfolding all_shown
 all_shown_more slot slots fields = refl
 
-later_reads : (slots : List Slot) (fields : List ℤ) (count : ℕ) → AllReach count slots → FitsSlots fields slots → Reads (later_text slots fields) (later_tokens (all_shown slots fields))
+later_reads : (slots : List Slot) (fields : List ℤ) (count : ℕ) → AllReach count slots → FitsSlots fields slots
+    → Reads (later_text slots fields) (later_tokens (all_shown slots fields))
 unfolding later_text later_tokens all_shown
 later_reads [] fields count reach fits = nothing_reads
-later_reads (slot ∷ slots) fields count reach fits = elim (is_written slot fields) as (λ written. is_written slot fields ≡ written → Reads (later_text (slot ∷ slots) fields) (later_tokens (all_shown (slot ∷ slots) fields))) [
-  | true ↦ λ e. rw (later_written slot slots fields e, later_of slot fields (all_shown slots fields) e)
-      (comma_reads _ _ (slot_reads slot fields count (later_text slots fields) (later_tokens (all_shown slots fields)) e reach.0 fits.0 (later_stops slots fields)
-      (later_reads slots fields count reach.1 fits.1)))
-  | false ↦ λ e. rw (later_unwritten slot slots fields e, unwritten_shows slot fields e) (later_reads slots fields count reach.1 fits.1)
-] refl
+later_reads (slot ∷ slots) fields count reach fits = elim (is_written slot fields) as (λ written. is_written slot fields ≡ written
+    → Reads (later_text (slot ∷ slots) fields) (later_tokens (all_shown (slot ∷ slots) fields))) [
+      | true ↦ λ e. rw (later_written slot slots fields e, later_of slot fields (all_shown slots fields) e)
+          (comma_reads _ _ (slot_reads slot fields count (later_text slots fields) (later_tokens (all_shown slots fields)) e reach.0 fits.0
+          (later_stops slots fields)
+          (later_reads slots fields count reach.1 fits.1)))
+      | false ↦ λ e. rw (later_unwritten slot slots fields e, unwritten_shows slot fields e) (later_reads slots fields count reach.1 fits.1)
+    ] refl
 
 -- ---- all operands; the first is always written
 
@@ -228,7 +244,8 @@ operands_read [] fields count first reach fits = nothing_reads
 operands_read (slot ∷ slots) fields count first reach fits =
     let written = plain_written slot slots fields first in
     rw (first_of slot fields (all_shown slots fields) written)
-    (blank_reads _ _ (slot_reads slot fields count (later_text slots fields) (later_tokens (all_shown slots fields)) written reach.0 fits.0 (later_stops slots fields)
+    (blank_reads _ _ (slot_reads slot fields count (later_text slots fields) (later_tokens (all_shown slots fields)) written reach.0 fits.0
+    (later_stops slots fields)
     (later_reads slots fields count reach.1 fits.1)))
 
 pub operands_stop : (slots : List Slot) (fields : List ℤ) → span (operands_text slots fields) ≡ 0

@@ -25,7 +25,8 @@ all_back [] = refl
 all_back (operand ∷ operands) = rw (operand_back operand, all_back operands) refl
 
 -- an operand's tokens in front of the end or of a comma are a piece
-piece_and : (operand : Operand) (others : List (List Token)) (rest : List Token) → pieces_of rest ≡ [] ∷ others → pieces_of (operand_tokens operand ++ rest) ≡ operand_tokens operand ∷ others
+piece_and : (operand : Operand) (others : List (List Token)) (rest : List Token) → pieces_of rest ≡ [] ∷ others → pieces_of (operand_tokens operand ++ rest)
+    ≡ operand_tokens operand ∷ others
 unfolding pieces_of
 piece_and (o.Word word) others rest e = rw e refl
 piece_and (o.Number number) others rest e = rw e refl
@@ -63,7 +64,8 @@ operands_back (operand ∷ operands) =
     ∙ all_back (operand ∷ operands)
 
 -- no colon stands behind the mnemonic
-no_label : (mnemonic : List ℕ) (operands : List Operand) → statement_of (t.Word mnemonic ∷ operands_tokens operands) ≡ commanded None mnemonic (operands_of (operands_tokens operands))
+no_label : (mnemonic : List ℕ) (operands : List Operand) → statement_of (t.Word mnemonic ∷ operands_tokens operands)
+    ≡ commanded None mnemonic (operands_of (operands_tokens operands))
 unfolding statement_of operands_tokens
 no_label mnemonic [] = refl
 no_label mnemonic (o.Word word ∷ operands) = refl
@@ -71,7 +73,8 @@ no_label mnemonic (o.Number number ∷ operands) = refl
 no_label mnemonic (o.Based number base ∷ operands) = refl
 no_label mnemonic (o.Bracketed base ∷ operands) = refl
 
-pub statement_back : (mnemonic : List ℕ) (operands : List Operand) → statement_of (t.Word mnemonic ∷ operands_tokens operands) ≡ Some (commanding mnemonic operands)
+pub statement_back : (mnemonic : List ℕ) (operands : List Operand) → statement_of (t.Word mnemonic ∷ operands_tokens operands)
+    ≡ Some (commanding mnemonic operands)
 statement_back mnemonic operands = no_label mnemonic operands ∙ ap (commanded None mnemonic) (operands_back operands)
 
 -- tokens of operands one after the other
@@ -82,7 +85,8 @@ later_append (operand ∷ front) operands =
     ap (λ tokens. t.Comma ∷ operand_tokens operand ++ tokens) (later_append front operands)
     ∙ ap (λ tokens. t.Comma ∷ tokens) (sym (append_assoc (operand_tokens operand) (later_tokens front) (later_tokens operands)))
 
-pub first_append : (operand : Operand) (front operands : List Operand) → operands_tokens ((operand ∷ front) ++ operands) ≡ operands_tokens (operand ∷ front) ++ later_tokens operands
+pub first_append : (operand : Operand) (front operands : List Operand) → operands_tokens ((operand ∷ front) ++ operands) ≡ operands_tokens (operand ∷ front)
+    ++ later_tokens operands
 unfolding operands_tokens
 first_append operand front operands =
     ap (λ tokens. operand_tokens operand ++ tokens) (later_append front operands)

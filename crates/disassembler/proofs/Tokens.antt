@@ -1,5 +1,6 @@
 -- The tokens of a text whose front is known.
-use Rattle.std.proofs.Common.{◌≡◌, ℕ, zero, suc, ◌+◌, ◌<◌, ◌==◌, ◌||◌, ◌&&◌, Bool, true, false, List, [], ◌∷◌, ◌++◌, length, take, drop, refl, sym, ap, subst, ◌∙◌, arith, length-append, true≢false}
+use Rattle.std.proofs.Common.{◌≡◌, ℕ, zero, suc, ◌+◌, ◌<◌, ◌==◌, ◌||◌, ◌&&◌, Bool, true, false, List, [], ◌∷◌, ◌++◌, length, take, drop, refl, sym, ap, subst}
+use Rattle.std.proofs.Common.{◌∙◌, arith, length-append, true≢false}
 use Rattle.std.specs.List.{prefix_len, list_all}
 use Rattle.std.proofs.lemmas.Bool.{eqb-true}
 use Rattle.std.proofs.lemmas.Bool.Decides.{nat_tests}
@@ -141,7 +142,8 @@ unfolding front_token
 number_front byte digits rest is all stops =
     rw (front_span (byte ∷ digits) rest all stops, taken_front (byte ∷ digits) rest, dropped_front (byte ∷ digits) rest, digit_begins_nothing byte is, is) refl
 
-negative_front : (digits rest : List ℕ) → list_all continues_word digits ≡ true → span rest ≡ 0 → front_token (45 ∷ (digits ++ rest)) ≡ (negative_token digits, rest)
+negative_front : (digits rest : List ℕ) → list_all continues_word digits ≡ true → span rest ≡ 0
+    → front_token (45 ∷ (digits ++ rest)) ≡ (negative_token digits, rest)
 unfolding front_token
 negative_front digits rest all stops = rw (front_span digits rest all stops, taken_front digits rest, dropped_front digits rest) refl
 
@@ -156,7 +158,8 @@ front_reads byte front rest token tokens is taken reads =
     (rw (no_blanks byte (front ++ rest) is) (no_comment byte (front ++ rest) is))
     (ap front_token (no_blanks byte (front ++ rest) is) ∙ taken) (shorter byte front rest) reads
 
-pub word_reads : (word rest : List ℕ) (tokens : List Token) → is_word word ≡ true → span rest ≡ 0 → Reads rest tokens → Reads (word ++ rest) (t.Word word ∷ tokens)
+pub word_reads : (word rest : List ℕ) (tokens : List Token) → is_word word ≡ true → span rest ≡ 0 → Reads rest tokens
+    → Reads (word ++ rest) (t.Word word ∷ tokens)
 word_reads [] rest tokens is stops reads = absurd cc
 word_reads (byte ∷ word) rest tokens is stops reads =
     let parts = both_true (begins_word byte) (list_all continues_word word) is in
@@ -164,7 +167,8 @@ word_reads (byte ∷ word) rest tokens is stops reads =
     front_reads byte word rest (t.Word (byte ∷ word)) tokens first
     (word_front byte word rest parts.0 (both (continues_word byte) (list_all continues_word word) first parts.1) stops) reads
 
-pub number_reads : (byte : ℕ) (digits rest : List ℕ) (token : Token) (tokens : List Token) → is_digit byte ≡ true → list_all continues_word digits ≡ true → span rest ≡ 0
+pub number_reads : (byte : ℕ) (digits rest : List ℕ) (token : Token) (tokens : List Token) → is_digit byte ≡ true → list_all continues_word digits ≡ true
+    → span rest ≡ 0
     → number_token (byte ∷ digits) ≡ token → Reads rest tokens → Reads (byte ∷ (digits ++ rest)) (token ∷ tokens)
 number_reads byte digits rest token tokens is all stops means reads =
     let first = digit_continues byte is in

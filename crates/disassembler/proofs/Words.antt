@@ -1,5 +1,6 @@
 -- The line of each word is the tokens of what it says.
-use Rattle.std.proofs.Common.{◌≡◌, ℕ, ◌^◌, ◌<◌, Bool, true, false, cond, pos, List, [], ◌∷◌, length, codes, refl, subst, arith, append-nil, Option, Some, None, find}
+use Rattle.std.proofs.Common.{◌≡◌, ℕ, ◌^◌, ◌<◌, Bool, true, false, cond, pos, List, [], ◌∷◌, length, codes, refl, subst, arith, append-nil, Option, Some, None}
+use Rattle.std.proofs.Common.{find}
 use Rattle.std.specs.List.{list_all}
 use Rattle.rv_insn.specs.Table.{fields_of}
 use Rattle.rv_insn.specs.declared.instructions.Insn.{Insn}
@@ -50,7 +51,8 @@ instruction_reads : (insn : Insn) → IsFound (form_of insn) → FitsSlots (fiel
     → Reads (instruction_text insn) (t.Word (mnemonic (form_of insn)) ∷ operands_tokens (all_shown (shape (form_of insn)) (fields_of insn)))
 unfolding instruction_text
 instruction_reads insn found fits = let form = form_of insn in
-    word_reads (mnemonic form) (operands_text (shape form) (fields_of insn)) (operands_tokens (all_shown (shape form) (fields_of insn))) (mnemonic_word form found)
+    word_reads (mnemonic form) (operands_text (shape form) (fields_of insn)) (operands_tokens (all_shown (shape form) (fields_of insn)))
+    (mnemonic_word form found)
     (operands_stop (shape form) (fields_of insn)) (operands_read (shape form) (fields_of insn) (length (blank form)) (form_first form) (form_reaches form) fits)
 
 last_read : (word : ℕ) → word < 2 ^ 32 → Reads (hexadecimal_text 8 word) (t.Number (pos word) ∷ [])
@@ -61,7 +63,8 @@ last_read word small =
 number_reads : (word : ℕ) → word < 2 ^ 32 → Reads (word_text word None) (t.Word (codes ".word") ∷ operands_tokens (o.Number (pos word) ∷ []))
 unfolding word_text operands_tokens later_tokens
 number_reads word small =
-    word_reads (codes ".word") (32 ∷ hexadecimal_text 8 word) (t.Number (pos word) ∷ []) refl refl (blank_reads (hexadecimal_text 8 word) (t.Number (pos word) ∷ []) (last_read word small))
+    word_reads (codes ".word") (32 ∷ hexadecimal_text 8 word) (t.Number (pos word) ∷ []) refl refl (blank_reads (hexadecimal_text 8 word) (t.Number (pos word)
+    ∷ []) (last_read word small))
 
 pub line_reads : (word : ℕ) (meant : Option Insn) → word < 2 ^ 32 → ((form : Form) → IsFound form)
     → ((insn : Insn) → meant ≡ Some insn → FitsSlots (fields_of insn) (shape (form_of insn)))

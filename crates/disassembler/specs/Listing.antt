@@ -1,14 +1,16 @@
 -- The listing of a word: a line of assembly text, ended by a line feed.
 -- This project's own, after the assembly syntax of RISC-V Unprivileged ISA 20191213, chapter 25, and of
 -- Vector Extension 1.0, sections 5.3, 6, 7 and 10.
-use Rattle.std.specs.Prelude.{ℕ, zero, suc, ◌+◌, ◌/◌, ◌%◌, ◌==◌, nat_lt, Bool, true, if◌then◌else◌, ℤ, pos, ◌*ℤ◌, unsigned_abs, List, [], ◌∷◌, ◌++◌, codes, Option, Some, None}
+use Rattle.std.specs.Prelude.{ℕ, zero, suc, ◌+◌, ◌/◌, ◌%◌, ◌==◌, nat_lt, Bool, true, if◌then◌else◌, ℤ, pos, ◌*ℤ◌, unsigned_abs, List, [], ◌∷◌, ◌++◌, codes}
+use Rattle.std.specs.Prelude.{Option, Some, None}
 use Rattle.std.specs.Fmt.{signed_decimal}
 use Rattle.rv_insn.specs.Table.{fields_of}
 use Rattle.rv_insn.specs.declared.instructions.Insn.{Insn}
 use Rattle.rv_encoding.specs.Decoding.{decoded}
 use Rattle.assembler_mnemonics.specs.Forms.{form_of, mnemonic}
 use Rattle.assembler_mnemonics.specs.Slots.{shape, field_at}
-use Rattle.assembler_mnemonics.specs.Configuration.{width_names, group_names, tail_names, mask_names, width_code, group_code, tail_code, mask_code, has_names, name_at}
+use Rattle.assembler_mnemonics.specs.Configuration.{width_names, group_names, tail_names, mask_names, width_code, group_code, tail_code, mask_code, has_names}
+use Rattle.assembler_mnemonics.specs.Configuration.{name_at}
 use Rattle.assembler_mnemonics.specs.Registers.{integer_letter, vector_letter}
 use Rattle.assembler_mnemonics.specs.declared.slots.Slot.{Slot}
 use Rattle.assembler_mnemonics.specs.declared.slots.Slot.TheVariants.{Integer, Vector, MaskRegister, Number, Upper, Based, Address, Target, Configuration, Mask}

@@ -6,7 +6,8 @@ use Rattle.rv_insn.specs.declared.instructions.Insn.{Insn}
 use Rattle.rv_encoding.specs.Decoding.{decoded}
 use Rattle.assembler_mnemonics.specs.Forms.{form_of, mnemonic}
 use Rattle.assembler_mnemonics.specs.Slots.{shape, field_at}
-use Rattle.assembler_mnemonics.specs.Configuration.{width_names, group_names, tail_names, mask_names, width_code, group_code, tail_code, mask_code, has_names, name_at}
+use Rattle.assembler_mnemonics.specs.Configuration.{width_names, group_names, tail_names, mask_names, width_code, group_code, tail_code, mask_code, has_names}
+use Rattle.assembler_mnemonics.specs.Configuration.{name_at}
 use Rattle.assembler_mnemonics.specs.Registers.{integer_letter, vector_letter}
 use Rattle.assembler_mnemonics.specs.declared.slots.Slot.{Slot}
 use Rattle.assembler_mnemonics.specs.declared.slots.Slot.TheVariants.{Integer, Vector, MaskRegister, Number, Upper, Based, Address, Target, Configuration, Mask}

@@ -53,12 +53,21 @@ module _ (reader : Reader) (scope : Scope) where
   judge = made (j.judging reader scope)
 
   exceeds_is : (w : Written) → IsPlain (judge w).marks → lines.exceeds (judge w) ≡ asked.exceeds reader scope w
-  exceeds_is w plain = ap not (fits_cut (nodes (asked.tree reader scope w)) (nesting w) (judge w).nodes (judge w).nesting (whole reader scope w plain).nodes (marks.nested reader scope w))
+  exceeds_is w plain = ap not (fits_cut (nodes (asked.tree reader scope w)) (nesting w) (judge w).nodes (judge w).nesting (whole reader scope w plain).nodes
+      (marks.nested reader scope w))
 
   -- ---- the marks of an update
 
   abbrev change_of : Change Written → Change Judged
-  change_of u = record { name = u.name; left_x = judge u.left_x; left_y = made_index (j.judging reader scope) u.left_y; right = judge u.right; first = u.first; second = u.second }
+  change_of u = record {
+    name = u.name;
+    left_x = judge u.left_x;
+    left_y = made_index (j.judging reader scope) u.left_y;
+    right = judge u.right;
+    first =
+        u.first;
+    second = u.second;
+  }
 
   module _ (mark : Marks → Bool) (test : Written → Bool) (none : mark j.no_marks ≡ false) (both : (a b : Marks) → mark (j.both_marks a b) ≡ (mark a || mark b))
       (same : (w : Written) → mark (judge w).marks ≡ has_part test w) where
@@ -72,7 +81,8 @@ module _ (reader : Reader) (scope : Scope) where
     change_same : (u : Change Written) → mark (lines.change_marks (change_of u)) ≡ r.change_has test u
     change_same u = rw (both (lines.left_marks (change_of u)) (judge u.right).marks, left_same u, same u.right) refl
 
-  index_alone : (index : Option Written) → lines.is_in_place (made_index (j.judging reader scope) index) variables.SecondArgument ≡ r.is_second_alone scope index
+  index_alone : (index : Option Written) → lines.is_in_place (made_index (j.judging reader scope) index) variables.SecondArgument
+      ≡ r.is_second_alone scope index
   index_alone None = refl
   index_alone (Some w) = ap (is_alone variables.SecondArgument) (marks.alone_is reader scope w)
 
@@ -81,7 +91,8 @@ module _ (reader : Reader) (scope : Scope) where
   index_count (Some w) = refl
 
   abbrev moved : Bool → Bool → Bool → Bool → Bool → Bool → Bool → Bool
-  moved own is_first moves_first uses_first is_second moves_second uses_second = own || (cond is_first moves_first uses_first) || (cond is_second moves_second uses_second)
+  moved own is_first moves_first uses_first is_second moves_second uses_second = own || (cond is_first moves_first uses_first)
+      || (cond is_second moves_second uses_second)
 
   moved_same : (u : Change Written) → lines.is_moved (change_of u) ≡ r.is_moved reader scope u
   moved_same u =
@@ -99,11 +110,13 @@ module _ (reader : Reader) (scope : Scope) where
   plain_from : (m : Marks) → m.is_unknown ≡ false → m.is_wrong_count ≡ false → m.is_bad_divisor ≡ false → IsPlain m
   plain_from m known counts divisors = record { known = known; counts = counts; divisors = divisors }
 
-  index_exceeds : (index : Option Written) → IsPlain (lines.marks_of (made_index (j.judging reader scope) index)) → r.second_exceeds lines.exceeds (made_index (j.judging reader scope) index) ≡ r.second_exceeds (asked.exceeds reader scope) index
+  index_exceeds : (index : Option Written) → IsPlain (lines.marks_of (made_index (j.judging reader scope) index))
+      → r.second_exceeds lines.exceeds (made_index (j.judging reader scope) index) ≡ r.second_exceeds (asked.exceeds reader scope) index
   index_exceeds None plain = refl
   index_exceeds (Some w) plain = exceeds_is w plain
 
-  change_limits : (tokens : List Token) (u : Change Written) → IsPlain (lines.change_marks (change_of u)) → r.is_over_limit lines.exceeds reader tokens (line.Update (change_of u)) ≡ r.is_over_limit (asked.exceeds reader scope) reader tokens (line.Update u)
+  change_limits : (tokens : List Token) (u : Change Written) → IsPlain (lines.change_marks (change_of u))
+      → r.is_over_limit lines.exceeds reader tokens (line.Update (change_of u)) ≡ r.is_over_limit (asked.exceeds reader scope) reader tokens (line.Update u)
   change_limits tokens u plain =
       let all = plain_parts (lines.left_marks (change_of u)) (judge u.right).marks plain in
       let left = plain_parts (judge u.left_x).marks (lines.marks_of (made_index (j.judging reader scope) u.left_y)) all.0 in
@@ -121,7 +134,8 @@ limits_agree false false false false false true g h k same = refl
 limits_agree false false false false false false true h k same = refl
 limits_agree false false false false false false false h k same = ap (λ (x : Bool). cond x (Some fault.Limit) None) (same refl refl refl)
 
-definition_faults : (reader : Reader) (tokens : List Token) (d : Definition Written) → lines.fault_of reader tokens (lines.judged_line reader (line.Func d)) ≡ r.fault_of reader tokens (line.Func d)
+definition_faults : (reader : Reader) (tokens : List Token) (d : Definition Written) → lines.fault_of reader tokens (lines.judged_line reader (line.Func d))
+    ≡ r.fault_of reader tokens (line.Func d)
 unfolding lines.fault_of r.fault_of
 definition_faults reader tokens d =
     let l = line.Func d in
@@ -130,12 +144,16 @@ definition_faults reader tokens d =
     let unknown = marks.unknown reader scope d.right in
     let counts = marks.wrong_count reader scope d.right in
     let divisors = marks.bad_divisor reader scope d.right in
-    limits_agree (r.is_behind_output reader.output l) judged.marks.is_unknown (r.is_taken reader l) judged.marks.is_wrong_count judged.marks.is_bad_divisor (r.has_large tokens) false
+    limits_agree (r.is_behind_output reader.output l) judged.marks.is_unknown (r.is_taken reader l) judged.marks.is_wrong_count judged.marks.is_bad_divisor
+    (r.has_large tokens) false
     (r.is_over_limit lines.exceeds reader tokens (lines.judged_line reader l)) (r.is_over_limit (asked.exceeds reader scope) reader tokens l)
-    (λ no_unknown no_count no_divisor. ap (λ (x : Bool). reader.is_oversized || r.has_long tokens || (nat_le 12 (length reader.funcs) || x)) (exceeds_is reader scope d.right (record { known = no_unknown; counts = no_count; divisors = no_divisor })))
-    ∙ λ i. chain (r.is_behind_output reader.output l) (unknown i) (r.is_taken reader l) (counts i) (divisors i) (r.has_large tokens) false (r.is_over_limit (asked.exceeds reader scope) reader tokens l)
+    (λ no_unknown no_count no_divisor. ap (λ (x : Bool). reader.is_oversized || r.has_long tokens || (nat_le 12 (length reader.funcs) || x))
+    (exceeds_is reader scope d.right (record { known = no_unknown; counts = no_count; divisors = no_divisor })))
+    ∙ λ i. chain (r.is_behind_output reader.output l) (unknown i) (r.is_taken reader l) (counts i) (divisors i) (r.has_large tokens) false
+    (r.is_over_limit (asked.exceeds reader scope) reader tokens l)
 
-change_faults : (reader : Reader) (tokens : List Token) (u : Change Written) → lines.fault_of reader tokens (lines.judged_line reader (line.Update u)) ≡ r.fault_of reader tokens (line.Update u)
+change_faults : (reader : Reader) (tokens : List Token) (u : Change Written) → lines.fault_of reader tokens (lines.judged_line reader (line.Update u))
+    ≡ r.fault_of reader tokens (line.Update u)
 unfolding lines.fault_of r.fault_of
 change_faults reader tokens u =
     let l = line.Update u in
@@ -144,18 +162,21 @@ change_faults reader tokens u =
     let of = lines.change_marks judged in
     let below = not (r.same_place reader.last_func (func_place reader u.name)) in
     let unknown = change_same reader scope (λ m. m.is_unknown) (asked.is_unknown_at reader scope) refl (λ a b. refl) (marks.unknown reader scope) u in
-    let counts = change_same reader scope (λ m. m.is_wrong_count) (asked.is_wrong_count_at reader scope) refl (λ a b. refl) (marks.wrong_count reader scope) u in
+    let counts = change_same reader scope (λ m. m.is_wrong_count) (asked.is_wrong_count_at reader scope) refl (λ a b. refl) (marks.wrong_count reader scope) u
+    in
     let divisors = change_same reader scope (λ m. m.is_bad_divisor) asked.is_bad_divisor_at refl (λ a b. refl) (marks.bad_divisor reader scope) u in
     let moved = moved_same reader scope u in
     let other = ap (r.is_other_count reader u.name) (index_count reader scope u.left_y) in
-    limits_agree (r.is_behind_output reader.output l) (r.is_other_name reader l || of.is_unknown) (r.is_taken reader l) (r.is_other_left reader (line.Update judged) || of.is_wrong_count) of.is_bad_divisor (r.has_large tokens) (below || lines.is_moved judged)
+    limits_agree (r.is_behind_output reader.output l) (r.is_other_name reader l || of.is_unknown) (r.is_taken reader l)
+    (r.is_other_left reader (line.Update judged) || of.is_wrong_count) of.is_bad_divisor (r.has_large tokens) (below || lines.is_moved judged)
     (r.is_over_limit lines.exceeds reader tokens (lines.judged_line reader l)) (r.is_over_limit (asked.exceeds reader scope) reader tokens l)
     (λ no_unknown no_count no_divisor. change_limits reader scope tokens u (record {
       known = (or_parts (r.is_other_name reader l) of.is_unknown no_unknown).1;
       counts = (or_parts (r.is_other_left reader (line.Update judged)) of.is_wrong_count no_count).1;
       divisors = no_divisor;
     }))
-    ∙ λ i. chain (r.is_behind_output reader.output l) (r.is_other_name reader l || unknown i) (r.is_taken reader l) (other i || counts i) (divisors i) (r.has_large tokens) (below || moved i)
+    ∙ λ i. chain (r.is_behind_output reader.output l) (r.is_other_name reader l || unknown i) (r.is_taken reader l) (other i || counts i) (divisors i)
+    (r.has_large tokens) (below || moved i)
     (r.is_over_limit (asked.exceeds reader scope) reader tokens l)
 
 same_fault : (reader : Reader) (tokens : List Token) (l : Line Written) → lines.fault_of reader tokens (lines.judged_line reader l) ≡ r.fault_of reader tokens l
@@ -169,7 +190,8 @@ same_fault reader tokens (line.Output e) = refl
 -- ---- what is added
 
 module _ (reader : Reader) (scope : Scope) where
-  index_tree : (index : Option Written) → IsPlain (lines.marks_of (made_index (j.judging reader scope) index)) → r.second_exceeds lines.exceeds (made_index (j.judging reader scope) index) ≡ false
+  index_tree : (index : Option Written) → IsPlain (lines.marks_of (made_index (j.judging reader scope) index))
+      → r.second_exceeds lines.exceeds (made_index (j.judging reader scope) index) ≡ false
       → second_tree lines.tree_of (made_index (j.judging reader scope) index) ≡ second_tree (asked.tree reader scope) index
   index_tree None plain within = refl
   index_tree (Some w) plain within = ap Some (tree_is reader scope w plain within)
@@ -197,7 +219,8 @@ module _ (reader : Reader) (scope : Scope) where
       } in
       let all = plain_parts (lines.left_marks judged) judged.right.marks plain in
       let left = plain_parts judged.left_x.marks (lines.marks_of judged.left_y) all.0 in
-      let limits = none_of_four (r.is_full reader u.name) (lines.exceeds judged.left_x || r.second_exceeds lines.exceeds judged.left_y || lines.exceeds judged.right) (nat_lt 0x1000000 u.first.minimum || r.is_second_far u.second)
+      let limits = none_of_four (r.is_full reader u.name) (lines.exceeds judged.left_x || r.second_exceeds lines.exceeds judged.left_y
+      || lines.exceeds judged.right) (nat_lt 0x1000000 u.first.minimum || r.is_second_far u.second)
       (r.is_bad_box u.first.extent (r.second_extent u.second)) right.within in
       let sizes = none_of_three (lines.exceeds judged.left_x) (r.second_exceeds lines.exceeds judged.left_y) (lines.exceeds judged.right) limits.1 in
       let x = tree_is reader scope u.left_x left.0 sizes.0 in
@@ -205,36 +228,49 @@ module _ (reader : Reader) (scope : Scope) where
       let z = tree_is reader scope u.right all.1 sizes.2 in
       λ i. with_change u (x i) (y i) (z i)
 
-same_added : (reader : Reader) (tokens : List Token) (l : Line Written) → IsFaultless reader tokens (lines.judged_line reader l) → applied lines.tree_of reader (lines.judged_line reader l) ≡ applied (asked.tree reader (scope_of reader l)) reader l
+same_added : (reader : Reader) (tokens : List Token) (l : Line Written) → IsFaultless reader tokens (lines.judged_line reader l)
+    → applied lines.tree_of reader (lines.judged_line reader l) ≡ applied (asked.tree reader (scope_of reader l)) reader l
 same_added reader tokens line.Blank right = refl
 same_added reader tokens (line.Input e is_bytes) right = refl
 same_added reader tokens (line.Func d) right =
     let scope = scope_of reader (line.Func d) in
     let plain : IsPlain (judge reader scope d.right).marks = record { known = right.known; counts = right.counts; divisors = right.divisors } in
     let within = (or_parts (nat_le 12 (length reader.funcs)) (lines.exceeds (judge reader scope d.right)) right.within).1 in
-    ap (λ (tree : Expr). with_func (λ (x : Expr). x) reader (record { name = d.name; first_argument = d.first_argument; second_argument = d.second_argument; right = tree })) (tree_is reader scope d.right plain within)
+    ap (λ (tree : Expr). with_func (λ (x : Expr). x) reader (record {
+      name = d.name;
+      first_argument = d.first_argument;
+      second_argument =
+          d.second_argument;
+      right = tree;
+    })) (tree_is reader scope d.right plain within)
 same_added reader tokens (line.Update u) right = change_adds reader (scope_of reader (line.Update u)) tokens u right
 same_added reader tokens (line.Output e) right = refl
 
 -- ---- a line from its tokens
 
-by_fault : (reader : Reader) (tokens : List Token) (l : Line Written) (found : Option ParseFault) → lines.fault_of reader tokens (lines.judged_line reader l) ≡ found
+by_fault : (reader : Reader) (tokens : List Token) (l : Line Written) (found : Option ParseFault) → lines.fault_of reader tokens (lines.judged_line reader l)
+    ≡ found
     → lines.settled_as reader (lines.judged_line reader l) found ≡ parsing.settled_as reader l found
 by_fault reader tokens l None e = ap Ok (same_added reader tokens l (faultless reader tokens (lines.judged_line reader l) e))
 by_fault reader tokens l (Some fault) e = refl
 
-settled_is : (reader : Reader) (tokens : List Token) (l : Line Written) → lines.settled reader tokens (lines.judged_line reader l) ≡ parsing.settled reader tokens l
-settled_is reader tokens l = by_fault reader tokens l (lines.fault_of reader tokens (lines.judged_line reader l)) refl ∙ ap (parsing.settled_as reader l) (same_fault reader tokens l)
+settled_is : (reader : Reader) (tokens : List Token) (l : Line Written) → lines.settled reader tokens (lines.judged_line reader l)
+    ≡ parsing.settled reader tokens l
+settled_is reader tokens l = by_fault reader tokens l (lines.fault_of reader tokens (lines.judged_line reader l)) refl
+    ∙ ap (parsing.settled_as reader l) (same_fault reader tokens l)
 
-by_line : (reader : Reader) (tokens : List Token) (given : Option (Line Written)) → ((or_syntax given >>= λ l. Ok (lines.judged_line reader l)) >>= λ l. lines.settled reader tokens l) ≡ parsing.settled_if reader tokens given
+by_line : (reader : Reader) (tokens : List Token) (given : Option (Line Written))
+    → ((or_syntax given >>= λ l. Ok (lines.judged_line reader l)) >>= λ l. lines.settled reader tokens l) ≡ parsing.settled_if reader tokens given
 by_line reader tokens None = refl
 by_line reader tokens (Some l) = settled_is reader tokens l
 
-by_tokens : (reader : Reader) (given : Result (List Token) ParseFault) → (given >>= λ tokens. lines.judged reader tokens >>= λ l. lines.settled reader tokens l) ≡ (given >>= λ tokens. parsing.settled_if reader tokens (line_of tokens))
+by_tokens : (reader : Reader) (given : Result (List Token) ParseFault) → (given >>= λ tokens. lines.judged reader tokens >>= λ l. lines.settled reader tokens l)
+    ≡ (given >>= λ tokens. parsing.settled_if reader tokens (line_of tokens))
 unfolding lines.judged
 by_tokens reader (Err fault) = refl
 by_tokens reader (Ok tokens) =
-    ap (λ (given : Result (Line Written) ParseFault). (given >>= λ l. Ok (lines.judged_line reader l)) >>= λ l. lines.settled reader tokens l) (line_or_syntax tokens)
+    ap (λ (given : Result (Line Written) ParseFault). (given >>= λ l. Ok (lines.judged_line reader l)) >>= λ l. lines.settled reader tokens l)
+    (line_or_syntax tokens)
     ∙ by_line reader tokens (line_of tokens)
 
 taken_is : (reader : Reader) (line : List ℕ) → lines.taken reader line ≡ parsing.taken_by line_of reader line
@@ -247,11 +283,13 @@ abbrev Takes : Type 0
 Takes = Reader → List ℕ → Result Reader ParseFault
 
 pub parsed_is : (alloc : Global) (text : List ℕ)
-    → parsing.parsed alloc text ≡ (taken_from lines.taken 1 (parsing.start alloc text) (lines_of text) >>= λ reader. parsing.finished (length (lines_of text)) reader)
+    → parsing.parsed alloc text ≡ (taken_from lines.taken 1 (parsing.start alloc text) (lines_of text) >>= λ reader. parsing.finished (length (lines_of text))
+    reader)
 unfolding parsing.parsed parsing.parsed_by
 parsed_is alloc text =
     let same : lines.taken ≡ parsing.taken_by line_of = λ i reader line. taken_is reader line i in
-    ap (λ (takes : Takes). taken_from takes 1 (parsing.start alloc text) (lines_of text) >>= λ reader. parsing.finished (length (lines_of text)) reader) (sym same)
+    ap (λ (takes : Takes). taken_from takes 1 (parsing.start alloc text) (lines_of text) >>= λ reader. parsing.finished (length (lines_of text)) reader)
+    (sym same)
 
 -- whatever reads lines by the grammar
 pub by_reading : (P : Result Pipeline (ℕ × ParseFault) → Type 0) (alloc : Global) (text : List ℕ) → P (parsing.parsed alloc text)

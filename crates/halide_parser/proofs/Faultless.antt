@@ -37,7 +37,17 @@ are_false false false false false true f g h is = cc
 are_false false false false false false true g h is = cc
 are_false false false false false false false true h is = cc
 are_false false false false false false false false true is = cc
-are_false false false false false false false false false is = record { a_is = refl; b_is = refl; c_is = refl; d_is = refl; e_is = refl; f_is = refl; g_is = refl; h_is = refl }
+are_false false false false false false false false false is = record {
+  a_is = refl;
+  b_is = refl;
+  c_is = refl;
+  d_is = refl;
+  e_is = refl;
+  f_is = refl;
+  g_is =
+      refl;
+  h_is = refl;
+}
 
 pub record IsFaultless (reader : Reader) (tokens : List Token) (l : Line Judged) : Type 0 where
   pub first : is_behind_output reader.output l ≡ false
@@ -53,7 +63,8 @@ pub record IsFaultless (reader : Reader) (tokens : List Token) (l : Line Judged)
 pub faultless : (reader : Reader) (tokens : List Token) (l : Line Judged) → fault_of reader tokens l ≡ None → IsFaultless reader tokens l
 unfolding fault_of
 faultless reader tokens l e =
-    let all = are_false (is_behind_output reader.output l) (is_unknown reader l) (is_taken reader l) (is_wrong_count reader l) (line_marks l).is_bad_divisor (has_large tokens) (is_misshapen reader l) (is_over_limit exceeds reader tokens l) e in
+    let all = are_false (is_behind_output reader.output l) (is_unknown reader l) (is_taken reader l) (is_wrong_count reader l) (line_marks l).is_bad_divisor
+    (has_large tokens) (is_misshapen reader l) (is_over_limit exceeds reader tokens l) e in
     let text = or_parts (reader.is_oversized || has_long tokens) (is_line_over_limit exceeds reader l) all.h_is in
     record {
       first = all.a_is;

@@ -9,7 +9,8 @@ use Rattle.halide_pipeline.specs.declared.expressions.Expr.{Expr}
 use Rattle.halide_pipeline.specs.declared.expressions.Source.{Source}
 use Rattle.halide_pipeline.specs.declared.expressions.Source.TheVariants as sources
 use Rattle.halide_pipeline.specs.declared.expressions.Variable.{Variable}
-use Rattle.halide_pipeline.specs.WellFormed.{dimensions, is_read, is_source, is_input_of, is_func_of, keeps, keeps_index, is_update_variable, is_argument, IsFunc, IsUpdate}
+use Rattle.halide_pipeline.specs.WellFormed.{dimensions, is_read, is_source, is_input_of, is_func_of, keeps, keeps_index, is_update_variable, is_argument}
+use Rattle.halide_pipeline.specs.WellFormed.{IsFunc, IsUpdate}
 use Rattle.halide_pipeline.proofs.Keeping.{keeps-grows}
 use Rattle.halide_parser.specs.Meaning.{with_update}
 
@@ -20,7 +21,8 @@ get-append [] ys k x e = cc
 get-append (y ∷ xs) ys zero x e = e
 get-append (y ∷ xs) ys (suc k) x e = get-append xs ys k x e
 
-pub get-last : {A : Type 0} (xs : List A) (y : A) (k : ℕ) (x : A) → slice_get (xs ++ y ∷ []) k ≡ Some x → (slice_get xs k ≡ Some x) ⊎ ((k ≡ length xs) × (y ≡ x))
+pub get-last : {A : Type 0} (xs : List A) (y : A) (k : ℕ) (x : A) → slice_get (xs ++ y ∷ []) k ≡ Some x
+    → (slice_get xs k ≡ Some x) ⊎ ((k ≡ length xs) × (y ≡ x))
 get-last [] y zero x e = inr (refl, cc)
 get-last [] y (suc k) x e = cc
 get-last (z ∷ xs) y zero x e = inl e
@@ -36,17 +38,21 @@ abbrev pub Grows : List Input → List Func → List Input → List Func → Typ
 Grows inputs funcs inputs' funcs' = (below : ℕ) (s : Source) (n : ℕ) → is_read inputs funcs below s n ≡ true → is_read inputs' funcs' below s n ≡ true
 
 module _ (inputs : List Input) (funcs : List Func) (inputs' : List Input) (funcs' : List Func) (grows : Grows inputs funcs inputs' funcs') where
-  index_grows : (below count : ℕ) (has : Variable → Bool) (index : Option Expr) → keeps_index (is_read inputs funcs below) has count index ≡ true → keeps_index (is_read inputs' funcs' below) has count index ≡ true
+  index_grows : (below count : ℕ) (has : Variable → Bool) (index : Option Expr) → keeps_index (is_read inputs funcs below) has count index ≡ true
+      → keeps_index (is_read inputs' funcs' below) has count index ≡ true
   index_grows below count has None kept = kept
   index_grows below count has (Some index) kept =
       let parts = and_parts (count == 2) (keeps (is_read inputs funcs below) has index) kept in
-      and_from (count == 2) (keeps (is_read inputs' funcs' below) has index) parts.0 (keeps-grows (is_read inputs funcs below) (is_read inputs' funcs' below) has (grows below) index parts.1)
+      and_from (count == 2) (keeps (is_read inputs' funcs' below) has index) parts.0 (keeps-grows (is_read inputs funcs below) (is_read inputs' funcs' below)
+      has (grows below) index parts.1)
 
   pub update_grows : (place count : ℕ) (update : Update) → IsUpdate inputs funcs place count update → IsUpdate inputs' funcs' place count update
   update_grows place count update is = record {
-    left_x = keeps-grows (is_read inputs funcs place) (is_read inputs' funcs' place) (is_update_variable count update.second) (grows place) update.left_x is.left_x;
+    left_x = keeps-grows (is_read inputs funcs place) (is_read inputs' funcs' place) (is_update_variable count update.second) (grows place) update.left_x
+        is.left_x;
     left_y = index_grows place count (is_update_variable count update.second) update.left_y is.left_y;
-    right = keeps-grows (is_read inputs funcs (suc place)) (is_read inputs' funcs' (suc place)) (is_update_variable count update.second) (grows (suc place)) update.right is.right;
+    right = keeps-grows (is_read inputs funcs (suc place)) (is_read inputs' funcs' (suc place)) (is_update_variable count update.second) (grows (suc place))
+        update.right is.right;
     first_argument = is.first_argument;
     second_argument = is.second_argument;
     own_calls = is.own_calls;
@@ -68,11 +74,13 @@ module _ (inputs : List Input) (funcs : List Func) (inputs' : List Input) (funcs
     reductions = is.reductions;
   }
 
-input_of-append : (inputs more : List Input) (place n : ℕ) (found : Option Input) → slice_get inputs place ≡ found → is_input_of found n ≡ true → is_input_of (slice_get (inputs ++ more) place) n ≡ true
+input_of-append : (inputs more : List Input) (place n : ℕ) (found : Option Input) → slice_get inputs place ≡ found → is_input_of found n ≡ true
+    → is_input_of (slice_get (inputs ++ more) place) n ≡ true
 input_of-append inputs more place n None is e = cc
 input_of-append inputs more place n (Some input) is e = rw (get-append inputs more place input is) e
 
-func_of-append : (funcs more : List Func) (place n : ℕ) (found : Option Func) → slice_get funcs place ≡ found → is_func_of found n ≡ true → is_func_of (slice_get (funcs ++ more) place) n ≡ true
+func_of-append : (funcs more : List Func) (place n : ℕ) (found : Option Func) → slice_get funcs place ≡ found → is_func_of found n ≡ true
+    → is_func_of (slice_get (funcs ++ more) place) n ≡ true
 func_of-append funcs more place n None is e = cc
 func_of-append funcs more place n (Some func) is e = rw (get-append funcs more place func is) e
 
@@ -84,7 +92,8 @@ pub funcs_grow : (inputs : List Input) (funcs more : List Func) → Grows inputs
 funcs_grow inputs funcs more below (sources.Input place) n e = e
 funcs_grow inputs funcs more below (sources.Func place) n e =
     let parts = and_parts (nat_lt place below) (is_func_of (slice_get funcs place) n) e in
-    and_from (nat_lt place below) (is_func_of (slice_get (funcs ++ more) place) n) parts.0 (func_of-append funcs more place n (slice_get funcs place) refl parts.1)
+    and_from (nat_lt place below) (is_func_of (slice_get (funcs ++ more) place) n) parts.0 (func_of-append funcs more place n (slice_get funcs place) refl
+    parts.1)
 
 -- ---- one more update of the last Func
 
@@ -111,7 +120,8 @@ get-update (f ∷ h ∷ funcs) update (suc k) g e = elim (get-update (h ∷ func
   | inr last ↦ inr (last.0, ap suc last.1, last.2, last.3)
 ]
 
-func_of-update : (funcs : List Func) (update : Update) (place n : ℕ) → is_func_of (slice_get funcs place) n ≡ true → is_func_of (slice_get (with_update funcs update) place) n ≡ true
+func_of-update : (funcs : List Func) (update : Update) (place n : ℕ) → is_func_of (slice_get funcs place) n ≡ true
+    → is_func_of (slice_get (with_update funcs update) place) n ≡ true
 unfolding with_update
 func_of-update [] update place n e = e
 func_of-update (f ∷ []) update zero n e = e
@@ -152,6 +162,7 @@ pub source-func : (inputs : List Input) (funcs more : List Func) (s : Source) �
 source-func inputs funcs more (sources.Input place) e = e
 source-func inputs funcs more (sources.Func place) e = some-append funcs more place e
 
-pub source-update : (inputs : List Input) (funcs : List Func) (update : Update) (s : Source) → is_source inputs funcs s ≡ true → is_source inputs (with_update funcs update) s ≡ true
+pub source-update : (inputs : List Input) (funcs : List Func) (update : Update) (s : Source) → is_source inputs funcs s ≡ true
+    → is_source inputs (with_update funcs update) s ≡ true
 source-update inputs funcs update (sources.Input place) e = e
 source-update inputs funcs update (sources.Func place) e = some-update funcs update place e

@@ -1,5 +1,6 @@
 -- What the lines so far have named keeps the rules of a pipeline, with each line that breaks none.
-use Rattle.std.proofs.Common.{◌≡◌, ℕ, suc, ◌<◌, ◌⊎◌, inl, inr, Bool, true, false, cond, not, List, [], ◌∷◌, ◌++◌, length, Option, Some, None, refl, ap, ◌∙◌, arith}
+use Rattle.std.proofs.Common.{◌≡◌, ℕ, suc, ◌<◌, ◌⊎◌, inl, inr, Bool, true, false, cond, not, List, [], ◌∷◌, ◌++◌, length, Option, Some, None, refl, ap, ◌∙◌}
+use Rattle.std.proofs.Common.{arith}
 use Rattle.std.specs.Prelude.{◌==◌, ◌&&◌, ◌||◌, ◌*◌, nat_le, nat_lt, slice_get, is_some}
 use Rattle.std.specs.Str.{bytes_eq}
 use Rattle.std.proofs.lemmas.Bool.{and_parts, and_from, or_parts, not-false, ltb-true, lt-ltb, ltb-false, le-leb, eqb-false, eq-eqb}
@@ -9,7 +10,8 @@ use Rattle.halide_pipeline.specs.declared.definitions.Input.{Input}
 use Rattle.halide_pipeline.specs.declared.definitions.Output.{Output}
 use Rattle.halide_pipeline.specs.declared.expressions.Source.{Source}
 use Rattle.halide_pipeline.specs.declared.expressions.Source.TheVariants as sources
-use Rattle.halide_pipeline.specs.WellFormed.{dimensions, are_names, IsFunc, is_input, is_output, is_width, is_height, are_dimensions, is_source, is_func_of, is_read}
+use Rattle.halide_pipeline.specs.WellFormed.{dimensions, are_names, IsFunc, is_input, is_output, is_width, is_height, are_dimensions, is_source, is_func_of}
+use Rattle.halide_pipeline.specs.WellFormed.{is_read}
 use Rattle.halide_pipeline.specs.Pipelines.{lookup, Named}
 use Rattle.halide_parser.specs.declared.readers.Reader.{Reader}
 use Rattle.halide_parser.specs.declared.scopes.Scope.{Scope}
@@ -37,7 +39,8 @@ pub record IsKept (reader : Reader) : Type 0 where
 -- ---- names
 
 -- a name is one of those before, or the last
-pub lookup-last : (names : List Named) (last : Named) (name : List ℕ) (s : Source) → lookup name (names ++ last ∷ []) ≡ Some s → (lookup name names ≡ Some s) ⊎ (last.1 ≡ s)
+pub lookup-last : (names : List Named) (last : Named) (name : List ℕ) (s : Source) → lookup name (names ++ last ∷ []) ≡ Some s
+    → (lookup name names ≡ Some s) ⊎ (last.1 ≡ s)
 lookup-last [] last name s e = by (bytes_eq name last.0) e
   where
     by : (test : Bool) → cond test (Some last.1) None ≡ Some s → (lookup name [] ≡ Some s) ⊎ (last.1 ≡ s)
@@ -45,7 +48,8 @@ lookup-last [] last name s e = by (bytes_eq name last.0) e
     by false e = cc
 lookup-last (named ∷ names) last name s e = by (bytes_eq name named.0) (lookup-last names last name s) e
   where
-    by : (test : Bool) → (lookup name (names ++ last ∷ []) ≡ Some s → (lookup name names ≡ Some s) ⊎ (last.1 ≡ s)) → cond test (Some named.1) (lookup name (names ++ last ∷ [])) ≡ Some s
+    by : (test : Bool) → (lookup name (names ++ last ∷ []) ≡ Some s → (lookup name names ≡ Some s) ⊎ (last.1 ≡ s))
+        → cond test (Some named.1) (lookup name (names ++ last ∷ [])) ≡ Some s
         → (cond test (Some named.1) (lookup name names) ≡ Some s) ⊎ (last.1 ≡ s)
     by true others e = inl e
     by false others e = others e
@@ -60,14 +64,16 @@ some_of None e = cc
 some_of (Some x) e = (x, refl)
 
 -- a source that is there may be read with as many indexes as it has dimensions
-may_read : (reader : Reader) (s : Source) → is_source reader.inputs reader.funcs s ≡ true → is_read reader.inputs reader.funcs (length reader.funcs) s (asked.dimensions reader s) ≡ true
+may_read : (reader : Reader) (s : Source) → is_source reader.inputs reader.funcs s ≡ true
+    → is_read reader.inputs reader.funcs (length reader.funcs) s (asked.dimensions reader s) ≡ true
 may_read reader (sources.Input place) e =
     let found = some_of (slice_get reader.inputs place) e in
     rw (found.1) (same found.0.dimensions)
 may_read reader (sources.Func place) e =
     let found = some_of (slice_get reader.funcs place) e in
     let below : nat_lt place (length reader.funcs) ≡ true = lt-ltb place (length reader.funcs) (slice_get_within reader.funcs place found.0 found.1) in
-    let equal : is_func_of (slice_get reader.funcs place) (asked.func_dimensions (slice_get reader.funcs place)) ≡ true = rw (found.1) (same (dimensions found.0)) in
+    let equal : is_func_of (slice_get reader.funcs place) (asked.func_dimensions (slice_get reader.funcs place)) ≡ true =
+    rw (found.1) (same (dimensions found.0)) in
     and_from (nat_lt place (length reader.funcs)) (is_func_of (slice_get reader.funcs place) (asked.func_dimensions (slice_get reader.funcs place))) below equal
 
 -- each source that a name stands for
@@ -76,7 +82,8 @@ may_by : (reader : Reader) (scope : Scope) (found : Option Source) → ((s : Sou
 may_by reader scope None there = tt
 may_by reader scope (Some s) there = λ own. may_read reader s (there s refl)
 
-pub may : (reader : Reader) (scope : Scope) → IsKept reader → (name : List ℕ) → MayRead (is_read reader.inputs reader.funcs (length reader.funcs)) false scope (source reader name)
+pub may : (reader : Reader) (scope : Scope) → IsKept reader → (name : List ℕ) → MayRead (is_read reader.inputs reader.funcs (length reader.funcs)) false scope
+    (source reader name)
 unfolding source
 may reader scope kept name = may_by reader scope (lookup name reader.names) (kept.names name)
 
@@ -91,12 +98,15 @@ before_last reader place (sources.Func at) n last other e =
     let before : nat_lt at place ≡ true = lt-ltb at place (grind (arith, last, below, apart)) in
     and_from (nat_lt at place) (is_func_of (slice_get reader.funcs at) n) before parts.1
 
-before_by : (reader : Reader) (scope : Scope) (place : ℕ) (found : Option Source) → scope.own ≡ Some place → suc place ≡ length reader.funcs → ((s : Source) → found ≡ Some s → is_source reader.inputs reader.funcs s ≡ true)
+before_by : (reader : Reader) (scope : Scope) (place : ℕ) (found : Option Source) → scope.own ≡ Some place → suc place ≡ length reader.funcs
+    → ((s : Source) → found ≡ Some s → is_source reader.inputs reader.funcs s ≡ true)
     → MayRead (is_read reader.inputs reader.funcs place) true scope (with_dimensions reader found)
 before_by reader scope place None own last there = tt
-before_by reader scope place (Some s) own last there = λ other. before_last reader place s (asked.dimensions reader s) last (rw own at other) (may_read reader s (there s refl))
+before_by reader scope place (Some s) own last there = λ other. before_last reader place s (asked.dimensions reader s) last (rw own at other)
+    (may_read reader s (there s refl))
 
-pub may_before : (reader : Reader) (scope : Scope) (place : ℕ) → IsKept reader → scope.own ≡ Some place → suc place ≡ length reader.funcs → (name : List ℕ) → MayRead (is_read reader.inputs reader.funcs place) true scope (source reader name)
+pub may_before : (reader : Reader) (scope : Scope) (place : ℕ) → IsKept reader → scope.own ≡ Some place → suc place ≡ length reader.funcs → (name : List ℕ)
+    → MayRead (is_read reader.inputs reader.funcs place) true scope (source reader name)
 unfolding source
 may_before reader scope place kept own last name = before_by reader scope place (lookup name reader.names) own last (kept.names name)
 
@@ -129,8 +139,11 @@ all_of_three true true false a_is b_is c_is = cc
 pub box : (width height : ℕ) → is_bad_box width height ≡ false → (is_width width ≡ true) × (is_height width height ≡ true)
 box width height e =
     let parts = none_of_three (is_bad_extent width) (is_bad_extent height) (nat_lt 1048576 (width * height)) e in
-    let high = and_parts (nat_le 1 height) (nat_le height 65536) (extent height parts.1) in
-    (extent width parts.0, all_of_three (nat_le 1 height) (nat_le height 65536) (nat_le (width * height) 1048576) high.0 high.1 (le-leb (width * height) 1048576 (ltb-false 1048576 (width * height) parts.2)))
+    let high = and_parts (nat_le 1 height) (nat_le height 65536) (extent height parts.1) in (
+      extent width parts.0,
+      all_of_three (nat_le 1 height) (nat_le height 65536) (nat_le (width * height) 1048576) high.0 high.1 (le-leb (width * height) 1048576
+          (ltb-false 1048576 (width * height) parts.2)),
+    )
 
 pub counted : (height : Option ℕ) → are_dimensions (count_with height) (height_of height) ≡ true
 counted None = refl
@@ -145,14 +158,22 @@ pub record IsNamed (reader : Reader) (name : List ℕ) : Type 0 where
   pub found : slice_get reader.funcs place ≡ Some func
   pub func_is : asked.func reader name ≡ Some func
 
-named_by : (reader : Reader) (name : List ℕ) (s : Option Source) → lookup name reader.names ≡ s → ((t : Source) → s ≡ Some t → is_source reader.inputs reader.funcs t ≡ true) → is_some (place_of s) ≡ true
+named_by : (reader : Reader) (name : List ℕ) (s : Option Source) → lookup name reader.names ≡ s → ((t : Source) → s ≡ Some t
+    → is_source reader.inputs reader.funcs t ≡ true) → is_some (place_of s) ≡ true
     → IsNamed reader name
 unfolding asked.func func_place
 named_by reader name None is there e = cc
 named_by reader name (Some (sources.Input place)) is there e = cc
 named_by reader name (Some (sources.Func place)) is there e =
     let found = some_of (slice_get reader.funcs place) (there (sources.Func place) refl) in
-    record { place = place; func = found.0; place_is = ap place_of is; found = found.1; func_is = ap (λ (s : Option Source). func_at reader (place_of s)) is ∙ found.1 }
+    record {
+      place = place;
+      func = found.0;
+      place_is = ap place_of is;
+      found = found.1;
+      func_is = ap (λ (s : Option Source). func_at reader (place_of s)) is
+          ∙ found.1;
+    }
 
 pub named : (reader : Reader) (name : List ℕ) → IsKept reader → not (is_some (func_place reader name)) ≡ false → IsNamed reader name
 unfolding func_place

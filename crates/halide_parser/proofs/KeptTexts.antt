@@ -32,7 +32,8 @@ use Rattle.halide_parser.proofs.Numbers.{AreSmall, IsSmall, small}
 
 -- ---- numbers
 
-small_definition : (name first : List ℕ) (second : Option (List ℕ)) (right : Written) → AreSmall (t.Func ∷ t.Name name ∷ t.Open ∷ t.Name first ∷ spell_argument second (t.Close ∷ t.Assign ∷ spell right [])) → IsSmall right
+small_definition : (name first : List ℕ) (second : Option (List ℕ)) (right : Written)
+    → AreSmall (t.Func ∷ t.Name name ∷ t.Open ∷ t.Name first ∷ spell_argument second (t.Close ∷ t.Assign ∷ spell right [])) → IsSmall right
 small_definition name first None right e = (small right [] e).0
 small_definition name first (Some second) right e = (small right [] e).0
 
@@ -51,12 +52,16 @@ small_change u e =
 
 -- ---- a line
 
-line_keeps : (reader : Reader) (tokens : List Token) (w : Line Written) → IsRightLine w → tokens ≡ spell_line w → IsKept reader → AreSmall tokens → AreShort tokens → IsFaultless reader tokens (judged_line reader w) → IsKept (applied tree_of reader (judged_line reader w))
+line_keeps : (reader : Reader) (tokens : List Token) (w : Line Written) → IsRightLine w → tokens ≡ spell_line w → IsKept reader → AreSmall tokens
+    → AreShort tokens → IsFaultless reader tokens (judged_line reader w) → IsKept (applied tree_of reader (judged_line reader w))
 line_keeps reader tokens line.Blank written is kept few short right = kept
-line_keeps reader tokens (line.Input e is_bytes) written is kept few short right = input_keeps reader tokens e is_bytes (short_input e is_bytes (subst AreShort is short)) kept right
-line_keeps reader tokens (line.Func d) written is kept few short right = func_keeps reader tokens d kept (small_definition d.name d.first_argument d.second_argument d.right (subst AreSmall is few)) written (short_definition d (subst AreShort is short)) right
+line_keeps reader tokens (line.Input e is_bytes) written is kept few short right = input_keeps reader tokens e is_bytes
+    (short_input e is_bytes (subst AreShort is short)) kept right
+line_keeps reader tokens (line.Func d) written is kept few short right = func_keeps reader tokens d kept (small_definition d.name d.first_argument
+    d.second_argument d.right (subst AreSmall is few)) written (short_definition d (subst AreShort is short)) right
 line_keeps reader tokens (line.Update u) written is kept few short right =
-    update_keeps reader tokens u kept (small_change u (subst AreSmall is few)) (record { left_x = written.0; left_y = written.1; right = written.2 }) (short_change u (subst AreShort is short)) right
+    update_keeps reader tokens u kept (small_change u (subst AreSmall is few)) (record { left_x = written.0; left_y = written.1; right = written.2 })
+    (short_change u (subst AreShort is short)) right
 line_keeps reader tokens (line.Output e) written is kept few short right = output_keeps reader tokens e kept right
 
 are_small : (tokens : List Token) → has_large tokens ≡ false → AreSmall tokens
@@ -67,7 +72,8 @@ are_short : (tokens : List Token) → has_long tokens ≡ false → AreShort tok
 unfolding has_long
 are_short tokens e = e
 
-by_fault : (reader : Reader) (tokens : List Token) (w : Line Written) (fault : Option ParseFault) (next : Reader) → IsRightLine w → tokens ≡ spell_line w → IsKept reader → fault_of reader tokens (judged_line reader w) ≡ fault
+by_fault : (reader : Reader) (tokens : List Token) (w : Line Written) (fault : Option ParseFault) (next : Reader) → IsRightLine w → tokens ≡ spell_line w
+    → IsKept reader → fault_of reader tokens (judged_line reader w) ≡ fault
     → settled_as reader (judged_line reader w) fault ≡ Ok next → IsKept next
 by_fault reader tokens w (Some fault) next written is kept faulty e = cc
 by_fault reader tokens w None next written is kept faulty e =
@@ -75,13 +81,15 @@ by_fault reader tokens w None next written is kept faulty e =
     let same : applied tree_of reader (judged_line reader w) ≡ next = cc in
     subst IsKept same (line_keeps reader tokens w written is kept (are_small tokens right.small) (are_short tokens right.short) right)
 
-by_written : (reader : Reader) (tokens : List Token) (given : Result (Line Written) ParseFault) (next : Reader) → read_line writing tokens ≡ given → IsKept reader
+by_written : (reader : Reader) (tokens : List Token) (given : Result (Line Written) ParseFault) (next : Reader) → read_line writing tokens ≡ given
+    → IsKept reader
     → ((given >>= λ w. Ok (judged_line reader w)) >>= λ l. settled reader tokens l) ≡ Ok next → IsKept next
 by_written reader tokens (Err fault) next is kept e = cc
 by_written reader tokens (Ok w) next is kept e =
     by_fault reader tokens w (fault_of reader tokens (judged_line reader w)) next (line_written tokens w is).0 (line_written tokens w is).1 kept refl e
 
-by_tokens : (reader : Reader) (given : Result (List Token) ParseFault) (next : Reader) → IsKept reader → (given >>= λ tokens. judged reader tokens >>= λ l. settled reader tokens l) ≡ Ok next → IsKept next
+by_tokens : (reader : Reader) (given : Result (List Token) ParseFault) (next : Reader) → IsKept reader
+    → (given >>= λ tokens. judged reader tokens >>= λ l. settled reader tokens l) ≡ Ok next → IsKept next
 unfolding judged
 by_tokens reader (Err fault) next kept e = cc
 by_tokens reader (Ok tokens) next kept e = by_written reader tokens (read_line writing tokens) next refl kept e
@@ -93,11 +101,13 @@ taken_keeps reader line next kept e = by_tokens reader (tokens_of line) next kep
 -- ---- all lines
 
 by_taken : (given : Result Reader ParseFault) (number : ℕ) (lines : List (List ℕ)) (last : Reader) → ((next : Reader) → given ≡ Ok next → IsKept next)
-    → ((next : Reader) → IsKept next → taken_from taken (number + 1) next lines ≡ Ok last → IsKept last) → located number given (λ next. taken_from taken (number + 1) next lines) ≡ Ok last → IsKept last
+    → ((next : Reader) → IsKept next → taken_from taken (number + 1) next lines ≡ Ok last → IsKept last)
+    → located number given (λ next. taken_from taken (number + 1) next lines) ≡ Ok last → IsKept last
 by_taken (Err fault) number lines last one others e = cc
 by_taken (Ok next) number lines last one others e = others next (one next refl) e
 
-lines_keep : (number : ℕ) (reader : Reader) (lines : List (List ℕ)) (last : Reader) → IsKept reader → taken_from taken number reader lines ≡ Ok last → IsKept last
+lines_keep : (number : ℕ) (reader : Reader) (lines : List (List ℕ)) (last : Reader) → IsKept reader → taken_from taken number reader lines ≡ Ok last
+    → IsKept last
 unfolding taken_from
 lines_keep number reader [] last kept e = let same : reader ≡ last = cc in subst IsKept same kept
 lines_keep number reader (line ∷ lines) last kept e =
@@ -136,14 +146,17 @@ finishable reader kept o is =
 pub lines_finish : (alloc : Global) (text : List ℕ) (reader : Reader) → taken_from taken 1 (start alloc text) (lines_of text) ≡ Ok reader → IsFinishable reader
 lines_finish alloc text reader e = finishable reader (lines_keep 1 (start alloc text) (lines_of text) reader (start_kept alloc text) e)
 
-by_output : (count : ℕ) (reader : Reader) (output : Option Output) (pipeline : Pipeline) → reader.output ≡ output → IsFinishable reader → finished_as count reader output ≡ Ok pipeline → IsWellFormed pipeline
+by_output : (count : ℕ) (reader : Reader) (output : Option Output) (pipeline : Pipeline) → reader.output ≡ output → IsFinishable reader
+    → finished_as count reader output ≡ Ok pipeline → IsWellFormed pipeline
 by_output count reader None pipeline is kept e = cc
 by_output count reader (Some o) pipeline is kept e = let same : pipeline_of reader o ≡ pipeline = cc in subst IsWellFormed same (kept o is)
 
-by_reader : (count : ℕ) (given : Result Reader (ℕ × ParseFault)) (pipeline : Pipeline) → ((reader : Reader) → given ≡ Ok reader → IsFinishable reader) → (given >>= λ reader. finished count reader) ≡ Ok pipeline → IsWellFormed pipeline
+by_reader : (count : ℕ) (given : Result Reader (ℕ × ParseFault)) (pipeline : Pipeline) → ((reader : Reader) → given ≡ Ok reader → IsFinishable reader)
+    → (given >>= λ reader. finished count reader) ≡ Ok pipeline → IsWellFormed pipeline
 by_reader count (Err fault) pipeline kept e = cc
 by_reader count (Ok reader) pipeline kept e = by_output count reader reader.output pipeline refl (kept reader refl) e
 
 pub parsed_keeps : (alloc : Global) (text : List ℕ) (pipeline : Pipeline) → parsed alloc text ≡ Ok pipeline → IsWellFormed pipeline
 parsed_keeps alloc text pipeline e =
-    by_reader (length (lines_of text)) (taken_from taken 1 (start alloc text) (lines_of text)) pipeline (λ reader is. lines_finish alloc text reader is) (sym (parsed_is alloc text) ∙ e)
+    by_reader (length (lines_of text)) (taken_from taken 1 (start alloc text) (lines_of text)) pipeline (λ reader is. lines_finish alloc text reader is)
+    (sym (parsed_is alloc text) ∙ e)

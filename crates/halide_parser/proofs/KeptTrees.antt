@@ -40,7 +40,8 @@ module _ (reads : Source → ℕ → Bool) (has : Variable → Bool) where
 
   binary_kept : (is_wanted : Bool) (operation : Operation) (a b : Option Expr) → Keeps a → Keeps b → Keeps (j.binary_tree is_wanted operation a b)
   unfolding keeps
-  binary_kept true operation (Some a) (Some b) in_a in_b = at_binary Bool (keeps_at reads has) operation a b ∙ and_from (keeps reads has a) (keeps reads has b) in_a in_b
+  binary_kept true operation (Some a) (Some b) in_a in_b = at_binary Bool (keeps_at reads has) operation a b
+      ∙ and_from (keeps reads has a) (keeps reads has b) in_a in_b
   binary_kept false operation (Some a) (Some b) in_a in_b = tt
   binary_kept is_wanted operation None b in_a in_b = tt
   binary_kept is_wanted operation (Some a) None in_a in_b = tt
@@ -57,7 +58,8 @@ module _ (reads : Source → ℕ → Bool) (has : Variable → Bool) where
   select_kept : (is_wanted : Bool) (c a b : Option Expr) → Keeps c → Keeps a → Keeps b → Keeps (j.select_tree c (j.pair is_wanted a b))
   unfolding keeps
   select_kept true (Some c) (Some a) (Some b) in_c in_a in_b =
-      at_select Bool (keeps_at reads has) c a b ∙ and_from (keeps reads has c) (keeps reads has a && keeps reads has b) in_c (and_from (keeps reads has a) (keeps reads has b) in_a in_b)
+      at_select Bool (keeps_at reads has) c a b ∙ and_from (keeps reads has c) (keeps reads has a && keeps reads has b) in_c (and_from (keeps reads has a)
+      (keeps reads has b) in_a in_b)
   select_kept false c (Some a) (Some b) in_c in_a in_b = tt
   select_kept true None (Some a) (Some b) in_c in_a in_b = tt
   select_kept is_wanted c None b in_c in_a in_b = tt
@@ -75,7 +77,8 @@ module _ (reads : Source → ℕ → Bool) (has : Variable → Bool) where
   divisor_is None = tt
   divisor_is (Some n) = tested n (is_divisor n) refl
 
-  division_kept : (is_wanted is_quotient : Bool) (a : Option Expr) (divisor : Option ℕ) → Keeps a → IsDivisor divisor → Keeps (j.division_tree is_wanted is_quotient a divisor)
+  division_kept : (is_wanted is_quotient : Bool) (a : Option Expr) (divisor : Option ℕ) → Keeps a → IsDivisor divisor
+      → Keeps (j.division_tree is_wanted is_quotient a divisor)
   unfolding keeps
   division_kept true true (Some a) (Some c) in_a is = at_divide Bool (keeps_at reads has) a c ∙ and_from (keeps reads has a) (is_divisor c) in_a is
   division_kept true false (Some a) (Some c) in_a is = at_remainder Bool (keeps_at reads has) a c ∙ and_from (keeps reads has a) (is_divisor c) in_a is
@@ -89,10 +92,12 @@ module _ (reads : Source → ℕ → Bool) (has : Variable → Bool) where
   call_kept false callee (Some a) may in_a = tt
   call_kept is_wanted callee None may in_a = tt
 
-  call_two_kept : (is_wanted : Bool) (callee : Source × ℕ) (a b : Option Expr) → reads callee.0 2 ≡ true → Keeps a → Keeps b → Keeps (j.call_two_tree is_wanted (Some callee) a b)
+  call_two_kept : (is_wanted : Bool) (callee : Source × ℕ) (a b : Option Expr) → reads callee.0 2 ≡ true → Keeps a → Keeps b
+      → Keeps (j.call_two_tree is_wanted (Some callee) a b)
   unfolding keeps
   call_two_kept true callee (Some a) (Some b) may in_a in_b =
-      at_call2 Bool (keeps_at reads has) callee.0 a b ∙ and_from (keeps reads has a && keeps reads has b) (reads callee.0 2) (and_from (keeps reads has a) (keeps reads has b) in_a in_b) may
+      at_call2 Bool (keeps_at reads has) callee.0 a b ∙ and_from (keeps reads has a && keeps reads has b) (reads callee.0 2) (and_from (keeps reads has a)
+      (keeps reads has b) in_a in_b) may
   call_two_kept false callee (Some a) (Some b) may in_a in_b = tt
   call_two_kept is_wanted callee None b may in_a in_b = tt
   call_two_kept is_wanted callee (Some a) None may in_a in_b = tt
@@ -128,7 +133,8 @@ module _ (reads : Source → ℕ → Bool) (has : Variable → Bool) (is_strict 
   unfolding j.binary
   binary_sound operation a b in_a in_b clean =
       let parts = clean_parts is_strict a.marks b.marks clean in
-      binary_kept reads has (limits.fits (j.node_sum 1 (j.node_sum a.nodes b.nodes)) (max a.nesting b.nesting)) operation a.tree b.tree (in_a parts.0) (in_b parts.1)
+      binary_kept reads has (limits.fits (j.node_sum 1 (j.node_sum a.nodes b.nodes)) (max a.nesting b.nesting)) operation a.tree b.tree (in_a parts.0)
+      (in_b parts.1)
 
   enclosed_sound : (a : Judged) → Sound a → Sound (j.enclosed a)
   unfolding j.enclosed
@@ -146,14 +152,16 @@ module _ (reads : Source → ℕ → Bool) (has : Variable → Bool) (is_strict 
   divided_sound is_quotient a b in_a clean =
       let parts = clean_parts is_strict (j.both_marks a.marks b.marks) (j.divisor_marks (j.divisor b.literal)) clean in
       let operands = clean_parts is_strict a.marks b.marks parts.0 in
-      division_kept reads has (limits.fits (j.node_sum 1 (j.node_sum a.nodes b.nodes)) (max a.nesting b.nesting)) is_quotient a.tree (j.divisor b.literal) (in_a operands.0) (divisor_is reads has b.literal)
+      division_kept reads has (limits.fits (j.node_sum 1 (j.node_sum a.nodes b.nodes)) (max a.nesting b.nesting)) is_quotient a.tree (j.divisor b.literal)
+      (in_a operands.0) (divisor_is reads has b.literal)
 
   select_sound : (c a b : Judged) → Sound c → Sound a → Sound b → Sound (j.select c a b)
   unfolding j.select
   select_sound c a b in_c in_a in_b clean =
       let parts = clean_parts is_strict c.marks (j.both_marks a.marks b.marks) clean in
       let arms = clean_parts is_strict a.marks b.marks parts.1 in
-      select_kept reads has (limits.fits (j.node_sum 1 (j.node_sum c.nodes (j.node_sum a.nodes b.nodes))) (j.deeper (max c.nesting (max a.nesting b.nesting)))) c.tree a.tree b.tree (in_c parts.0) (in_a arms.0) (in_b arms.1)
+      select_kept reads has (limits.fits (j.node_sum 1 (j.node_sum c.nodes (j.node_sum a.nodes b.nodes))) (j.deeper (max c.nesting (max a.nesting b.nesting))))
+      c.tree a.tree b.tree (in_c parts.0) (in_a arms.0) (in_b arms.1)
 
   -- the number of arguments is that of the dimensions
   counted : (callee : Source × ℕ) (count : ℕ) → (not (callee.1 == count) || false) ≡ false → reads callee.0 callee.1 ≡ true → reads callee.0 count ≡ true
@@ -165,18 +173,22 @@ module _ (reads : Source → ℕ → Bool) (has : Variable → Bool) (is_strict 
   call_by None a allowed in_a clean = tt
   call_by (Some callee) a allowed in_a clean =
       let parts = clean_parts is_strict a.marks (j.callee_marks (Some callee) 1 (j.own_marks (asked.is_own scope (Some callee)) a.alone None)) clean in
-      call_kept reads has (limits.fits (j.node_sum 1 a.nodes) (j.deeper a.nesting)) callee a.tree (counted callee 1 parts.1.counts (allowed parts.1.own)) (in_a parts.0)
+      call_kept reads has (limits.fits (j.node_sum 1 a.nodes) (j.deeper a.nesting)) callee a.tree (counted callee 1 parts.1.counts (allowed parts.1.own))
+      (in_a parts.0)
 
   call_sound : (name : List ℕ) (a : Judged) → Sound a → Sound (j.call reader scope name a)
   unfolding j.call
   call_sound name a in_a = call_by (source reader name) a (may name) in_a
 
-  call_two_by : (callee : Option (Source × ℕ)) (a b : Judged) → MayRead reads is_strict scope callee → Sound a → Sound b → Sound (j.call_two_as scope callee a b)
+  call_two_by : (callee : Option (Source × ℕ)) (a b : Judged) → MayRead reads is_strict scope callee → Sound a → Sound b
+      → Sound (j.call_two_as scope callee a b)
   call_two_by None a b allowed in_a in_b clean = tt
   call_two_by (Some callee) a b allowed in_a in_b clean =
-      let parts = clean_parts is_strict (j.both_marks a.marks b.marks) (j.callee_marks (Some callee) 2 (j.own_marks (asked.is_own scope (Some callee)) a.alone b.alone)) clean in
+      let parts = clean_parts is_strict (j.both_marks a.marks b.marks) (j.callee_marks (Some callee) 2 (j.own_marks (asked.is_own scope (Some callee)) a.alone
+      b.alone)) clean in
       let indexes = clean_parts is_strict a.marks b.marks parts.0 in
-      call_two_kept reads has (limits.fits (j.node_sum 1 (j.node_sum a.nodes b.nodes)) (j.deeper (max a.nesting b.nesting))) callee a.tree b.tree (counted callee 2 parts.1.counts (allowed parts.1.own)) (in_a indexes.0) (in_b indexes.1)
+      call_two_kept reads has (limits.fits (j.node_sum 1 (j.node_sum a.nodes b.nodes)) (j.deeper (max a.nesting b.nesting))) callee a.tree b.tree
+      (counted callee 2 parts.1.counts (allowed parts.1.own)) (in_a indexes.0) (in_b indexes.1)
 
   call_two_sound : (name : List ℕ) (a b : Judged) → Sound a → Sound b → Sound (j.call_two reader scope name a b)
   unfolding j.call_two
@@ -184,7 +196,8 @@ module _ (reads : Source → ℕ → Bool) (has : Variable → Bool) (is_strict 
 
   three_sound : (f : ThreeFunction) (a b c : Judged) → Sound a → Sound b → Sound c → Sound (j.three f a b c)
   three_sound threes.Clamp a b c in_a in_b in_c =
-      enclosed_sound (j.binary op.Minimum (j.binary op.Maximum a b) c) (binary_sound op.Minimum (j.binary op.Maximum a b) c (binary_sound op.Maximum a b in_a in_b) in_c)
+      enclosed_sound (j.binary op.Minimum (j.binary op.Maximum a b) c) (binary_sound op.Minimum (j.binary op.Maximum a b) c (binary_sound op.Maximum a b in_a
+      in_b) in_c)
   three_sound threes.Select a b c in_a in_b in_c = select_sound a b c in_a in_b in_c
 
   product_sound : (operator : ProductOperator) (a b : Judged) → Sound a → Sound b → Sound (j.product operator a b)
@@ -199,10 +212,12 @@ module _ (reads : Source → ℕ → Bool) (has : Variable → Bool) (is_strict 
   sound (Literal n) small = literal_sound n small
   sound (Bare name) small = bare_sound name
   sound (Group a) small = enclosed_sound (judge a) (sound a small)
-  sound (Minus a) small = enclosed_sound (j.binary op.Subtract (j.literal 0) (judge a)) (binary_sound op.Subtract (j.literal 0) (judge a) (literal_sound 0 refl) (sound a small))
+  sound (Minus a) small = enclosed_sound (j.binary op.Subtract (j.literal 0) (judge a)) (binary_sound op.Subtract (j.literal 0) (judge a) (literal_sound 0 refl)
+      (sound a small))
   sound (Call name a) small = call_sound name (judge a) (sound a small)
   sound (CallTwo name a b) small = call_two_sound name (judge a) (judge b) (sound a small.0) (sound b small.1)
-  sound (Two f a b) small = enclosed_sound (j.binary (asked.two_operation f) (judge a) (judge b)) (binary_sound (asked.two_operation f) (judge a) (judge b) (sound a small.0) (sound b small.1))
+  sound (Two f a b) small = enclosed_sound (j.binary (asked.two_operation f) (judge a) (judge b)) (binary_sound (asked.two_operation f) (judge a) (judge b)
+      (sound a small.0) (sound b small.1))
   sound (Three f a b c) small = three_sound f (judge a) (judge b) (judge c) (sound a small.0) (sound b small.1) (sound c small.2)
   sound (Product operator a b) small = product_sound operator (judge a) (judge b) (sound a small.0) (sound b small.1)
   sound (Sum operator a b) small = binary_sound (asked.sum_operation operator) (judge a) (judge b) (sound a small.0) (sound b small.1)

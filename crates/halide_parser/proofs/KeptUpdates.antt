@@ -1,5 +1,6 @@
 -- An update that breaks no rule keeps the rules of a pipeline.
-use Rattle.std.proofs.Common.{◌≡◌, ℕ, zero, suc, ◌-◌, ◌+◌, ◌≤◌, ◌<◌, inl, inr, Bool, true, false, cond, not, List, length, Option, Some, None, refl, sym, ap, subst, ◌∙◌, arith}
+use Rattle.std.proofs.Common.{◌≡◌, ℕ, zero, suc, ◌-◌, ◌+◌, ◌≤◌, ◌<◌, inl, inr, Bool, true, false, cond, not, List, length, Option, Some, None, refl, sym, ap}
+use Rattle.std.proofs.Common.{subst, ◌∙◌, arith}
 use Rattle.std.specs.Prelude.{◌==◌, ◌&&◌, ◌||◌, ◌^◌, ◌%◌, nat_le, nat_lt, slice_get, is_some}
 use Rattle.std.proofs.Math.Nat.{mod-eq_of_lt}
 use Rattle.std.proofs.lemmas.Bool.{and_from, or_parts, or_left, or_right, not-false, ltb-false, le-leb, eqb-true}
@@ -8,7 +9,8 @@ use Rattle.halide_pipeline.specs.declared.definitions.Func.{Func}
 use Rattle.halide_pipeline.specs.declared.definitions.Update.{Update}
 use Rattle.halide_pipeline.specs.declared.expressions.Variable.{Variable}
 use Rattle.halide_pipeline.specs.declared.expressions.Variable.TheVariants as variables
-use Rattle.halide_pipeline.specs.WellFormed.{dimensions, is_first_in_place, is_second, is_second_in_place, is_alone, IsFunc, IsUpdate, is_read, is_update_variable, keeps, keeps_index, is_minimum, is_second_minimum, is_box, is_width, is_height}
+use Rattle.halide_pipeline.specs.WellFormed.{dimensions, is_first_in_place, is_second, is_second_in_place, is_alone, IsFunc, IsUpdate, is_read}
+use Rattle.halide_pipeline.specs.WellFormed.{is_update_variable, keeps, keeps_index, is_minimum, is_second_minimum, is_box, is_width, is_height}
 use Rattle.halide_pipeline.specs.Expressions.{uses}
 use Rattle.halide_pipeline.specs.Words.{subtract}
 use Rattle.halide_pipeline.specs.WellFormed as w
@@ -48,10 +50,12 @@ second_there : (second : Option Bounds) (name : List ℕ) → is_named (bounds_n
 second_there None name e = cc
 second_there (Some bounds) name e = refl
 
-update_known : (f : Func) (own : Option ℕ) (u : Change Written) (name : List ℕ) (v : Variable) → variable (known_scope f own u) name ≡ Some v → is_update_variable (dimensions f) (second_reduction u.second) v ≡ true
+update_known : (f : Func) (own : Option ℕ) (u : Change Written) (name : List ℕ) (v : Variable) → variable (known_scope f own u) name ≡ Some v
+    → is_update_variable (dimensions f) (second_reduction u.second) v ≡ true
 unfolding variable
 update_known f own u name v e =
-    picked (is_update_variable (dimensions f) (second_reduction u.second)) (is_named (Some f.first_argument) name) (is_named f.second_argument name) (is_named (Some u.first.name) name) (is_named (bounds_name u.second) name) v e
+    picked (is_update_variable (dimensions f) (second_reduction u.second)) (is_named (Some f.first_argument) name) (is_named f.second_argument name)
+    (is_named (Some u.first.name) name) (is_named (bounds_name u.second) name) v e
     refl (two_arguments f.second_argument name) (λ is. refl) (second_there u.second name)
 
 -- ---- reductions
@@ -75,7 +79,8 @@ second_minimum_is : (second : Option Bounds) → r.is_second_far second ≡ fals
 second_minimum_is None near = refl
 second_minimum_is (Some b) near = minimum_is b near
 
-box_is : (first : Bounds) (second : Option Bounds) → r.is_bad_box first.extent (r.second_extent second) ≡ false → (is_width first.extent && is_height first.extent (w.second_extent (second_reduction second))) ≡ true
+box_is : (first : Bounds) (second : Option Bounds) → r.is_bad_box first.extent (r.second_extent second) ≡ false
+    → (is_width first.extent && is_height first.extent (w.second_extent (second_reduction second))) ≡ true
 box_is first None e = let sizes = box first.extent 1 e in and_from (is_width first.extent) (is_height first.extent 1) sizes.0 sizes.1
 box_is first (Some b) e = let sizes = box first.extent b.extent e in and_from (is_width first.extent) (is_height first.extent b.extent) sizes.0 sizes.1
 
@@ -119,7 +124,8 @@ pub record IsSmallChange (u : Change Written) : Type 0 where
   pub left_y : IsSmallIndex u.left_y
   pub right : IsSmall u.right
 
-module _ (reader : Reader) (scope : Scope) (u : Change Written) (kept : IsKept reader) (is : IsNamed reader u.name) (scope_is : scope ≡ known_scope is.func (Some is.place) u)
+module _ (reader : Reader) (scope : Scope) (u : Change Written) (kept : IsKept reader) (is : IsNamed reader u.name) (scope_is : scope
+    ≡ known_scope is.func (Some is.place) u)
     (last : suc is.place ≡ length reader.funcs) where
   abbrev has : Variable → Bool
   has = is_update_variable (dimensions is.func) (second_reduction u.second)
@@ -133,18 +139,23 @@ module _ (reader : Reader) (scope : Scope) (u : Change Written) (kept : IsKept r
   abbrev judge : Written → Judged
   judge = made (j.judging reader scope)
 
-  left_kept : (index : Written) → IsSmall index → Clean true (judge index).marks → keeps (is_read reader.inputs reader.funcs is.place) has (tree_of (judge index)) ≡ true
+  left_kept : (index : Written) → IsSmall index → Clean true (judge index).marks
+      → keeps (is_read reader.inputs reader.funcs is.place) has (tree_of (judge index)) ≡ true
   left_kept index is_small clean =
       let reads = is_read reader.inputs reader.funcs is.place in
       tree_kept reads has (judge index).tree (sound reads has true reader scope (may_before reader scope is.place kept own last) known index is_small clean)
 
-  index_kept : (index : Option Written) → IsSmallIndex index → Clean true (lines.marks_of (made_index (j.judging reader scope) index)) → (dimensions is.func == r.count_with (made_index (j.judging reader scope) index)) ≡ true
-      → keeps_index (is_read reader.inputs reader.funcs is.place) has (dimensions is.func) (second_tree tree_of (made_index (j.judging reader scope) index)) ≡ true
+  index_kept : (index : Option Written) → IsSmallIndex index → Clean true (lines.marks_of (made_index (j.judging reader scope) index))
+      → (dimensions is.func == r.count_with (made_index (j.judging reader scope) index)) ≡ true
+      → keeps_index (is_read reader.inputs reader.funcs is.place) has (dimensions is.func) (second_tree tree_of (made_index (j.judging reader scope) index))
+      ≡ true
   index_kept None is_small clean counts = counts
   index_kept (Some index) is_small clean counts =
-      and_from (dimensions is.func == 2) (keeps (is_read reader.inputs reader.funcs is.place) has (tree_of (judge index))) counts (left_kept index is_small clean)
+      and_from (dimensions is.func == 2) (keeps (is_read reader.inputs reader.funcs is.place) has (tree_of (judge index))) counts (left_kept index is_small
+      clean)
 
-  right_kept : IsSmall u.right → Clean false (judge u.right).marks → keeps (is_read reader.inputs reader.funcs (suc is.place)) has (tree_of (judge u.right)) ≡ true
+  right_kept : IsSmall u.right → Clean false (judge u.right).marks → keeps (is_read reader.inputs reader.funcs (suc is.place)) has (tree_of (judge u.right))
+      ≡ true
   right_kept is_small clean =
       let reads = is_read reader.inputs reader.funcs (length reader.funcs) in
       let tree = tree_kept reads has (judge u.right).tree (sound reads has false reader scope (may reader scope kept) known u.right is_small clean) in
@@ -175,9 +186,11 @@ module _ (reader : Reader) (scope : Scope) (u : Change Written) (kept : IsKept r
     divisors = right.divisors;
   }
 
-  side_stays : (side : Written) → IsPlain (judge side).marks → lines.exceeds (judge side) ≡ false → Calm first second (judge side).marks → Stays is.place first second (tree_of (judge side)) (judge side).alone
+  side_stays : (side : Written) → IsPlain (judge side).marks → lines.exceeds (judge side) ≡ false → Calm first second (judge side).marks
+      → Stays is.place first second (tree_of (judge side)) (judge side).alone
   side_stays side in_plain fits in_calm =
-      let some = some_tree reader scope side in_plain (fits_is (judge side).nodes (judge side).nesting (not-false (w.fits (judge side).nodes (judge side).nesting) fits)) in
+      let some = some_tree reader scope side in_plain (fits_is (judge side).nodes (judge side).nesting
+      (not-false (w.fits (judge side).nodes (judge side).nesting) fits)) in
       stays_there is.place first second (judge side).tree (judge side).alone some (placed is.place first second reader scope own side in_calm)
 
   -- what is known of the second index
@@ -186,7 +199,9 @@ module _ (reader : Reader) (scope : Scope) (u : Change Written) (kept : IsKept r
     in_second : (not second && w.is_used_in variables.SecondArgument (second_tree tree_of judged)) ≡ false
     stands : is_second (second_tree tree_of judged) ≡ lines.is_in_place judged variables.SecondArgument
 
-  index_stays : (index : Option Written) → IsPlain (lines.marks_of (made_index (j.judging reader scope) index)) → r.second_exceeds lines.exceeds (made_index (j.judging reader scope) index) ≡ false → Calm first second (lines.marks_of (made_index (j.judging reader scope) index))
+  index_stays : (index : Option Written) → IsPlain (lines.marks_of (made_index (j.judging reader scope) index))
+      → r.second_exceeds lines.exceeds (made_index (j.judging reader scope) index) ≡ false
+      → Calm first second (lines.marks_of (made_index (j.judging reader scope) index))
       → IndexStays (made_index (j.judging reader scope) index)
   index_stays None in_plain fits in_calm = record { in_first = unused_none first; in_second = unused_none second; stands = refl }
   index_stays (Some index) in_plain fits in_calm =
@@ -201,7 +216,8 @@ module _ (reader : Reader) (scope : Scope) (u : Change Written) (kept : IsKept r
     second_argument : (is_second_in_place new || not (w.is_used variables.SecondArgument new)) ≡ true
     own_calls : (w.calls_in_place is.place (is_first_in_place new) (is_second_in_place new) new.right).stays ≡ true
 
-  are_placed : (tokens : List Token) → IsFaultless reader tokens (line.Update change) → lines.is_moved change ≡ false → (lines.exceeds change.left_x || r.second_exceeds lines.exceeds change.left_y || lines.exceeds change.right) ≡ false → ArePlaced
+  are_placed : (tokens : List Token) → IsFaultless reader tokens (line.Update change) → lines.is_moved change ≡ false
+      → (lines.exceeds change.left_x || r.second_exceeds lines.exceeds change.left_y || lines.exceeds change.right) ≡ false → ArePlaced
   are_placed tokens right shape within =
       let sizes = none_of_three (lines.exceeds change.left_x) (r.second_exceeds lines.exceeds change.left_y) (lines.exceeds change.right) within in
       let all_plain = plain_parts (lines.left_marks change) change.right.marks (plain tokens right) in
@@ -213,27 +229,37 @@ module _ (reader : Reader) (scope : Scope) (u : Change Written) (kept : IsKept r
       let side = side_stays u.right all_plain.1 sizes.2 all_calm.1 in
       let is_first : is_first_in_place new ≡ first = x.variable variables.FirstArgument in
       let is_second : is_second_in_place new ≡ second = y.stands in
-      let no_first = strict_join (not first) (uses variables.FirstArgument new.left_x || w.is_used_in variables.FirstArgument new.left_y) (uses variables.FirstArgument new.right)
-      (strict_join (not first) (uses variables.FirstArgument new.left_x) (w.is_used_in variables.FirstArgument new.left_y) x.unused.in_first y.in_first) side.unused.in_first in
-      let no_second = strict_join (not second) (uses variables.SecondArgument new.left_x || w.is_used_in variables.SecondArgument new.left_y) (uses variables.SecondArgument new.right)
-      (strict_join (not second) (uses variables.SecondArgument new.left_x) (w.is_used_in variables.SecondArgument new.left_y) x.unused.in_second y.in_second) side.unused.in_second in
+      let no_first = strict_join (not first) (uses variables.FirstArgument new.left_x || w.is_used_in variables.FirstArgument new.left_y)
+      (uses variables.FirstArgument new.right)
+      (strict_join (not first) (uses variables.FirstArgument new.left_x) (w.is_used_in variables.FirstArgument new.left_y) x.unused.in_first y.in_first)
+      side.unused.in_first in
+      let no_second = strict_join (not second) (uses variables.SecondArgument new.left_x || w.is_used_in variables.SecondArgument new.left_y)
+      (uses variables.SecondArgument new.right)
+      (strict_join (not second) (uses variables.SecondArgument new.left_x) (w.is_used_in variables.SecondArgument new.left_y) x.unused.in_second y.in_second)
+      side.unused.in_second in
       record {
-        first_argument = subst (λ (b : Bool). (b || not (w.is_used variables.FirstArgument new)) ≡ true) (sym is_first) (unused_or first (w.is_used variables.FirstArgument new) no_first);
-        second_argument = subst (λ (b : Bool). (b || not (w.is_used variables.SecondArgument new)) ≡ true) (sym is_second) (unused_or second (w.is_used variables.SecondArgument new) no_second);
+        first_argument = subst (λ (b : Bool). (b || not (w.is_used variables.FirstArgument new)) ≡ true) (sym is_first)
+            (unused_or first (w.is_used variables.FirstArgument new) no_first);
+        second_argument = subst (λ (b : Bool). (b || not (w.is_used variables.SecondArgument new)) ≡ true) (sym is_second)
+            (unused_or second (w.is_used variables.SecondArgument new) no_second);
         own_calls = subst (λ (b : Bool). (w.calls_in_place is.place b (is_second_in_place new) new.right).stays ≡ true) (sym is_first)
             (subst (λ (b : Bool). (w.calls_in_place is.place first b new.right).stays ≡ true) (sym is_second) side.stays);
       }
 
-  index_sized : (index : Option Written) → IsRightIndex index → IsPlain (lines.marks_of (made_index (j.judging reader scope) index)) → r.second_exceeds lines.exceeds (made_index (j.judging reader scope) index) ≡ false
+  index_sized : (index : Option Written) → IsRightIndex index → IsPlain (lines.marks_of (made_index (j.judging reader scope) index))
+      → r.second_exceeds lines.exceeds (made_index (j.judging reader scope) index) ≡ false
       → w.is_second_sized (second_tree tree_of (made_index (j.judging reader scope) index)) ≡ true
   index_sized None written in_plain within = refl
   index_sized (Some index) written in_plain within = sized reader scope index written in_plain within
 
-  new_reductions : (tokens : List Token) → ShortChange u → IsFaultless reader tokens (line.Update change) → w.are_reductions is.func.first_argument is.func.second_argument (update_of tree_of change) ≡ true
+  new_reductions : (tokens : List Token) → ShortChange u → IsFaultless reader tokens (line.Update change)
+      → w.are_reductions is.func.first_argument is.func.second_argument (update_of tree_of change) ≡ true
   new_reductions tokens short right =
       let taken = or_parts (r.is_argument reader u.name u.first.name) (r.is_second_taken reader u.name u.first.name u.second) right.free in
-      let first : w.is_argument_name is.func.first_argument is.func.second_argument u.first.name ≡ false = ap (λ (f : Option Func). r.is_argument_of f u.first.name) (sym is.func_is) ∙ taken.0 in
-      and_from (w.is_name u.first.name && not (w.is_argument_name is.func.first_argument is.func.second_argument u.first.name)) (w.is_second_reduction is.func.first_argument is.func.second_argument u.first.name (second_reduction u.second))
+      let first : w.is_argument_name is.func.first_argument is.func.second_argument u.first.name ≡ false =
+      ap (λ (f : Option Func). r.is_argument_of f u.first.name) (sym is.func_is) ∙ taken.0 in
+      and_from (w.is_name u.first.name && not (w.is_argument_name is.func.first_argument is.func.second_argument u.first.name))
+      (w.is_second_reduction is.func.first_argument is.func.second_argument u.first.name (second_reduction u.second))
       (and_from (w.is_name u.first.name) (not (w.is_argument_name is.func.first_argument is.func.second_argument u.first.name)) short.first (ap not first))
       (second_apart u.second short.second taken.1)
     where
@@ -243,11 +269,15 @@ module _ (reader : Reader) (scope : Scope) (u : Change Written) (kept : IsKept r
       second_apart (Some b) short e =
           let apart : (bytes_eq b.name u.first.name || w.is_argument_name is.func.first_argument is.func.second_argument b.name) ≡ false =
           ap (λ (f : Option Func). bytes_eq b.name u.first.name || r.is_argument_of f b.name) (sym is.func_is) ∙ e in
-          and_from (w.is_name b.name) (not (bytes_eq b.name u.first.name || w.is_argument_name is.func.first_argument is.func.second_argument b.name)) short (ap not apart)
+          and_from (w.is_name b.name) (not (bytes_eq b.name u.first.name || w.is_argument_name is.func.first_argument is.func.second_argument b.name)) short
+          (ap not apart)
 
-  new_update : (tokens : List Token) → IsSmallChange u → IsRightChange u → IsFaultless reader tokens (line.Update change) → IsUpdate reader.inputs reader.funcs is.place (dimensions is.func) (update_of tree_of change)
+  new_update : (tokens : List Token) → IsSmallChange u → IsRightChange u → IsFaultless reader tokens (line.Update change)
+      → IsUpdate reader.inputs reader.funcs is.place (dimensions is.func) (update_of tree_of change)
   new_update tokens is_small written right =
-      let limits = none_of_four (r.is_full reader u.name) (lines.exceeds change.left_x || r.second_exceeds lines.exceeds change.left_y || lines.exceeds change.right) (nat_lt 0x1000000 u.first.minimum || r.is_second_far u.second) (r.is_bad_box u.first.extent (r.second_extent u.second)) right.within in
+      let limits = none_of_four (r.is_full reader u.name) (lines.exceeds change.left_x || r.second_exceeds lines.exceeds change.left_y
+      || lines.exceeds change.right) (nat_lt 0x1000000 u.first.minimum || r.is_second_far u.second) (r.is_bad_box u.first.extent (r.second_extent u.second))
+      right.within in
       let far = or_parts (nat_lt 0x1000000 u.first.minimum) (r.is_second_far u.second) limits.2 in
       let shape = or_parts (not (r.same_place reader.last_func (rd.func_place reader u.name))) (lines.is_moved change) right.shaped in
       let moved = none_of_three (lines.left_marks change).calls_own _ _ shape.1 in
@@ -258,7 +288,8 @@ module _ (reader : Reader) (scope : Scope) (u : Change Written) (kept : IsKept r
       let counts = or_parts (r.is_other_count reader u.name (r.count_with change.left_y)) (lines.change_marks change).is_wrong_count right.counts in
       let sides = or_parts (lines.left_marks change).is_wrong_count change.right.marks.is_wrong_count counts.1 in
       let left = clean_parts true change.left_x.marks (lines.marks_of change.left_y) (record { counts = sides.0; own = moved.0 }) in
-      let other : not (dimensions is.func == r.count_with change.left_y) ≡ false = ap (λ (f : Option Func). r.is_other_count_of f (r.count_with change.left_y)) (sym is.func_is) ∙ counts.0 in
+      let other : not (dimensions is.func == r.count_with change.left_y) ≡ false = ap (λ (f : Option Func). r.is_other_count_of f (r.count_with change.left_y))
+      (sym is.func_is) ∙ counts.0 in
       record {
         left_x = left_kept u.left_x is_small.left_x left.0;
         left_y = index_kept u.left_y is_small.left_y left.1 (not-false (dimensions is.func == r.count_with change.left_y) other);
@@ -276,7 +307,8 @@ module _ (reader : Reader) (scope : Scope) (u : Change Written) (kept : IsKept r
 
 -- ---- the Func with its update
 
-updates_of : (reader : Reader) (f : Func) (place : ℕ) (update : Update) → IsFunc reader.inputs reader.funcs place f → nat_le 4 (length f.updates) ≡ false → IsUpdate reader.inputs reader.funcs place (dimensions f) update
+updates_of : (reader : Reader) (f : Func) (place : ℕ) (update : Update) → IsFunc reader.inputs reader.funcs place f → nat_le 4 (length f.updates) ≡ false
+    → IsUpdate reader.inputs reader.funcs place (dimensions f) update
     → w.are_reductions f.first_argument f.second_argument update ≡ true → IsFunc reader.inputs (with_update reader.funcs update) place (updated f update)
 updates_of reader f place update is few new apart =
     let grows = updates_grow reader.inputs reader.funcs update in
@@ -297,34 +329,40 @@ updates_of reader f place update is few new apart =
       ];
     }
 
-same_func : (reader : Reader) (place k : ℕ) (f g : Func) → suc place ≡ length reader.funcs → suc k ≡ length reader.funcs → slice_get reader.funcs place ≡ Some f → slice_get reader.funcs k ≡ Some g → (place ≡ k) × (f ≡ g)
+same_func : (reader : Reader) (place k : ℕ) (f g : Func) → suc place ≡ length reader.funcs → suc k ≡ length reader.funcs → slice_get reader.funcs place ≡ Some f
+    → slice_get reader.funcs k ≡ Some g → (place ≡ k) × (f ≡ g)
 same_func reader place k f g last last' found found' =
     let e : place ≡ k = omega (arith, last, last') in
     let is : Some f ≡ Some g = sym found ∙ ap (slice_get reader.funcs) e ∙ found' in
     (e, cc)
 
-pub update_keeps : (reader : Reader) (tokens : List Token) (u : Change Written) → IsKept reader → IsSmallChange u → IsRightChange u → ShortChange u → IsFaultless reader tokens (line.Update (judged_change reader (change_scope reader u) u))
+pub update_keeps : (reader : Reader) (tokens : List Token) (u : Change Written) → IsKept reader → IsSmallChange u → IsRightChange u → ShortChange u
+    → IsFaultless reader tokens (line.Update (judged_change reader (change_scope reader u) u))
     → IsKept (applied tree_of reader (line.Update (judged_change reader (change_scope reader u) u)))
 update_keeps reader tokens u kept is_small written short right =
     let scope = change_scope reader u in
     let change = judged_change reader scope u in
     let update = update_of tree_of change in
     let is = named reader u.name kept (or_parts (not (r.is_func reader u.name)) _ right.known).0 in
-    let scope_is : scope ≡ known_scope is.func (Some is.place) u = ap (λ (f : Option Func). change_scope_of f (rd.func_place reader u.name) u) is.func_is ∙ ap (λ (p : Option ℕ). known_scope is.func p u) is.place_is in
+    let scope_is : scope ≡ known_scope is.func (Some is.place) u = ap (λ (f : Option Func). change_scope_of f (rd.func_place reader u.name) u) is.func_is
+    ∙ ap (λ (p : Option ℕ). known_scope is.func p u) is.place_is in
     let shape = or_parts (not (r.same_place reader.last_func (rd.func_place reader u.name))) (lines.is_moved change) right.shaped in
-    let below : reader.last_func ≡ Some is.place = same_last reader.last_func is.place (ap (r.same_place reader.last_func) (sym is.place_is) ∙ not-false (r.same_place reader.last_func (rd.func_place reader u.name)) shape.0) in
+    let below : reader.last_func ≡ Some is.place = same_last reader.last_func is.place (ap (r.same_place reader.last_func) (sym is.place_is)
+    ∙ not-false (r.same_place reader.last_func (rd.func_place reader u.name)) shape.0) in
     let last : suc is.place ≡ length reader.funcs = kept.last is.place below in
     let new = new_update reader scope u kept is scope_is last tokens is_small written right in
     let apart = new_reductions reader scope u kept is scope_is last tokens short right in
     let limits = none_of_four (r.is_full reader u.name) _ _ _ right.within in
     let few : nat_le 4 (length is.func.updates) ≡ false = ap r.is_full_of (sym is.func_is) ∙ limits.0 in
-    let whole : IsFunc reader.inputs (with_update reader.funcs update) is.place (updated is.func update) = updates_of reader is.func is.place update (kept.funcs is.place is.func is.found) few new apart in
+    let whole : IsFunc reader.inputs (with_update reader.funcs update) is.place (updated is.func update) = updates_of reader is.func is.place update
+    (kept.funcs is.place is.func is.found) few new apart in
     record {
       few_inputs = kept.few_inputs;
       few_funcs = rw (length-update reader.funcs update) kept.few_funcs;
       inputs = kept.inputs;
       funcs = λ place func found. elim (get-update reader.funcs update place func found) [
-        | inl before ↦ func_grows reader.inputs reader.funcs reader.inputs (with_update reader.funcs update) (updates_grow reader.inputs reader.funcs update) place func (kept.funcs place func before.1)
+        | inl before ↦ func_grows reader.inputs reader.funcs reader.inputs (with_update reader.funcs update) (updates_grow reader.inputs reader.funcs update)
+            place func (kept.funcs place func before.1)
         | inr at ↦
             let same = same_func reader is.place place is.func at.0 last at.1 is.found at.2 in
             subst (λ (f : Func). IsFunc reader.inputs (with_update reader.funcs update) place f) (ap (λ (f : Func). updated f update) same.1 ∙ at.3)

@@ -67,15 +67,19 @@ module _ (reader : Reader) (scope : Scope) where
   nested (Group a) = deeper_is (judge a).nesting (nesting a) (nested a)
   nested (Minus a) = deeper_is (max 0 (judge a).nesting) (nesting a) (max_zero (judge a).nesting ∙ nested a)
   nested (Call name a) = deeper_is (judge a).nesting (nesting a) (nested a)
-  nested (CallTwo name a b) = deeper_is (max (judge a).nesting (judge b).nesting) (max (nesting a) (nesting b)) (max_is (judge a).nesting (judge b).nesting (nesting a) (nesting b) (nested a) (nested b))
-  nested (Two f a b) = deeper_is (max (judge a).nesting (judge b).nesting) (max (nesting a) (nesting b)) (max_is (judge a).nesting (judge b).nesting (nesting a) (nesting b) (nested a) (nested b))
+  nested (CallTwo name a b) = deeper_is (max (judge a).nesting (judge b).nesting) (max (nesting a) (nesting b)) (max_is (judge a).nesting (judge b).nesting
+      (nesting a) (nesting b) (nested a) (nested b))
+  nested (Two f a b) = deeper_is (max (judge a).nesting (judge b).nesting) (max (nesting a) (nesting b)) (max_is (judge a).nesting (judge b).nesting (nesting a)
+      (nesting b) (nested a) (nested b))
   nested (Three threes.Clamp a b c) =
       deeper_is (max (max (judge a).nesting (judge b).nesting) (judge c).nesting) (max (nesting a) (max (nesting b) (nesting c)))
       (max_joined (judge a).nesting (judge b).nesting (judge c).nesting
-      ∙ max_is (judge a).nesting (max (judge b).nesting (judge c).nesting) (nesting a) (max (nesting b) (nesting c)) (nested a) (max_is (judge b).nesting (judge c).nesting (nesting b) (nesting c) (nested b) (nested c)))
+      ∙ max_is (judge a).nesting (max (judge b).nesting (judge c).nesting) (nesting a) (max (nesting b) (nesting c)) (nested a) (max_is (judge b).nesting
+      (judge c).nesting (nesting b) (nesting c) (nested b) (nested c)))
   nested (Three threes.Select a b c) =
       deeper_is (max (judge a).nesting (max (judge b).nesting (judge c).nesting)) (max (nesting a) (max (nesting b) (nesting c)))
-      (max_is (judge a).nesting (max (judge b).nesting (judge c).nesting) (nesting a) (max (nesting b) (nesting c)) (nested a) (max_is (judge b).nesting (judge c).nesting (nesting b) (nesting c) (nested b) (nested c)))
+      (max_is (judge a).nesting (max (judge b).nesting (judge c).nesting) (nesting a) (max (nesting b) (nesting c)) (nested a) (max_is (judge b).nesting
+      (judge c).nesting (nesting b) (nesting c) (nested b) (nested c)))
   nested (Product products.Multiply a b) = max_is (judge a).nesting (judge b).nesting (nesting a) (nesting b) (nested a) (nested b)
   nested (Product products.Divide a b) = max_is (judge a).nesting (judge b).nesting (nesting a) (nesting b) (nested a) (nested b)
   nested (Product products.Remainder a b) = max_is (judge a).nesting (judge b).nesting (nesting a) (nesting b) (nested a) (nested b)
@@ -132,9 +136,11 @@ module _ (reader : Reader) (scope : Scope) where
     pub bare : (name : List ℕ) → mark (j.bare reader scope name).marks ≡ test (Bare name)
     pub group : (a : Written) → test (Group a) ≡ false
     pub minus : (a : Written) → test (Minus a) ≡ false
-    pub call : (name : List ℕ) (a : Written) → mark (j.callee_marks (source reader name) 1 (j.own_marks (asked.is_own scope (source reader name)) (judge a).alone None)) ≡ test (Call name a)
+    pub call : (name : List ℕ) (a : Written)
+        → mark (j.callee_marks (source reader name) 1 (j.own_marks (asked.is_own scope (source reader name)) (judge a).alone None)) ≡ test (Call name a)
     pub call_two : (name : List ℕ) (a b : Written)
-        → mark (j.callee_marks (source reader name) 2 (j.own_marks (asked.is_own scope (source reader name)) (judge a).alone (judge b).alone)) ≡ test (CallTwo name a b)
+        → mark (j.callee_marks (source reader name) 2 (j.own_marks (asked.is_own scope (source reader name)) (judge a).alone (judge b).alone))
+        ≡ test (CallTwo name a b)
     pub two : (f : TwoFunction) (a b : Written) → test (Two f a b) ≡ false
     pub three : (f : ThreeFunction) (a b c : Written) → test (Three f a b c) ≡ false
     pub multiply : (a b : Written) → test (Product products.Multiply a b) ≡ false
@@ -158,7 +164,8 @@ module _ (reader : Reader) (scope : Scope) where
     called : (here : Bool) (a own : Marks) (x : Bool) → mark own ≡ here → mark a ≡ x → mark (j.both_marks a own) ≡ (here || x)
     called here a own x e f = rw (asks.both a own, e, f) (or_swap x here)
 
-    called_two : (here : Bool) (a b own : Marks) (x y : Bool) → mark own ≡ here → mark a ≡ x → mark b ≡ y → mark (j.both_marks (j.both_marks a b) own) ≡ (here || (x || y))
+    called_two : (here : Bool) (a b own : Marks) (x y : Bool) → mark own ≡ here → mark a ≡ x → mark b ≡ y → mark (j.both_marks (j.both_marks a b) own)
+        ≡ (here || (x || y))
     called_two here a b own x y e f g = rw (asks.both (j.both_marks a b) own, asks.both a b, e, f, g) (or_swap (x || y) here)
 
     zero_less : (a : Marks) → mark (j.both_marks j.no_marks a) ≡ mark a
@@ -170,29 +177,39 @@ module _ (reader : Reader) (scope : Scope) where
     marked (Bare name) = asks.bare name
     marked (Group a) = one (test (Group a)) (judge a).marks (has_part test a) (asks.group a) (marked a)
     marked (Minus a) = zero_less (judge a).marks ∙ one (test (Minus a)) (judge a).marks (has_part test a) (asks.minus a) (marked a)
-    marked (Call name a) = called (test (Call name a)) (judge a).marks (j.callee_marks (source reader name) 1 (j.own_marks (asked.is_own scope (source reader name)) (judge a).alone None)) (has_part test a) (asks.call name a) (marked a)
+    marked (Call name a) = called (test (Call name a)) (judge a).marks (j.callee_marks (source reader name) 1
+        (j.own_marks (asked.is_own scope (source reader name)) (judge a).alone None)) (has_part test a) (asks.call name a) (marked a)
     marked (CallTwo name a b) =
-        called_two (test (CallTwo name a b)) (judge a).marks (judge b).marks (j.callee_marks (source reader name) 2 (j.own_marks (asked.is_own scope (source reader name)) (judge a).alone (judge b).alone))
+        called_two (test (CallTwo name a b)) (judge a).marks (judge b).marks (j.callee_marks (source reader name) 2
+        (j.own_marks (asked.is_own scope (source reader name)) (judge a).alone (judge b).alone))
         (has_part test a) (has_part test b) (asks.call_two name a b) (marked a) (marked b)
     marked (Two f a b) = two (test (Two f a b)) (judge a).marks (judge b).marks (has_part test a) (has_part test b) (asks.two f a b) (marked a) (marked b)
     marked (Three threes.Clamp a b c) =
-        two (test (Three threes.Clamp a b c)) (j.both_marks (judge a).marks (judge b).marks) (judge c).marks (has_part test a || has_part test b) (has_part test c) (asks.three threes.Clamp a b c)
+        two (test (Three threes.Clamp a b c)) (j.both_marks (judge a).marks (judge b).marks) (judge c).marks (has_part test a || has_part test b)
+        (has_part test c) (asks.three threes.Clamp a b c)
         (rw (asks.both (judge a).marks (judge b).marks, marked a, marked b) refl) (marked c)
         ∙ ap (λ (x : Bool). test (Three threes.Clamp a b c) || x) (or_joined (has_part test a) (has_part test b) (has_part test c))
     marked (Three threes.Select a b c) =
-        two (test (Three threes.Select a b c)) (judge a).marks (j.both_marks (judge b).marks (judge c).marks) (has_part test a) (has_part test b || has_part test c) (asks.three threes.Select a b c)
+        two (test (Three threes.Select a b c)) (judge a).marks (j.both_marks (judge b).marks (judge c).marks) (has_part test a) (has_part test b
+        || has_part test c) (asks.three threes.Select a b c)
         (marked a) (rw (asks.both (judge b).marks (judge c).marks, marked b, marked c) refl)
-    marked (Product products.Multiply a b) = two (test (Product products.Multiply a b)) (judge a).marks (judge b).marks (has_part test a) (has_part test b) (asks.multiply a b) (marked a) (marked b)
+    marked (Product products.Multiply a b) = two (test (Product products.Multiply a b)) (judge a).marks (judge b).marks (has_part test a) (has_part test b)
+        (asks.multiply a b) (marked a) (marked b)
     marked (Product products.Divide a b) =
-        called_two (test (Product products.Divide a b)) (judge a).marks (judge b).marks (j.divisor_marks (j.divisor (judge b).literal)) (has_part test a) (has_part test b) (asks.divide a b) (marked a) (marked b)
+        called_two (test (Product products.Divide a b)) (judge a).marks (judge b).marks (j.divisor_marks (j.divisor (judge b).literal)) (has_part test a)
+        (has_part test b) (asks.divide a b) (marked a) (marked b)
     marked (Product products.Remainder a b) =
-        called_two (test (Product products.Remainder a b)) (judge a).marks (judge b).marks (j.divisor_marks (j.divisor (judge b).literal)) (has_part test a) (has_part test b) (asks.remainder a b) (marked a) (marked b)
-    marked (Sum operator a b) = two (test (Sum operator a b)) (judge a).marks (judge b).marks (has_part test a) (has_part test b) (asks.sum operator a b) (marked a) (marked b)
-    marked (Comparison operator a b) = two (test (Comparison operator a b)) (judge a).marks (judge b).marks (has_part test a) (has_part test b) (asks.comparison operator a b) (marked a) (marked b)
+        called_two (test (Product products.Remainder a b)) (judge a).marks (judge b).marks (j.divisor_marks (j.divisor (judge b).literal)) (has_part test a)
+        (has_part test b) (asks.remainder a b) (marked a) (marked b)
+    marked (Sum operator a b) = two (test (Sum operator a b)) (judge a).marks (judge b).marks (has_part test a) (has_part test b) (asks.sum operator a b)
+        (marked a) (marked b)
+    marked (Comparison operator a b) = two (test (Comparison operator a b)) (judge a).marks (judge b).marks (has_part test a) (has_part test b)
+        (asks.comparison operator a b) (marked a) (marked b)
 
   -- ---- each mark
 
-  unknown_by : (found : Option (Source × ℕ)) (count : ℕ) (own : Marks) → own.is_unknown ≡ false → (j.callee_marks found count own).is_unknown ≡ not (is_some found)
+  unknown_by : (found : Option (Source × ℕ)) (count : ℕ) (own : Marks) → own.is_unknown ≡ false → (j.callee_marks found count own).is_unknown
+      ≡ not (is_some found)
   unknown_by None count own e = refl
   unknown_by (Some callee) count own e = e
 
@@ -215,7 +232,8 @@ module _ (reader : Reader) (scope : Scope) where
     comparison = λ operator a b. refl;
   })
 
-  count_by : (found : Option (Source × ℕ)) (count : ℕ) (own : Marks) → own.is_wrong_count ≡ false → (j.callee_marks found count own).is_wrong_count ≡ asked.has_other_count found count
+  count_by : (found : Option (Source × ℕ)) (count : ℕ) (own : Marks) → own.is_wrong_count ≡ false → (j.callee_marks found count own).is_wrong_count
+      ≡ asked.has_other_count found count
   count_by None count own e = refl
   count_by (Some callee) count own e = rw e (or_false (not (callee.1 == count)))
 
@@ -326,7 +344,8 @@ module _ (reader : Reader) (scope : Scope) where
     comparison = λ operator a b. refl;
   })
 
-  own_by : (count : ℕ) (found : Option (Source × ℕ)) (first second : Option Variable) → (j.callee_marks found count (j.own_marks (asked.is_own scope found) first second)).calls_own ≡ asked.is_own scope found
+  own_by : (count : ℕ) (found : Option (Source × ℕ)) (first second : Option Variable)
+      → (j.callee_marks found count (j.own_marks (asked.is_own scope found) first second)).calls_own ≡ asked.is_own scope found
   own_by count None first second = refl
   own_by count (Some callee) first second = refl
 
@@ -350,7 +369,8 @@ module _ (reader : Reader) (scope : Scope) where
   })
 
   moves_first_by : (count : ℕ) (found : Option (Source × ℕ)) (first second is : Option Variable) → first ≡ is
-      → (j.callee_marks found count (j.own_marks (asked.is_own scope found) first second)).moves_first ≡ (asked.is_own scope found && not (is_alone variables.FirstArgument is))
+      → (j.callee_marks found count (j.own_marks (asked.is_own scope found) first second)).moves_first ≡ (asked.is_own scope found
+      && not (is_alone variables.FirstArgument is))
   moves_first_by count None first second is e = refl
   moves_first_by count (Some callee) first second is e = rw e refl
 
@@ -374,7 +394,8 @@ module _ (reader : Reader) (scope : Scope) where
   })
 
   moves_second_by : (count : ℕ) (found : Option (Source × ℕ)) (first second is : Option Variable) → second ≡ is
-      → (j.callee_marks found count (j.own_marks (asked.is_own scope found) first second)).moves_second ≡ (asked.is_own scope found && not (is_alone variables.SecondArgument is))
+      → (j.callee_marks found count (j.own_marks (asked.is_own scope found) first second)).moves_second ≡ (asked.is_own scope found
+      && not (is_alone variables.SecondArgument is))
   moves_second_by count None first second is e = refl
   moves_second_by count (Some callee) first second is e = rw e refl
 

@@ -31,7 +31,8 @@ past (Minus a) rest = past a rest
 past (Call name a) rest = past a (t.Close ∷ rest)
 past (CallTwo name a b) rest = past a (t.Comma ∷ spell b (t.Close ∷ rest)) ∙ past b (t.Close ∷ rest)
 past (Two f a b) rest = past a (t.Comma ∷ spell b (t.Close ∷ rest)) ∙ past b (t.Close ∷ rest)
-past (Three f a b c) rest = past a (t.Comma ∷ spell b (t.Comma ∷ spell c (t.Close ∷ rest))) ∙ past b (t.Comma ∷ spell c (t.Close ∷ rest)) ∙ past c (t.Close ∷ rest)
+past (Three f a b c) rest = past a (t.Comma ∷ spell b (t.Comma ∷ spell c (t.Close ∷ rest))) ∙ past b (t.Comma ∷ spell c (t.Close ∷ rest))
+    ∙ past c (t.Close ∷ rest)
 past (Product op a b) rest = past a (t.Product op ∷ spell b rest) ∙ past b rest
 past (Sum op a b) rest = past a (t.Sum op ∷ spell b rest) ∙ past b rest
 past (Comparison op a b) rest = past a (t.Compare op ∷ spell b rest) ∙ past b rest
@@ -53,10 +54,26 @@ name_is true minimum extent (Some bounds) = refl
 
 change_is : (f : Option Func) (own : Option ℕ) (u : Change Written)
     → with_ranges (arguments_of f own) (spell_bounds u.first (spell_second_bounds u.second)) ≡ change_scope_of f own u
-change_is None own u = ap (λ (second : Option (List ℕ)). record { first_argument = None; second_argument = None; first_reduction = Some u.first.name; second_reduction = second; own = own }) (name_is u.first.is_negative u.first.minimum u.first.extent u.second)
-change_is (Some f) own u = ap (λ (second : Option (List ℕ)). record { first_argument = Some f.first_argument; second_argument = f.second_argument; first_reduction = Some u.first.name; second_reduction = second; own = own }) (name_is u.first.is_negative u.first.minimum u.first.extent u.second)
+change_is None own u = ap (λ (second : Option (List ℕ)). record {
+  first_argument = None;
+  second_argument = None;
+  first_reduction =
+      Some u.first.name;
+  second_reduction = second;
+  own = own;
+}) (name_is u.first.is_negative u.first.minimum u.first.extent u.second)
+change_is (Some f) own u = ap (λ (second : Option (List ℕ)). record {
+  first_argument = Some f.first_argument;
+  second_argument =
+      f.second_argument;
+  first_reduction = Some u.first.name;
+  second_reduction = second;
+  own = own;
+}) (name_is u.first.is_negative u.first.minimum u.first.extent
+    u.second)
 
-ranges_are : (u : Change Written) → behind_over (spell u.left_x (spell_index u.left_y (t.Close ∷ t.Assign ∷ spell u.right (t.Over ∷ spell_bounds u.first (spell_second_bounds u.second))))) ≡ spell_bounds u.first (spell_second_bounds u.second)
+ranges_are : (u : Change Written) → behind_over (spell u.left_x (spell_index u.left_y (t.Close ∷ t.Assign
+    ∷ spell u.right (t.Over ∷ spell_bounds u.first (spell_second_bounds u.second))))) ≡ spell_bounds u.first (spell_second_bounds u.second)
 ranges_are u =
     let ranges = spell_bounds u.first (spell_second_bounds u.second) in
     past u.left_x (spell_index u.left_y (t.Close ∷ t.Assign ∷ spell u.right (t.Over ∷ ranges)))
@@ -66,7 +83,14 @@ ranges_are u =
 ahead_is : (reader : Reader) (w : Line Written) → scope_ahead reader (spell_line w) ≡ scope_of reader w
 ahead_is reader line.Blank = refl
 ahead_is reader (line.Input e is_bytes) = refl
-ahead_is reader (line.Func d) = ap (λ (second : Option (List ℕ)). record { first_argument = Some d.first_argument; second_argument = second; first_reduction = None; second_reduction = None; own = None }) (second_is d.second_argument (t.Assign ∷ spell d.right []))
+ahead_is reader (line.Func d) = ap (λ (second : Option (List ℕ)). record {
+  first_argument = Some d.first_argument;
+  second_argument = second;
+  first_reduction =
+      None;
+  second_reduction = None;
+  own = None;
+}) (second_is d.second_argument (t.Assign ∷ spell d.right []))
 ahead_is reader (line.Update u) = ap (update_scope reader u.name) (ranges_are u) ∙ change_is (func reader u.name) (func_place reader u.name) u
 ahead_is reader (line.Output e) = refl
 

@@ -23,7 +23,8 @@ module _ {V : Type 0} (alg : Algebra V) where
   over_now zero s rest some is = absurd (omega arith)
   over_now (suc n) s rest some is = rw is refl
 
-  pub ends : (tokens : List Token) (s : State V) (rest : List Token) → is_over s rest ≡ true → Going alg tokens s rest → or_syntax (finished alg s rest) ≡ read alg tokens
+  pub ends : (tokens : List Token) (s : State V) (rest : List Token) → is_over s rest ≡ true → Going alg tokens s rest
+      → or_syntax (finished alg s rest) ≡ read alg tokens
   unfolding read
   ends tokens s rest is going = ap or_syntax (sym (over_now going.steps s rest (omega (arith, going.room)) is) ∙ going.total)
 
@@ -32,16 +33,19 @@ module _ {V : Type 0} (alg : Algebra V) where
   stuck zero s rest some goes is = absurd (omega arith)
   stuck (suc n) s rest some goes is = rw (goes, is) refl
 
-  pub refuses : (tokens : List Token) (s : State V) (rest : List Token) → is_over s rest ≡ false → step alg s rest ≡ None → Going alg tokens s rest → or_syntax None ≡ read alg tokens
+  pub refuses : (tokens : List Token) (s : State V) (rest : List Token) → is_over s rest ≡ false → step alg s rest ≡ None → Going alg tokens s rest
+      → or_syntax None ≡ read alg tokens
   unfolding read
   refuses tokens s rest goes is going = ap or_syntax (sym (stuck going.steps s rest (omega (arith, going.room)) goes is) ∙ going.total)
 
-  next : (n : ℕ) (s : State V) (rest : List Token) (s' : State V) (after : List Token) → 0 < n → is_over s rest ≡ false → step alg s rest ≡ Some (s', after) → run alg n s rest ≡ run alg (n - 1) s' after
+  next : (n : ℕ) (s : State V) (rest : List Token) (s' : State V) (after : List Token) → 0 < n → is_over s rest ≡ false → step alg s rest ≡ Some (s', after)
+      → run alg n s rest ≡ run alg (n - 1) s' after
   unfolding run
   next zero s rest s' after some goes is = absurd (omega arith)
   next (suc n) s rest s' after some goes is = let k : suc n - 1 ≡ n = omega arith in rw (k, goes, is) refl
 
-  pub goes_on : (tokens : List Token) (s : State V) (rest : List Token) (s' : State V) (after : List Token) → is_over s rest ≡ false → step alg s rest ≡ Some (s', after) → length after < length rest → s'.pending.signs + length after ≤ s.pending.signs + length rest
+  pub goes_on : (tokens : List Token) (s : State V) (rest : List Token) (s' : State V) (after : List Token) → is_over s rest ≡ false
+      → step alg s rest ≡ Some (s', after) → length after < length rest → s'.pending.signs + length after ≤ s.pending.signs + length rest
       → Going alg tokens s rest → Going alg tokens s' after
   goes_on tokens s rest s' after goes is less few going = record {
     steps = going.steps - 1;

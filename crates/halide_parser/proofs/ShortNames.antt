@@ -38,7 +38,8 @@ behind (CallTwo name a b) rest e =
     let from = t.Comma ∷ spell b (t.Close ∷ rest) in
     behind b (t.Close ∷ rest) (behind a from (name_first name (t.Open ∷ spell a from) e).1)
 behind (Two f a b) rest e = behind b (t.Close ∷ rest) (behind a (t.Comma ∷ spell b (t.Close ∷ rest)) e)
-behind (Three f a b c) rest e = behind c (t.Close ∷ rest) (behind b (t.Comma ∷ spell c (t.Close ∷ rest)) (behind a (t.Comma ∷ spell b (t.Comma ∷ spell c (t.Close ∷ rest))) e))
+behind (Three f a b c) rest e = behind c (t.Close ∷ rest) (behind b (t.Comma ∷ spell c (t.Close ∷ rest))
+    (behind a (t.Comma ∷ spell b (t.Comma ∷ spell c (t.Close ∷ rest))) e))
 behind (Product op a b) rest e = behind b rest (behind a (t.Product op ∷ spell b rest) e)
 behind (Sum op a b) rest e = behind b rest (behind a (t.Sum op ∷ spell b rest) e)
 behind (Comparison op a b) rest e = behind b rest (behind a (t.Compare op ∷ spell b rest) e)
@@ -52,7 +53,8 @@ pub record ShortDefinition (d : Definition Written) : Type 0 where
   pub name : is_name d.name ≡ true
   pub arguments : (is_name d.first_argument && is_second_name d.second_argument) ≡ true
 
-short_arguments : (first : List ℕ) (second : Option (List ℕ)) (rest : List Token) → AreShort (t.Name first ∷ spell_argument second rest) → (is_name first && is_second_name second) ≡ true
+short_arguments : (first : List ℕ) (second : Option (List ℕ)) (rest : List Token) → AreShort (t.Name first ∷ spell_argument second rest)
+    → (is_name first && is_second_name second) ≡ true
 short_arguments first None rest e = and_from (is_name first) true (name_first first rest e).0 refl
 short_arguments first (Some second) rest e =
     let one = name_first first (t.Comma ∷ t.Name second ∷ rest) e in

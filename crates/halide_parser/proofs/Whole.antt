@@ -26,10 +26,12 @@ few_lines [] = omega arith
 few_lines (byte ∷ text) = omega (arith, by (byte == 10) byte (lines_of text), few_lines text)
 
 -- a line is faulty
-pub fails : (error : LocatedError ParseFault) (alloc : Global) (text : List ℕ) → FailsAt error (taken_from taken 1 (start alloc text) (lines_of text)) → FailsAt error (parsed alloc text)
+pub fails : (error : LocatedError ParseFault) (alloc : Global) (text : List ℕ) → FailsAt error (taken_from taken 1 (start alloc text) (lines_of text))
+    → FailsAt error (parsed alloc text)
 fails places.Memory alloc text e = tt
 fails (places.Fault number fault) alloc text e = rw (parsed_is alloc text, e) refl
 
 -- no line is
-pub ends : (alloc : Global) (text : List ℕ) (reader : Reader) → taken_from taken 1 (start alloc text) (lines_of text) ≡ Ok reader → parsed alloc text ≡ finished (length (lines_of text)) reader
+pub ends : (alloc : Global) (text : List ℕ) (reader : Reader) → taken_from taken 1 (start alloc text) (lines_of text) ≡ Ok reader
+    → parsed alloc text ≡ finished (length (lines_of text)) reader
 ends alloc text reader e = rw (parsed_is alloc text, e) refl

@@ -63,7 +63,11 @@ pub record Fits (size depth : ℕ) : Type 0 where
   pub nesting : depth ≤ 64
 
 pub fits_is : (nodes nesting : ℕ) → limits.fits nodes nesting ≡ true → Fits nodes nesting
-fits_is nodes nesting e = let parts = and_parts (nat_le nodes 512) (nat_le nesting 64) e in record { nodes = leb-true nodes 512 parts.0; nesting = leb-true nesting 64 parts.1 }
+fits_is nodes nesting e = let parts = and_parts (nat_le nodes 512) (nat_le nesting 64) e in record {
+  nodes = leb-true nodes 512 parts.0;
+  nesting =
+      leb-true nesting 64 parts.1;
+}
 
 fits_from : (nodes nesting : ℕ) → Fits nodes nesting → limits.fits nodes nesting ≡ true
 fits_from nodes nesting is = and_from (nat_le nodes 512) (nat_le nesting 64) (le-leb nodes 512 is.nodes) (le-leb nesting 64 is.nesting)
@@ -123,19 +127,23 @@ pub record Whole (judged : Judged) (meant : Expr) : Type 0 where
 abbrev pub IsWhole : Judged → Expr → Type 0
 IsWhole judged meant = IsPlain judged.marks → Whole judged meant
 
-binary_is : (is_wanted : Bool) (operation : Operation) (a b : Option Expr) (x y : Expr) → is_wanted ≡ true → a ≡ Some x → b ≡ Some y → j.binary_tree is_wanted operation a b ≡ Some (trees.Binary operation x y)
+binary_is : (is_wanted : Bool) (operation : Operation) (a b : Option Expr) (x y : Expr) → is_wanted ≡ true → a ≡ Some x → b ≡ Some y
+    → j.binary_tree is_wanted operation a b ≡ Some (trees.Binary operation x y)
 binary_is is_wanted operation a b x y e in_a in_b = rw (e, in_a, in_b) refl
 
 kept_is : (is_wanted : Bool) (a : Option Expr) (x : Expr) → is_wanted ≡ true → a ≡ Some x → j.kept is_wanted a ≡ Some x
 kept_is is_wanted a x e in_a = rw (e, in_a) refl
 
-select_is : (is_wanted : Bool) (c a b : Option Expr) (z x y : Expr) → is_wanted ≡ true → c ≡ Some z → a ≡ Some x → b ≡ Some y → j.select_tree c (j.pair is_wanted a b) ≡ Some (trees.Select z x y)
+select_is : (is_wanted : Bool) (c a b : Option Expr) (z x y : Expr) → is_wanted ≡ true → c ≡ Some z → a ≡ Some x → b ≡ Some y
+    → j.select_tree c (j.pair is_wanted a b) ≡ Some (trees.Select z x y)
 select_is is_wanted c a b z x y e in_c in_a in_b = rw (e, in_c, in_a, in_b) refl
 
-call_is : (is_wanted : Bool) (callee : Source × ℕ) (a : Option Expr) (x : Expr) → is_wanted ≡ true → a ≡ Some x → j.call_tree is_wanted (Some callee) a ≡ Some (trees.Call1 callee.0 x)
+call_is : (is_wanted : Bool) (callee : Source × ℕ) (a : Option Expr) (x : Expr) → is_wanted ≡ true → a ≡ Some x → j.call_tree is_wanted (Some callee) a
+    ≡ Some (trees.Call1 callee.0 x)
 call_is is_wanted callee a x e in_a = rw (e, in_a) refl
 
-call_two_is : (is_wanted : Bool) (callee : Source × ℕ) (a b : Option Expr) (x y : Expr) → is_wanted ≡ true → a ≡ Some x → b ≡ Some y → j.call_two_tree is_wanted (Some callee) a b ≡ Some (trees.Call2 callee.0 x y)
+call_two_is : (is_wanted : Bool) (callee : Source × ℕ) (a b : Option Expr) (x y : Expr) → is_wanted ≡ true → a ≡ Some x → b ≡ Some y
+    → j.call_two_tree is_wanted (Some callee) a b ≡ Some (trees.Call2 callee.0 x y)
 call_two_is is_wanted callee a b x y e in_a in_b = rw (e, in_a, in_b) refl
 
 -- a quotient, or else a remainder
@@ -143,7 +151,8 @@ abbrev quotient : Bool → Expr → ℕ → Expr
 quotient true x c = trees.Divide x c
 quotient false x c = trees.Remainder x c
 
-division_is : (is_wanted is_quotient : Bool) (a : Option Expr) (x : Expr) (c : ℕ) → is_wanted ≡ true → a ≡ Some x → j.division_tree is_wanted is_quotient a (Some c) ≡ Some (quotient is_quotient x c)
+division_is : (is_wanted is_quotient : Bool) (a : Option Expr) (x : Expr) (c : ℕ) → is_wanted ≡ true → a ≡ Some x
+    → j.division_tree is_wanted is_quotient a (Some c) ≡ Some (quotient is_quotient x c)
 division_is is_wanted true a x c e in_a = rw (e, in_a) refl
 division_is is_wanted false a x c e in_a = rw (e, in_a) refl
 
@@ -162,7 +171,8 @@ binary_whole operation a b x y in_a in_b plain =
       nodes = counted_two a.nodes b.nodes (nodes x) (nodes y) is_a.nodes is_b.nodes ∙ ap cut (sym (at_binary ℕ nodes_at operation x y));
       tree = λ fits.
           let sizes = two_fit a.nodes b.nodes a.nesting b.nesting fits in
-          binary_is (limits.fits (j.node_sum 1 (j.node_sum a.nodes b.nodes)) (max a.nesting b.nesting)) operation a.tree b.tree x y (fits_from _ _ fits) (is_a.tree sizes.0) (is_b.tree sizes.1);
+          binary_is (limits.fits (j.node_sum 1 (j.node_sum a.nodes b.nodes)) (max a.nesting b.nesting)) operation a.tree b.tree x y (fits_from _ _ fits)
+          (is_a.tree sizes.0) (is_b.tree sizes.1);
     }
 
 enclosed_whole : (a : Judged) (x : Expr) → IsWhole a x → IsWhole (j.enclosed a) x
@@ -171,7 +181,8 @@ enclosed_whole a x in_a plain =
     let is = in_a plain in
     record {
       nodes = is.nodes;
-      tree = λ fits. kept_is (limits.fits a.nodes (j.deeper a.nesting)) a.tree x (fits_from _ _ fits) (is.tree (record { nodes = fits.nodes; nesting = less_deep a.nesting fits.nesting }));
+      tree = λ fits. kept_is (limits.fits a.nodes (j.deeper a.nesting)) a.tree x (fits_from _ _ fits)
+          (is.tree (record { nodes = fits.nodes; nesting = less_deep a.nesting fits.nesting }));
     }
 
 literal_whole : (n : ℕ) → IsWhole (j.literal n) (trees.Number n)
@@ -188,7 +199,8 @@ divisor_is : (n : ℕ) (test : Bool) → is_divisor n ≡ test → not (is_some 
 divisor_is n true e some = rw e refl
 divisor_is n false e some = cc
 
-divided_literal : (is_quotient : Bool) (a : Judged) (x : Expr) (n : ℕ) → IsWhole a x → IsWhole (j.divided is_quotient a (j.literal n)) (quotient is_quotient x n)
+divided_literal : (is_quotient : Bool) (a : Judged) (x : Expr) (n : ℕ) → IsWhole a x
+    → IsWhole (j.divided is_quotient a (j.literal n)) (quotient is_quotient x n)
 unfolding j.divided
 divided_literal is_quotient a x n in_a plain =
     let parts = plain_parts (j.both_marks a.marks j.no_marks) (j.divisor_marks (j.divisor (Some n))) plain in
@@ -199,7 +211,8 @@ divided_literal is_quotient a x n in_a plain =
       nodes = counted_divisor a.nodes (nodes x) is.nodes ∙ ap cut (sym (quotient_nodes is_quotient x n));
       tree = λ fits.
           let sizes = two_fit a.nodes 1 a.nesting 0 fits in
-          rw divides (division_is (limits.fits (j.node_sum 1 (j.node_sum a.nodes 1)) (max a.nesting 0)) is_quotient a.tree x n (fits_from _ _ fits) (is.tree sizes.0));
+          rw divides (division_is (limits.fits (j.node_sum 1 (j.node_sum a.nodes 1)) (max a.nesting 0)) is_quotient a.tree x n (fits_from _ _ fits)
+          (is.tree sizes.0));
     }
 
 divided_other : (is_quotient : Bool) (a b : Judged) (tree : Expr) → b.literal ≡ None → IsWhole (j.divided is_quotient a b) tree
@@ -224,7 +237,8 @@ select_whole c a b z x y in_c in_a in_b plain =
           let arm_nodes = sum_parts a.nodes b.nodes nodes.1 in
           let nesting = max_parts c.nesting (max a.nesting b.nesting) 64 (less_deep (max c.nesting (max a.nesting b.nesting)) fits.nesting) in
           let arm_nesting = max_parts a.nesting b.nesting 64 nesting.1 in
-          select_is (limits.fits (j.node_sum 1 (j.node_sum c.nodes (j.node_sum a.nodes b.nodes))) (j.deeper (max c.nesting (max a.nesting b.nesting)))) c.tree a.tree b.tree z x y (fits_from _ _ fits)
+          select_is (limits.fits (j.node_sum 1 (j.node_sum c.nodes (j.node_sum a.nodes b.nodes))) (j.deeper (max c.nesting (max a.nesting b.nesting)))) c.tree
+          a.tree b.tree z x y (fits_from _ _ fits)
           (is_c.tree (record { nodes = nodes.0; nesting = nesting.0 }))
           (is_a.tree (record { nodes = arm_nodes.0; nesting = arm_nesting.0 }))
           (is_b.tree (record { nodes = arm_nodes.1; nesting = arm_nesting.1 }));
@@ -234,7 +248,8 @@ unknown_none : IsPlain j.unknown_mark → ⊥
 unknown_none is = let never : true ≡ false = is.known in cc
 
 module _ (reader : Reader) (scope : Scope) where
-  call_by : (callee : Option (Source × ℕ)) (a : Judged) (x : Expr) → IsWhole a x → IsWhole (j.call_as scope callee a) (trees.Call1 (asked.source_or_first callee) x)
+  call_by : (callee : Option (Source × ℕ)) (a : Judged) (x : Expr) → IsWhole a x
+      → IsWhole (j.call_as scope callee a) (trees.Call1 (asked.source_or_first callee) x)
   unfolding nodes
   call_by None a x in_a plain = absurd (unknown_none (plain_parts a.marks j.unknown_mark plain).1)
   call_by (Some callee) a x in_a plain =
@@ -243,29 +258,36 @@ module _ (reader : Reader) (scope : Scope) where
       record {
         nodes = counted_one a.nodes (nodes x) is.nodes ∙ ap cut (sym (at_call1 ℕ nodes_at callee.0 x));
         tree = λ fits.
-            call_is (limits.fits (j.node_sum 1 a.nodes) (j.deeper a.nesting)) callee a.tree x (fits_from _ _ fits) (is.tree (record { nodes = one_part a.nodes fits.nodes; nesting = less_deep a.nesting fits.nesting }));
+            call_is (limits.fits (j.node_sum 1 a.nodes) (j.deeper a.nesting)) callee a.tree x (fits_from _ _ fits)
+            (is.tree (record { nodes = one_part a.nodes fits.nodes; nesting = less_deep a.nesting fits.nesting }));
       }
 
-  call_whole : (name : List ℕ) (a : Judged) (x : Expr) → IsWhole a x → IsWhole (j.call reader scope name a) (trees.Call1 (asked.source_or_first (source reader name)) x)
+  call_whole : (name : List ℕ) (a : Judged) (x : Expr) → IsWhole a x
+      → IsWhole (j.call reader scope name a) (trees.Call1 (asked.source_or_first (source reader name)) x)
   unfolding j.call
   call_whole name a x in_a = call_by (source reader name) a x in_a
 
-  call_two_by : (callee : Option (Source × ℕ)) (a b : Judged) (x y : Expr) → IsWhole a x → IsWhole b y → IsWhole (j.call_two_as scope callee a b) (trees.Call2 (asked.source_or_first callee) x y)
+  call_two_by : (callee : Option (Source × ℕ)) (a b : Judged) (x y : Expr) → IsWhole a x → IsWhole b y
+      → IsWhole (j.call_two_as scope callee a b) (trees.Call2 (asked.source_or_first callee) x y)
   unfolding nodes
   call_two_by None a b x y in_a in_b plain = absurd (unknown_none (plain_parts (j.both_marks a.marks b.marks) j.unknown_mark plain).1)
   call_two_by (Some callee) a b x y in_a in_b plain =
-      let parts = plain_parts (j.both_marks a.marks b.marks) (j.callee_marks (Some callee) 2 (j.own_marks (asked.is_own scope (Some callee)) a.alone b.alone)) plain in
+      let parts = plain_parts (j.both_marks a.marks b.marks) (j.callee_marks (Some callee) 2 (j.own_marks (asked.is_own scope (Some callee)) a.alone b.alone))
+      plain in
       let indexes = plain_parts a.marks b.marks parts.0 in
       let is_a = in_a indexes.0 in
       let is_b = in_b indexes.1 in
       record {
         nodes = counted_two a.nodes b.nodes (nodes x) (nodes y) is_a.nodes is_b.nodes ∙ ap cut (sym (at_call2 ℕ nodes_at callee.0 x y));
         tree = λ fits.
-            let sizes = two_fit a.nodes b.nodes a.nesting b.nesting (record { nodes = fits.nodes; nesting = less_deep (max a.nesting b.nesting) fits.nesting }) in
-            call_two_is (limits.fits (j.node_sum 1 (j.node_sum a.nodes b.nodes)) (j.deeper (max a.nesting b.nesting))) callee a.tree b.tree x y (fits_from _ _ fits) (is_a.tree sizes.0) (is_b.tree sizes.1);
+            let sizes = two_fit a.nodes b.nodes a.nesting b.nesting (record { nodes = fits.nodes; nesting = less_deep (max a.nesting b.nesting) fits.nesting })
+            in
+            call_two_is (limits.fits (j.node_sum 1 (j.node_sum a.nodes b.nodes)) (j.deeper (max a.nesting b.nesting))) callee a.tree b.tree x y
+            (fits_from _ _ fits) (is_a.tree sizes.0) (is_b.tree sizes.1);
       }
 
-  call_two_whole : (name : List ℕ) (a b : Judged) (x y : Expr) → IsWhole a x → IsWhole b y → IsWhole (j.call_two reader scope name a b) (trees.Call2 (asked.source_or_first (source reader name)) x y)
+  call_two_whole : (name : List ℕ) (a b : Judged) (x y : Expr) → IsWhole a x → IsWhole b y
+      → IsWhole (j.call_two reader scope name a b) (trees.Call2 (asked.source_or_first (source reader name)) x y)
   unfolding j.call_two
   call_two_whole name a b x y in_a in_b = call_two_by (source reader name) a b x y in_a in_b
 
@@ -275,7 +297,8 @@ module _ (reader : Reader) (scope : Scope) where
   abbrev tree : Written → Expr
   tree = asked.tree reader scope
 
-  quotient_whole : (is_quotient : Bool) (a : Judged) (x : Expr) (w : Written) → IsWhole a x → IsWhole (j.divided is_quotient a (judge w)) (quotient is_quotient x (asked.number_or_zero w))
+  quotient_whole : (is_quotient : Bool) (a : Judged) (x : Expr) (w : Written) → IsWhole a x
+      → IsWhole (j.divided is_quotient a (judge w)) (quotient is_quotient x (asked.number_or_zero w))
   quotient_whole is_quotient a x (Literal n) in_a = divided_literal is_quotient a x n in_a
   quotient_whole is_quotient a x w in_a = divided_other is_quotient a (judge w) (quotient is_quotient x (asked.number_or_zero w)) (literal_is reader scope w)
 
@@ -283,14 +306,17 @@ module _ (reader : Reader) (scope : Scope) where
   whole (Literal n) = literal_whole n
   whole (Bare name) = bare_by (variable scope name) (is_some (source reader name))
   whole (Group a) = enclosed_whole (judge a) (tree a) (whole a)
-  whole (Minus a) = enclosed_whole (j.binary op.Subtract (j.literal 0) (judge a)) (tree (Minus a)) (binary_whole op.Subtract (j.literal 0) (judge a) (trees.Number 0) (tree a) (literal_whole 0) (whole a))
+  whole (Minus a) = enclosed_whole (j.binary op.Subtract (j.literal 0) (judge a)) (tree (Minus a)) (binary_whole op.Subtract (j.literal 0) (judge a)
+      (trees.Number 0) (tree a) (literal_whole 0) (whole a))
   whole (Call name a) = call_whole name (judge a) (tree a) (whole a)
   whole (CallTwo name a b) = call_two_whole name (judge a) (judge b) (tree a) (tree b) (whole a) (whole b)
   whole (Two f a b) =
-      enclosed_whole (j.binary (asked.two_operation f) (judge a) (judge b)) (tree (Two f a b)) (binary_whole (asked.two_operation f) (judge a) (judge b) (tree a) (tree b) (whole a) (whole b))
+      enclosed_whole (j.binary (asked.two_operation f) (judge a) (judge b)) (tree (Two f a b)) (binary_whole (asked.two_operation f) (judge a) (judge b)
+      (tree a) (tree b) (whole a) (whole b))
   whole (Three threes.Clamp a b c) =
       enclosed_whole (j.binary op.Minimum (j.binary op.Maximum (judge a) (judge b)) (judge c)) (tree (Three threes.Clamp a b c))
-      (binary_whole op.Minimum (j.binary op.Maximum (judge a) (judge b)) (judge c) (trees.Binary op.Maximum (tree a) (tree b)) (tree c) (binary_whole op.Maximum (judge a) (judge b) (tree a) (tree b) (whole a) (whole b)) (whole c))
+      (binary_whole op.Minimum (j.binary op.Maximum (judge a) (judge b)) (judge c) (trees.Binary op.Maximum (tree a) (tree b)) (tree c) (binary_whole op.Maximum
+      (judge a) (judge b) (tree a) (tree b) (whole a) (whole b)) (whole c))
   whole (Three threes.Select a b c) = select_whole (judge a) (judge b) (judge c) (tree a) (tree b) (tree c) (whole a) (whole b) (whole c)
   whole (Product products.Multiply a b) = binary_whole op.Multiply (judge a) (judge b) (tree a) (tree b) (whole a) (whole b)
   whole (Product products.Divide a b) = quotient_whole true (judge a) (tree a) b (whole a)

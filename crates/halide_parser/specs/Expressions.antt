@@ -91,10 +91,24 @@ bounds_name None = None
 bounds_name (Some bounds) = Some bounds.name
 
 abbrev pub unknown_scope : {V : Type 0} → Option ℕ → Change V → Scope
-unknown_scope own change = record { first_argument = None; second_argument = None; first_reduction = Some change.first.name; second_reduction = bounds_name change.second; own = own }
+unknown_scope own change = record {
+  first_argument = None;
+  second_argument = None;
+  first_reduction = Some change.first.name;
+  second_reduction =
+      bounds_name change.second;
+  own = own;
+}
 
 abbrev pub known_scope : {V : Type 0} → Func → Option ℕ → Change V → Scope
-known_scope f own change = record { first_argument = Some f.first_argument; second_argument = f.second_argument; first_reduction = Some change.first.name; second_reduction = bounds_name change.second; own = own }
+known_scope f own change = record {
+  first_argument = Some f.first_argument;
+  second_argument = f.second_argument;
+  first_reduction =
+      Some change.first.name;
+  second_reduction = bounds_name change.second;
+  own = own;
+}
 
 abbrev pub change_scope_of : {V : Type 0} → Option Func → Option ℕ → Change V → Scope
 change_scope_of None own change = unknown_scope own change
@@ -104,7 +118,13 @@ abbrev pub change_scope : {V : Type 0} → Reader → Change V → Scope
 change_scope reader change = change_scope_of (func reader change.name) (func_place reader change.name) change
 
 abbrev pub scope_of : {V : Type 0} → Reader → Line V → Scope
-scope_of reader (line.Func definition) = record { first_argument = Some definition.first_argument; second_argument = definition.second_argument; first_reduction = None; second_reduction = None; own = None }
+scope_of reader (line.Func definition) = record {
+  first_argument = Some definition.first_argument;
+  second_argument = definition.second_argument;
+  first_reduction = None;
+  second_reduction = None;
+  own = None;
+}
 scope_of reader (line.Update change) = change_scope reader change
 scope_of reader _ = empty
 

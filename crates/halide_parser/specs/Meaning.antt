@@ -87,7 +87,13 @@ with_output reader extents = record {
   names = reader.names;
   inputs = reader.inputs;
   funcs = reader.funcs;
-  output = Some (record { func = place_or (func_place reader extents.name); width = extents.width; height = height_of extents.height; dimensions = count_with extents.height });
+  output = Some (record {
+    func = place_or (func_place reader extents.name);
+    width = extents.width;
+    height = height_of extents.height;
+    dimensions =
+        count_with extents.height;
+  });
   last_func = reader.last_func;
 }
 

@@ -20,7 +20,8 @@ use Rattle.halide_parser_syntax.specs.declared.lines.Line.TheVariants as line
 use Rattle.halide_parser_syntax.specs.Grammar.{Written, has_part}
 use Rattle.halide_parser.specs.declared.readers.Reader.{Reader}
 use Rattle.halide_parser.specs.declared.scopes.Scope.{Scope}
-use Rattle.halide_parser.specs.Expressions.{is_unknown_at, is_wrong_count_at, is_bad_divisor_at, uses_at, alone, calls_own_at, moves_first_at, moves_second_at, exceeds, scope_of, func, func_place}
+use Rattle.halide_parser.specs.Expressions.{is_unknown_at, is_wrong_count_at, is_bad_divisor_at, uses_at, alone, calls_own_at, moves_first_at, moves_second_at}
+use Rattle.halide_parser.specs.Expressions.{exceeds, scope_of, func, func_place}
 
 -- ---- behind the output line only blank lines stand
 
@@ -134,8 +135,10 @@ is_second_alone scope (Some index) = is_alone variables.SecondArgument (alone sc
 abbrev pub is_moved : Reader → Scope → Change Written → Bool
 is_moved reader scope change =
     left_has (calls_own_at reader scope) change
-    || (if is_alone variables.FirstArgument (alone scope change.left_x) then change_has (moves_first_at reader scope) change else change_has (uses_at scope variables.FirstArgument) change)
-    || (if is_second_alone scope change.left_y then change_has (moves_second_at reader scope) change else change_has (uses_at scope variables.SecondArgument) change)
+    || (if is_alone variables.FirstArgument (alone scope change.left_x) then change_has (moves_first_at reader scope) change else change_has
+    (uses_at scope variables.FirstArgument) change)
+    || (if is_second_alone scope change.left_y then change_has (moves_second_at reader scope) change else change_has (uses_at scope variables.SecondArgument)
+    change)
 
 abbrev pub same_place : Option ℕ → Option ℕ → Bool
 same_place None None = true

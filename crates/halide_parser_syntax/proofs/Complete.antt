@@ -11,7 +11,8 @@ use Rattle.halide_parser_syntax.specs.declared.states.Bracket.TheVariants as b
 use Rattle.halide_parser_syntax.specs.declared.states.Frame.{Frame}
 use Rattle.halide_parser_syntax.specs.declared.states.State.{State}
 use Rattle.halide_parser_syntax.specs.inner.Algebra.{writing}
-use Rattle.halide_parser_syntax.specs.Grammar.{Written, Literal, Bare, Group, Minus, Call, CallTwo, Two, Three, Product, Sum, Comparison, spell, level, IsRight, is_open}
+use Rattle.halide_parser_syntax.specs.Grammar.{Written, Literal, Bare, Group, Minus, Call, CallTwo, Two, Three, Product, Sum, Comparison, spell, level, IsRight}
+use Rattle.halide_parser_syntax.specs.Grammar.{is_open}
 use Rattle.halide_parser_syntax.specs.inner.Machine as m
 
 -- Some steps lead from a state to another.
@@ -20,14 +21,16 @@ record Reach (s : State Written) (ts : List Token) (s' : State Written) (ts' : L
   few : steps + length ts' ≤ length ts
   leads : (n : ℕ) → m.run writing (steps + n) s ts ≡ m.run writing n s' ts'
 
-on : (s : State Written) (ts : List Token) (s' : State Written) (ts' : List Token) (s'' : State Written) (ts'' : List Token) → Reach s ts s' ts' → Reach s' ts' s'' ts'' → Reach s ts s'' ts''
+on : (s : State Written) (ts : List Token) (s' : State Written) (ts' : List Token) (s'' : State Written) (ts'' : List Token) → Reach s ts s' ts'
+    → Reach s' ts' s'' ts'' → Reach s ts s'' ts''
 on s ts s' ts' s'' ts'' a c = record {
   steps = a.steps + c.steps;
   few = omega (arith, a.few, c.few);
   leads = λ n. let e : a.steps + c.steps + n ≡ a.steps + (c.steps + n) = omega arith in rw e (a.leads (c.steps + n) ∙ c.leads n);
 }
 
-one : (s : State Written) (ts : List Token) (s' : State Written) (ts' : List Token) → m.is_over s ts ≡ false → m.step writing s ts ≡ Some (s', ts') → length ts' < length ts → Reach s ts s' ts'
+one : (s : State Written) (ts : List Token) (s' : State Written) (ts' : List Token) → m.is_over s ts ≡ false → m.step writing s ts ≡ Some (s', ts')
+    → length ts' < length ts → Reach s ts s' ts'
 unfolding m.run
 one s ts s' ts' goes is less = record {
   steps = 1;
@@ -56,7 +59,8 @@ record Ended (w : Written) (fs : List (Frame Written)) (rest : List Token) : Typ
   reach : Reach (m.wanting fs m.nothing) (spell w rest) (m.having fs pending last) rest
 
 AsFactor : Written → Type 0
-AsFactor w = (fs : List (Frame Written)) (p : Pending Written) (rest : List Token) → is_open rest ≡ false → Reach (m.wanting fs p) (spell w rest) (m.operand writing fs p w) rest
+AsFactor w = (fs : List (Frame Written)) (p : Pending Written) (rest : List Token) → is_open rest ≡ false
+    → Reach (m.wanting fs p) (spell w rest) (m.operand writing fs p w) rest
 
 AsTerm : Written → Type 0
 AsTerm w = (fs : List (Frame Written)) (s : Option (SumOperator × Written)) (c : Option (CompareOperator × Written)) (rest : List Token) → is_open rest ≡ false
@@ -103,18 +107,21 @@ of_sum w h s = record { factor = λ k. absurd (omega arith); term = λ k. absurd
 
 -- ---- brackets
 
-closes : (w u : Written) (bracket : Bracket Written) (fs : List (Frame Written)) (p outer : Pending Written) (last : Written) (rest : List Token) → m.whole writing p last ≡ w → m.closed_by writing bracket w ≡ Some u
+closes : (w u : Written) (bracket : Bracket Written) (fs : List (Frame Written)) (p outer : Pending Written) (last : Written) (rest : List Token)
+    → m.whole writing p last ≡ w → m.closed_by writing bracket w ≡ Some u
     → Reach (m.having (framed bracket outer fs) p last) (t.Close ∷ rest) (m.operand writing fs outer u) rest
 unfolding m.step m.is_over
 closes w u bracket fs p outer last rest is e = one _ _ _ _ refl (rw (is, e) refl) (omega arith)
 
-commas : (w : Written) (bracket next : Bracket Written) (fs : List (Frame Written)) (p outer : Pending Written) (last : Written) (rest : List Token) → m.whole writing p last ≡ w → m.next_in bracket w ≡ Some next
+commas : (w : Written) (bracket next : Bracket Written) (fs : List (Frame Written)) (p outer : Pending Written) (last : Written) (rest : List Token)
+    → m.whole writing p last ≡ w → m.next_in bracket w ≡ Some next
     → Reach (m.having (framed bracket outer fs) p last) (t.Comma ∷ rest) (m.wanting (framed next outer fs) m.nothing) rest
 unfolding m.step m.is_over
 commas w bracket next fs p outer last rest is e = one _ _ _ _ refl (rw (is, e) refl) (omega arith)
 
 -- one operand and its closing bracket
-last_operand : (w u : Written) (bracket : Bracket Written) (fs : List (Frame Written)) (outer : Pending Written) (rest : List Token) → AsWhole w → m.closed_by writing bracket w ≡ Some u
+last_operand : (w u : Written) (bracket : Bracket Written) (fs : List (Frame Written)) (outer : Pending Written) (rest : List Token) → AsWhole w
+    → m.closed_by writing bracket w ≡ Some u
     → Reach (m.wanting (framed bracket outer fs) m.nothing) (spell w (t.Close ∷ rest)) (m.operand writing fs outer u) rest
 unfolding AsWhole
 last_operand w u bracket fs outer rest f e =
@@ -122,7 +129,8 @@ last_operand w u bracket fs outer rest f e =
     on _ _ _ _ _ _ r.reach (closes w u bracket fs r.pending outer r.last rest r.is e)
 
 -- one operand and its comma
-next_operand : (w : Written) (bracket next : Bracket Written) (fs : List (Frame Written)) (outer : Pending Written) (rest : List Token) → AsWhole w → m.next_in bracket w ≡ Some next
+next_operand : (w : Written) (bracket next : Bracket Written) (fs : List (Frame Written)) (outer : Pending Written) (rest : List Token) → AsWhole w
+    → m.next_in bracket w ≡ Some next
     → Reach (m.wanting (framed bracket outer fs) m.nothing) (spell w (t.Comma ∷ rest)) (m.wanting (framed next outer fs) m.nothing) rest
 unfolding AsWhole
 next_operand w bracket next fs outer rest f e =
@@ -180,9 +188,16 @@ one_more_sign (suc n) a = let e : suc n + 1 ≡ suc (n + 1) = omega arith in rw 
 minus : (a : Written) → AsFactor a → AsFactor (Minus a)
 unfolding AsFactor m.step m.is_over
 minus a f fs p rest o =
-    let same : m.operand writing fs (record { signs = p.signs + 1; product = p.product; sum = p.sum; comparison = p.comparison }) a ≡ m.operand writing fs p (Minus a) =
+    let same : m.operand writing fs (record { signs = p.signs + 1; product = p.product; sum = p.sum; comparison = p.comparison }) a
+    ≡ m.operand writing fs p (Minus a) =
     ap (λ (w : Written). m.having fs (pend None p.sum p.comparison) (m.product_of writing p.product w)) (one_more_sign p.signs a) in
-    on _ _ (m.signed fs p) (spell a rest) _ _ (one _ _ _ _ refl refl (omega arith)) (rw (← same) (f fs (record { signs = p.signs + 1; product = p.product; sum = p.sum; comparison = p.comparison }) rest o))
+    on _ _ (m.signed fs p) (spell a rest) _ _ (one _ _ _ _ refl refl (omega arith)) (rw (← same) (f fs (record {
+      signs = p.signs + 1;
+      product = p.product;
+      sum =
+          p.sum;
+      comparison = p.comparison;
+    }) rest o))
 
 product : (op : ProductOperator) (a c : Written) → AsTerm a → AsFactor c → AsTerm (Product op a c)
 unfolding AsTerm AsFactor m.step m.is_over
@@ -199,7 +214,8 @@ sum op a c f g fs k rest o =
       last = c;
       is = refl;
       reach = on _ _ _ _ _ _ r.reach
-          (on _ _ (m.wanting fs (pend None (Some (op, a)) k)) (spell c rest) _ _ (one _ _ _ _ refl (rw r.is refl) (omega arith)) (g fs (Some (op, a)) k rest o));
+          (on _ _ (m.wanting fs (pend None (Some (op, a)) k)) (spell c rest) _ _ (one _ _ _ _ refl (rw r.is refl) (omega arith)) (g fs (Some (op, a)) k rest
+          o));
     }
 
 comparison : (op : CompareOperator) (a c : Written) → AsSum a → AsSum c → AsWhole (Comparison op a c)
@@ -227,16 +243,24 @@ reads (Three k a c d) right = of_factor (Three k a c d) (three k a c d (reads a 
 reads (Product op a c) right = of_term (Product op a c) (omega arith) (product op a c ((reads a right.2).term right.0) ((reads c right.3).factor right.1))
 reads (Sum op a c) right = of_sum (Sum op a c) (omega arith) (sum op a c ((reads a right.2).sum right.0) ((reads c right.3).term right.1))
 reads (Comparison op a c) right =
-    record { factor = λ k. absurd (omega arith); term = λ k. absurd (omega arith); sum = λ k. absurd (omega arith); whole = comparison op a c ((reads a right.2).sum right.0) ((reads c right.3).sum right.1) }
+    record {
+      factor = λ k. absurd (omega arith);
+      term = λ k. absurd (omega arith);
+      sum = λ k. absurd (omega arith);
+      whole =
+          comparison op a c ((reads a right.2).sum right.0) ((reads c right.3).sum right.1);
+    }
 
 -- ---- the whole
 
-ends : (n : ℕ) (p : Pending Written) (last : Written) (rest : List Token) → 0 < n → m.is_operator rest ≡ false → m.run writing n (m.having [] p last) rest ≡ Some (m.whole writing p last, rest)
+ends : (n : ℕ) (p : Pending Written) (last : Written) (rest : List Token) → 0 < n → m.is_operator rest ≡ false → m.run writing n (m.having [] p last) rest
+    ≡ Some (m.whole writing p last, rest)
 unfolding m.run m.is_over
 ends zero p last rest some stops = absurd (omega arith)
 ends (suc n) p last rest some stops = rw stops refl
 
-pub is_read : (w : Written) (rest : List Token) → IsRight w → is_open rest ≡ false → m.is_operator rest ≡ false → m.expression writing (spell w rest) ≡ Some (w, rest)
+pub is_read : (w : Written) (rest : List Token) → IsRight w → is_open rest ≡ false → m.is_operator rest ≡ false
+    → m.expression writing (spell w rest) ≡ Some (w, rest)
 unfolding m.expression AsWhole
 is_read w rest right o stops =
     let r = (reads w right).whole [] rest o in

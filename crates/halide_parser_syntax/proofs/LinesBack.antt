@@ -16,7 +16,8 @@ use Rattle.halide_parser_syntax.specs.declared.lines.Line.{Line}
 use Rattle.halide_parser_syntax.specs.declared.lines.Line.TheVariants as line
 use Rattle.halide_parser_syntax.specs.inner.Algebra.{writing}
 use Rattle.halide_parser_syntax.specs.Grammar.{Written, spell, IsRight, is_open}
-use Rattle.halide_parser_syntax.specs.LineGrammar.{spell_height, spell_extents, spell_kind, spell_sign, spell_bounds, spell_second_bounds, spell_argument, spell_index, spell_line, IsRightIndex, IsRightLine}
+use Rattle.halide_parser_syntax.specs.LineGrammar.{spell_height, spell_extents, spell_kind, spell_sign, spell_bounds, spell_second_bounds, spell_argument}
+use Rattle.halide_parser_syntax.specs.LineGrammar.{spell_index, spell_line, IsRightIndex, IsRightLine}
 use Rattle.halide_parser_syntax.specs.inner.LineReading as r
 use Rattle.halide_parser_syntax.specs.inner.Machine as m
 use Rattle.halide_parser_syntax.proofs.Complete.{is_read}
@@ -59,7 +60,8 @@ kind_written (x ∷ ts) is_bytes h = cc
 abbrev spell_bounds_of : Bounds × List Token → List Token
 spell_bounds_of x = spell_bounds x.0 x.1
 
-bounds_from_written : (name : List ℕ) (is_negative : Bool) (ts : List Token) (b : Bounds) (rest : List Token) → r.bounds_from name is_negative ts ≡ Ok (b, rest) → t.Name name ∷ spell_sign is_negative ts ≡ spell_bounds b rest
+bounds_from_written : (name : List ℕ) (is_negative : Bool) (ts : List Token) (b : Bounds) (rest : List Token) → r.bounds_from name is_negative ts ≡ Ok (b, rest)
+    → t.Name name ∷ spell_sign is_negative ts ≡ spell_bounds b rest
 bounds_from_written name is_negative [] b rest h = cc
 bounds_from_written name is_negative (t.Number minimum ∷ []) b rest h = cc
 bounds_from_written name is_negative (t.Number minimum ∷ t.Number extent ∷ ts) b rest h = ap spell_bounds_of (ok_inj _ (b, rest) h)
@@ -147,7 +149,8 @@ index_written (z ∷ ts) x h = let e = ok_inj _ x h in (subst (λ (y : Option Wr
 abbrev IsWritten : List Token → Line Written → Type 0
 IsWritten ts l = IsRightLine l × (ts ≡ spell_line l)
 
-definition_written : (name : List ℕ) (ts : List Token) (l : Line Written) → r.definition writing name ts ≡ Ok l → IsWritten (t.Func ∷ t.Name name ∷ t.Open ∷ ts) l
+definition_written : (name : List ℕ) (ts : List Token) (l : Line Written) → r.definition writing name ts ≡ Ok l
+    → IsWritten (t.Func ∷ t.Name name ∷ t.Open ∷ ts) l
 unfolding r.definition
 definition_written name ts l h =
     let (x, first, next) = bind_ok (r.arguments ts) _ l h in
@@ -156,7 +159,8 @@ definition_written name ts l h =
     let e = left_written (line.Func (record { name = name; first_argument = x.0.0; second_argument = x.0.1; right = right.0 })) l right.1 last in
     let spelled : x.1 ≡ spell right.0 [] = w.1 ∙ ap (spell right.0) e.1 in (
       subst IsRightLine e.0 w.0,
-      ap (λ (k : List Token). t.Func ∷ t.Name name ∷ t.Open ∷ k) (arguments_written ts x first ∙ ap (λ (k : List Token). spell_arguments (x.0, k)) spelled) ∙ ap spell_line e.0,
+      ap (λ (k : List Token). t.Func ∷ t.Name name ∷ t.Open ∷ k) (arguments_written ts x first ∙ ap (λ (k : List Token). spell_arguments (x.0, k)) spelled)
+          ∙ ap spell_line e.0,
     )
 
 change_written : (name : List ℕ) (ts : List Token) (l : Line Written) → r.change writing name ts ≡ Ok l → IsWritten (t.Update ∷ t.Name name ∷ t.Open ∷ ts) l
@@ -175,7 +179,8 @@ change_written name ts l h =
     let e = ok_inj _ l h7 in
     let s6 : first.1 ≡ spell_second_bounds second = more_bounds_written first.1 second read_second in
     let s5 : ranges ≡ spell_bounds first.0 (spell_second_bounds second) = bounds_written ranges first.0 first.1 read_first ∙ ap (spell_bounds first.0) s6 in
-    let s4 : right.1 ≡ t.Over ∷ spell_bounds first.0 (spell_second_bounds second) = over_written right.1 ranges read_ranges ∙ ap (λ (k : List Token). t.Over ∷ k) s5 in
+    let s4 : right.1 ≡ t.Over ∷ spell_bounds first.0 (spell_second_bounds second) = over_written right.1 ranges read_ranges
+    ∙ ap (λ (k : List Token). t.Over ∷ k) s5 in
     let s3 : behind ≡ spell right.0 (t.Over ∷ spell_bounds first.0 (spell_second_bounds second)) = wr.1 ∙ ap (spell right.0) s4 in
     let s2 = assigned_written y.1 behind read_behind ∙ ap (λ (k : List Token). t.Close ∷ t.Assign ∷ k) s3 in
     let s1 = wy.1 ∙ ap (spell_index y.0) s2 in
@@ -212,7 +217,10 @@ line_written (x ∷ ts) l h = cc
 
 -- behind extents there stands no number
 extents_read : (name : List ℕ) (width : ℕ) (height : Option ℕ) (is_bytes : Bool)
-    → r.extents (t.Name name ∷ t.Number width ∷ spell_height height (spell_kind is_bytes)) ≡ Ok (record { name = name; width = width; height = height }, spell_kind is_bytes)
+    → r.extents (t.Name name ∷ t.Number width ∷ spell_height height (spell_kind is_bytes)) ≡ Ok (
+      record { name = name; width = width; height = height },
+      spell_kind is_bytes,
+    )
 unfolding r.extents
 extents_read name width None false = refl
 extents_read name width None true = refl
@@ -224,7 +232,8 @@ kind_read false = refl
 kind_read true = refl
 
 bounds_read : (name : List ℕ) (is_negative : Bool) (minimum extent : ℕ) (rest : List Token)
-    → r.bounds (t.Name name ∷ spell_sign is_negative (t.Number minimum ∷ t.Number extent ∷ rest)) ≡ Ok (record { name = name; is_negative = is_negative; minimum = minimum; extent = extent }, rest)
+    → r.bounds (t.Name name ∷ spell_sign is_negative (t.Number minimum ∷ t.Number extent ∷ rest))
+    ≡ Ok (record { name = name; is_negative = is_negative; minimum = minimum; extent = extent }, rest)
 unfolding r.bounds
 bounds_read name false minimum extent rest = refl
 bounds_read name true minimum extent rest = refl
@@ -234,7 +243,8 @@ unfolding r.more_bounds
 more_bounds_read None = refl
 more_bounds_read (Some b) = rw (bounds_read b.name b.is_negative b.minimum b.extent []) refl
 
-arguments_read : (first : List ℕ) (second : Option (List ℕ)) (rest : List Token) → r.arguments (spell_arguments ((first, second), rest)) ≡ Ok ((first, second), rest)
+arguments_read : (first : List ℕ) (second : Option (List ℕ)) (rest : List Token) → r.arguments (spell_arguments ((first, second), rest))
+    ≡ Ok ((first, second), rest)
 unfolding r.arguments
 arguments_read first None rest = refl
 arguments_read first (Some second) rest = refl
@@ -248,16 +258,19 @@ unfolding r.index
 index_read None rest right = refl
 index_read (Some w) rest right = rw (read_read w (t.Close ∷ rest) right refl refl) refl
 
-index_open : (y : Option Written) (rest : List Token) → (is_open (spell_index y (t.Close ∷ rest)) ≡ false) × (m.is_operator (spell_index y (t.Close ∷ rest)) ≡ false)
+index_open : (y : Option Written) (rest : List Token) → (is_open (spell_index y (t.Close ∷ rest)) ≡ false) × (m.is_operator (spell_index y (t.Close ∷ rest))
+    ≡ false)
 index_open None rest = (refl, refl)
 index_open (Some w) rest = (refl, refl)
 
-definition_read : (d : Definition Written) → IsRight d.right → r.definition writing d.name (spell_arguments ((d.first_argument, d.second_argument), spell d.right [])) ≡ Ok (line.Func d)
+definition_read : (d : Definition Written) → IsRight d.right
+    → r.definition writing d.name (spell_arguments ((d.first_argument, d.second_argument), spell d.right [])) ≡ Ok (line.Func d)
 unfolding r.definition
 definition_read d right = rw (arguments_read d.first_argument d.second_argument (spell d.right []), read_read d.right [] right refl refl) refl
 
 change_read : (u : Change Written) → IsRight u.left_x → IsRightIndex u.left_y → IsRight u.right
-    → r.change writing u.name (spell u.left_x (spell_index u.left_y (t.Close ∷ t.Assign ∷ spell u.right (t.Over ∷ spell_bounds u.first (spell_second_bounds u.second))))) ≡ Ok (line.Update u)
+    → r.change writing u.name (spell u.left_x (spell_index u.left_y (t.Close ∷ t.Assign
+    ∷ spell u.right (t.Over ∷ spell_bounds u.first (spell_second_bounds u.second))))) ≡ Ok (line.Update u)
 unfolding r.change r.assigned r.over
 change_read u rx ry rr =
     let behind : List Token = spell u.right (t.Over ∷ spell_bounds u.first (spell_second_bounds u.second)) in

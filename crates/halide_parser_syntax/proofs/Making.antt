@@ -61,24 +61,28 @@ module _ {V : Type 0} (alg : Algebra V) where
   sum_of None w = refl
   sum_of (Some p) w = refl
 
-  comparison_of : (left : Option (CompareOperator × Written)) (w : Written) → m.comparison_of alg (joined left) (made alg w) ≡ made alg (m.comparison_of writing left w)
+  comparison_of : (left : Option (CompareOperator × Written)) (w : Written) → m.comparison_of alg (joined left) (made alg w)
+      ≡ made alg (m.comparison_of writing left w)
   comparison_of None w = refl
   comparison_of (Some p) w = refl
 
   whole : (p : Pending Written) (w : Written) → m.whole alg (pending_of p) (made alg w) ≡ made alg (m.whole writing p w)
   whole p w = ap (m.comparison_of alg (joined p.comparison)) (sum_of p.sum w) ∙ comparison_of p.comparison (m.sum_of writing p.sum w)
 
-  operand : (fs : List (Frame Written)) (p : Pending Written) (w : Written) → m.operand alg (stack_of fs) (pending_of p) (made alg w) ≡ state_of (m.operand writing fs p w)
+  operand : (fs : List (Frame Written)) (p : Pending Written) (w : Written) → m.operand alg (stack_of fs) (pending_of p) (made alg w)
+      ≡ state_of (m.operand writing fs p w)
   operand fs p w =
       ap (λ (v : V). m.having (stack_of fs) (record { signs = 0; product = None; sum = joined p.sum; comparison = joined p.comparison }) v)
       (ap (m.product_of alg (joined p.product)) (negated p.signs w) ∙ product_of p.product (m.negated writing p.signs w))
 
-  named : (fs : List (Frame Written)) (p : Pending Written) (name : List ℕ) (rest : List Token) → m.named alg (stack_of fs) (pending_of p) name rest ≡ moved_of (m.named writing fs p name rest)
+  named : (fs : List (Frame Written)) (p : Pending Written) (name : List ℕ) (rest : List Token) → m.named alg (stack_of fs) (pending_of p) name rest
+      ≡ moved_of (m.named writing fs p name rest)
   named fs p name [] = ap (λ (s : State V). Some (s, [])) (operand fs p (Bare name))
   named fs p name (t.Open ∷ rest) = refl
   named fs p name (x ∷ rest) = ap (λ (s : State V). Some (s, x ∷ rest)) (operand fs p (Bare name))
 
-  bracketed : (fs : List (Frame Written)) (p : Pending Written) (bracket : Bracket Written) (rest : List Token) → m.bracketed alg (stack_of fs) (pending_of p) (bracket_of bracket) rest ≡ moved_of (m.bracketed writing fs p bracket rest)
+  bracketed : (fs : List (Frame Written)) (p : Pending Written) (bracket : Bracket Written) (rest : List Token)
+      → m.bracketed alg (stack_of fs) (pending_of p) (bracket_of bracket) rest ≡ moved_of (m.bracketed writing fs p bracket rest)
   bracketed fs p bracket [] = refl
   bracketed fs p bracket (t.Open ∷ rest) = refl
   bracketed fs p bracket (x ∷ rest) = refl
@@ -94,13 +98,28 @@ module _ {V : Type 0} (alg : Algebra V) where
   begun fs p (t.Sum Add ∷ rest) = refl
   begun fs p (_ ∷ rest) = refl
 
-  compared : (fs : List (Frame Written)) (p : Pending Written) (w : Written) (op : CompareOperator) (left : Option (CompareOperator × Written)) → p.comparison ≡ left
-      → cond (is_some (joined left)) None (Some (m.wanting (stack_of fs) (record { signs = 0; product = None; sum = None; comparison = Some (op, m.sum_of alg (joined p.sum) (made alg w)) })))
-      ≡ option_map state_of (cond (is_some left) None (Some (m.wanting fs (record { signs = 0; product = None; sum = None; comparison = Some (op, m.sum_of writing p.sum w) }))))
+  compared : (fs : List (Frame Written)) (p : Pending Written) (w : Written) (op : CompareOperator) (left : Option (CompareOperator × Written))
+      → p.comparison ≡ left
+      → cond (is_some (joined left)) None (Some (m.wanting (stack_of fs) (record {
+        signs = 0;
+        product = None;
+        sum = None;
+        comparison =
+            Some (op, m.sum_of alg (joined p.sum) (made alg w));
+      })))
+      ≡ option_map state_of (cond (is_some left) None (Some (m.wanting fs (record {
+        signs = 0;
+        product = None;
+        sum = None;
+        comparison =
+            Some (op, m.sum_of writing p.sum w);
+      }))))
   compared fs p w op (Some other) e = refl
-  compared fs p w op None e = ap (λ (v : V). Some (m.wanting (stack_of fs) (record { signs = 0; product = None; sum = None; comparison = Some (op, v) }))) (sum_of p.sum w)
+  compared fs p w op None e = ap (λ (v : V). Some (m.wanting (stack_of fs) (record { signs = 0; product = None; sum = None; comparison = Some (op, v) })))
+      (sum_of p.sum w)
 
-  ahead : (found : Option (State V)) (given : Option (State Written)) (rest : List Token) → found ≡ option_map state_of given → m.ahead alg found rest ≡ moved_of (m.ahead writing given rest)
+  ahead : (found : Option (State V)) (given : Option (State Written)) (rest : List Token) → found ≡ option_map state_of given
+      → m.ahead alg found rest ≡ moved_of (m.ahead writing given rest)
   ahead found None rest e = ap (λ (o : Option (State V)). m.ahead alg o rest) e
   ahead found (Some s) rest e = ap (λ (o : Option (State V)). m.ahead alg o rest) e
 
@@ -108,7 +127,8 @@ module _ {V : Type 0} (alg : Algebra V) where
   separated_in [] w = refl
   separated_in (f ∷ fs) w = by f.bracket
     where
-      by : (bracket : Bracket Written) → m.reopened (pending_of f.outer) (stack_of fs) (m.next_in (bracket_of bracket) (made alg w)) ≡ option_map state_of (m.reopened f.outer fs (m.next_in bracket w))
+      by : (bracket : Bracket Written) → m.reopened (pending_of f.outer) (stack_of fs) (m.next_in (bracket_of bracket) (made alg w))
+          ≡ option_map state_of (m.reopened f.outer fs (m.next_in bracket w))
       by b.Group = refl
       by (b.CallFirst name) = refl
       by (b.CallSecond name a) = refl
@@ -125,7 +145,8 @@ module _ {V : Type 0} (alg : Algebra V) where
       resumed : (v : Written) → Some (m.operand alg (stack_of fs) (pending_of f.outer) (made alg v)) ≡ Some (state_of (m.operand writing fs f.outer v))
       resumed v = ap (λ (s : State V). Some s) (operand fs f.outer v)
 
-      by : (bracket : Bracket Written) → m.resumed alg (pending_of f.outer) (stack_of fs) (m.closed_by alg (bracket_of bracket) (made alg w)) ≡ option_map state_of (m.resumed writing f.outer fs (m.closed_by writing bracket w))
+      by : (bracket : Bracket Written) → m.resumed alg (pending_of f.outer) (stack_of fs) (m.closed_by alg (bracket_of bracket) (made alg w))
+          ≡ option_map state_of (m.resumed writing f.outer fs (m.closed_by writing bracket w))
       by b.Group = resumed _
       by (b.CallFirst name) = resumed _
       by (b.CallSecond name a) = resumed _
@@ -135,17 +156,22 @@ module _ {V : Type 0} (alg : Algebra V) where
       by (b.ThreeSecond g a) = refl
       by (b.ThreeThird g a c) = resumed _
 
-  followed : (fs : List (Frame Written)) (p : Pending Written) (w : Written) (ts : List Token) → m.followed alg (stack_of fs) (pending_of p) (made alg w) ts ≡ moved_of (m.followed writing fs p w ts)
+  followed : (fs : List (Frame Written)) (p : Pending Written) (w : Written) (ts : List Token) → m.followed alg (stack_of fs) (pending_of p) (made alg w) ts
+      ≡ moved_of (m.followed writing fs p w ts)
   followed fs p w [] = refl
   followed fs p w (t.Product op ∷ rest) = refl
   followed fs p w (t.Sum op ∷ rest) =
-      ap (λ (v : V). Some (m.wanting (stack_of fs) (record { signs = 0; product = None; sum = Some (op, v); comparison = joined p.comparison }), rest)) (sum_of p.sum w)
+      ap (λ (v : V). Some (m.wanting (stack_of fs) (record { signs = 0; product = None; sum = Some (op, v); comparison = joined p.comparison }), rest))
+      (sum_of p.sum w)
   followed fs p w (t.Compare op ∷ rest) = ahead _ (m.compared writing fs p w op) rest (compared fs p w op p.comparison refl)
-  followed fs p w (t.Comma ∷ rest) = ahead _ (m.separated writing fs p w) rest (ap (m.separated_in (stack_of fs)) (whole p w) ∙ separated_in fs (m.whole writing p w))
-  followed fs p w (t.Close ∷ rest) = ahead _ (m.closed writing fs p w) rest (ap (m.closed_in alg (stack_of fs)) (whole p w) ∙ closed_in fs (m.whole writing p w))
+  followed fs p w (t.Comma ∷ rest) = ahead _ (m.separated writing fs p w) rest (ap (m.separated_in (stack_of fs)) (whole p w)
+      ∙ separated_in fs (m.whole writing p w))
+  followed fs p w (t.Close ∷ rest) = ahead _ (m.closed writing fs p w) rest (ap (m.closed_in alg (stack_of fs)) (whole p w)
+      ∙ closed_in fs (m.whole writing p w))
   followed fs p w (_ ∷ rest) = refl
 
-  step_at : (fs : List (Frame Written)) (p : Pending Written) (term : Option Written) (ts : List Token) → m.step_at alg (stack_of fs) (pending_of p) (option_map (made alg) term) ts ≡ moved_of (m.step_at writing fs p term ts)
+  step_at : (fs : List (Frame Written)) (p : Pending Written) (term : Option Written) (ts : List Token)
+      → m.step_at alg (stack_of fs) (pending_of p) (option_map (made alg) term) ts ≡ moved_of (m.step_at writing fs p term ts)
   step_at fs p None ts = begun fs p ts
   step_at fs p (Some w) ts = followed fs p w ts
 
@@ -165,7 +191,8 @@ module _ {V : Type 0} (alg : Algebra V) where
   unfolding m.is_over
   is_over s ts = rw (some s.term, empty s.stack) refl
 
-  finished : (p : Pending Written) (term : Option Written) (ts : List Token) → m.finished_with alg (pending_of p) (option_map (made alg) term) ts ≡ read_of (m.finished_with writing p term ts)
+  finished : (p : Pending Written) (term : Option Written) (ts : List Token) → m.finished_with alg (pending_of p) (option_map (made alg) term) ts
+      ≡ read_of (m.finished_with writing p term ts)
   finished p None ts = refl
   finished p (Some w) ts = ap (λ (v : V). Some (v, ts)) (whole p w)
 
@@ -174,7 +201,8 @@ module _ {V : Type 0} (alg : Algebra V) where
   onward None f g e = refl
   onward (Some x) f g e = e x.0 x.1
 
-  either : (over : Bool) (a c : Option (V × List Token)) (a' c' : Option (Written × List Token)) → a ≡ read_of a' → c ≡ read_of c' → cond over a c ≡ read_of (cond over a' c')
+  either : (over : Bool) (a c : Option (V × List Token)) (a' c' : Option (Written × List Token)) → a ≡ read_of a' → c ≡ read_of c'
+      → cond over a c ≡ read_of (cond over a' c')
   either true a c a' c' e e' = e
   either false a c a' c' e e' = e'
 

@@ -14,7 +14,8 @@ use Rattle.halide_parser_syntax.specs.inner.Machine as m
 use Rattle.halide_parser_syntax.proofs.Making.{expression}
 
 -- a step that makes a value, and then equal steps
-follow : {A B C D : Type 0} (given : Result A ParseFault) (make : A → B) (f : B → Result C ParseFault) (g : A → Result D ParseFault) (k : D → Result C ParseFault)
+follow : {A B C D : Type 0} (given : Result A ParseFault) (make : A → B) (f : B → Result C ParseFault) (g : A → Result D ParseFault) (k : D
+    → Result C ParseFault)
     → ((x : A) → f (make x) ≡ (g x >>= k)) → ((given >>= λ x. Ok (make x)) >>= f) ≡ ((given >>= g) >>= k)
 follow (Ok x) make f g k e = e x
 follow (Err fault) make f g k e = refl
@@ -35,7 +36,8 @@ module _ {V : Type 0} (alg : Algebra V) where
   abbrev line_of : Line Written → Result (Line V) ParseFault
   line_of w = Ok (made_line alg w)
 
-  found : (given : Option (Written × List Token)) → r.or_syntax (Rattle.std.specs.Prelude.option_map read_of given) ≡ (r.or_syntax given >>= λ x. Ok (read_of x))
+  found : (given : Option (Written × List Token)) → r.or_syntax (Rattle.std.specs.Prelude.option_map read_of given)
+      ≡ (r.or_syntax given >>= λ x. Ok (read_of x))
   found None = refl
   found (Some x) = refl
 
@@ -58,28 +60,46 @@ module _ {V : Type 0} (alg : Algebra V) where
   definition : (name : List ℕ) (ts : List Token) → r.definition alg name ts ≡ (r.definition writing name ts >>= line_of)
   unfolding r.definition
   definition name ts = same (r.arguments ts) _ _ line_of (λ named.
-      ap (λ (given : Result (V × List Token) ParseFault). given >>= λ right. r.nothing_left (line.Func (record { name = name; first_argument = named.0.0; second_argument = named.0.1; right = right.0 })) right.1) (read named.1)
-      ∙ follow (r.read writing named.1) read_of _ _ line_of (λ right. left (line.Func (record { name = name; first_argument = named.0.0; second_argument = named.0.1; right = right.0 })) right.1))
+      ap (λ (given : Result (V × List Token) ParseFault). given >>= λ right. r.nothing_left (line.Func (record {
+        name = name;
+        first_argument =
+            named.0.0;
+        second_argument = named.0.1;
+        right = right.0;
+      })) right.1) (read named.1)
+      ∙ follow (r.read writing named.1) read_of _ _ line_of (λ right. left (line.Func (record {
+        name = name;
+        first_argument = named.0.0;
+        second_argument =
+            named.0.1;
+        right = right.0;
+      })) right.1))
 
   -- behind the indexes on the left
   righted : (name : List ℕ) (x : Written) (y : Option Written) (ts : List Token)
-      → (r.assigned ts >>= λ behind. r.read alg behind >>= λ right. r.over right.1 >>= λ ranges. r.bounds ranges >>= λ first. r.more_bounds first.1 >>= λ second.
+      → (r.assigned ts >>= λ behind. r.read alg behind >>= λ right. r.over right.1 >>= λ ranges. r.bounds ranges >>= λ first. r.more_bounds first.1 >>=
+      λ second.
       Ok (line.Update (record { name = name; left_x = made alg x; left_y = made_index alg y; right = right.0; first = first.0; second = second })))
-      ≡ ((r.assigned ts >>= λ behind. r.read writing behind >>= λ right. r.over right.1 >>= λ ranges. r.bounds ranges >>= λ first. r.more_bounds first.1 >>= λ second.
+      ≡ ((r.assigned ts >>= λ behind. r.read writing behind >>= λ right. r.over right.1 >>= λ ranges. r.bounds ranges >>= λ first. r.more_bounds first.1 >>=
+      λ second.
       Ok (line.Update (record { name = name; left_x = x; left_y = y; right = right.0; first = first.0; second = second }))) >>= line_of)
   righted name x y ts = same (r.assigned ts) _ _ line_of (λ behind.
-      ap (λ (given : Result (V × List Token) ParseFault). given >>= λ right. r.over right.1 >>= λ ranges. r.bounds ranges >>= λ first. r.more_bounds first.1 >>= λ second.
-      Ok (line.Update (record { name = name; left_x = made alg x; left_y = made_index alg y; right = right.0; first = first.0; second = second }))) (read behind)
+      ap (λ (given : Result (V × List Token) ParseFault). given >>= λ right. r.over right.1 >>= λ ranges. r.bounds ranges >>= λ first. r.more_bounds first.1 >>=
+      λ second.
+      Ok (line.Update (record { name = name; left_x = made alg x; left_y = made_index alg y; right = right.0; first = first.0; second = second })))
+      (read behind)
       ∙ follow (r.read writing behind) read_of _ _ line_of (λ right.
       same (r.over right.1) _ _ line_of (λ ranges. same (r.bounds ranges) _ _ line_of (λ first. same (r.more_bounds first.1) _ _ line_of (λ second. refl)))))
 
   change : (name : List ℕ) (ts : List Token) → r.change alg name ts ≡ (r.change writing name ts >>= line_of)
   unfolding r.change
   change name ts =
-      ap (λ (given : Result (V × List Token) ParseFault). given >>= λ x. r.index alg x.1 >>= λ y. r.assigned y.1 >>= λ behind. r.read alg behind >>= λ right. r.over right.1 >>= λ ranges. r.bounds ranges >>= λ first. r.more_bounds first.1 >>= λ second.
+      ap (λ (given : Result (V × List Token) ParseFault). given >>= λ x. r.index alg x.1 >>= λ y. r.assigned y.1 >>= λ behind. r.read alg behind >>= λ right.
+      r.over right.1 >>= λ ranges. r.bounds ranges >>= λ first. r.more_bounds first.1 >>= λ second.
       Ok (line.Update (record { name = name; left_x = x.0; left_y = y.0; right = right.0; first = first.0; second = second }))) (read ts)
       ∙ follow (r.read writing ts) read_of _ _ line_of (λ x.
-      ap (λ (given : Result (Option V × List Token) ParseFault). given >>= λ y. r.assigned y.1 >>= λ behind. r.read alg behind >>= λ right. r.over right.1 >>= λ ranges. r.bounds ranges >>= λ first. r.more_bounds first.1 >>= λ second.
+      ap (λ (given : Result (Option V × List Token) ParseFault). given >>= λ y. r.assigned y.1 >>= λ behind. r.read alg behind >>= λ right. r.over right.1 >>=
+      λ ranges. r.bounds ranges >>= λ first. r.more_bounds first.1 >>= λ second.
       Ok (line.Update (record { name = name; left_x = made alg x.0; left_y = y.0; right = right.0; first = first.0; second = second }))) (index x.1)
       ∙ follow (r.index writing x.1) index_of _ _ line_of (λ y. righted name x.0 y.0 y.1))
 

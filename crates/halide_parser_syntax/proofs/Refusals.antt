@@ -124,7 +124,8 @@ index_only (x ∷ ts) = tt
 
 definition_only : (name : List ℕ) (ts : List Token) → OnlySyntax (r.definition writing name ts)
 unfolding r.definition
-definition_only name ts = bound (r.arguments ts) _ (arguments_only ts) (λ named. bound (r.read writing named.1) _ (read_only named.1) (λ right. left_only _ right.1))
+definition_only name ts = bound (r.arguments ts) _ (arguments_only ts) (λ named. bound (r.read writing named.1) _ (read_only named.1)
+    (λ right. left_only _ right.1))
 
 change_only : (name : List ℕ) (ts : List Token) → OnlySyntax (r.change writing name ts)
 unfolding r.change
@@ -176,7 +177,8 @@ follows = record {
   no_other = λ tokens line e. line_written tokens line (was_read (r.read_line writing tokens) line e);
 }
 
-agree_by : (read other : List Token → Option (Line Written)) → FollowsGrammar read → FollowsGrammar other → (tokens : List Token) (found its : Option (Line Written)) → read tokens ≡ found → other tokens ≡ its → found ≡ its
+agree_by : (read other : List Token → Option (Line Written)) → FollowsGrammar read → FollowsGrammar other
+    → (tokens : List Token) (found its : Option (Line Written)) → read tokens ≡ found → other tokens ≡ its → found ≡ its
 agree_by read other one two tokens (Some line) its e f =
     let is = one.no_other tokens line e in sym (ap other is.1 ∙ two.each line is.0) ∙ f
 agree_by read other one two tokens None None e f = refl

@@ -17,6 +17,7 @@ module _ {A : Type 0} where
   empty [] = refl
   empty (item ∷ items) = let some : (length (item ∷ items) == 0) ≡ false = grind (arith, nat_tests) in not_empty (on_top items) item ∙ sym some
 
-  pub popped : (top : Option A) (old new : List A) → MatchOption top ((old ≡ []) × (new ≡ [])) (λ item. old ≡ new ++ item ∷ []) → MatchOption top ((on_top old ≡ []) × (on_top new ≡ [])) (λ item. on_top old ≡ item ∷ on_top new)
+  pub popped : (top : Option A) (old new : List A) → MatchOption top ((old ≡ []) × (new ≡ [])) (λ item. old ≡ new ++ item ∷ [])
+      → MatchOption top ((on_top old ≡ []) × (on_top new ≡ [])) (λ item. on_top old ≡ item ∷ on_top new)
   popped None old new h = (ap on_top h.0, ap on_top h.1)
   popped (Some item) old new h = ap on_top h ∙ pushed new item

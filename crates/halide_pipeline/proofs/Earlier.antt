@@ -13,7 +13,8 @@ pixels_before funcs inputs zero place x y before = absurd (omega arith)
 pixels_before funcs inputs (suc count) place x y before = elim (cases_eq place count) [
   | inl same ↦
       let test : (place == count) ≡ true = grind (arith, nat_tests) in
-      let here : func_plane count (slice_get funcs count) inputs (pixels funcs inputs count) x y ≡ func_plane place (slice_get funcs place) inputs (pixels funcs inputs place) x y =
+      let here : func_plane count (slice_get funcs count) inputs (pixels funcs inputs count) x y ≡ func_plane place (slice_get funcs place) inputs
+      (pixels funcs inputs place) x y =
       ap (λ (at : ℕ). func_plane at (slice_get funcs at) inputs (pixels funcs inputs at) x y) (sym same) in
       rw test here
   | inr other ↦

@@ -17,7 +17,8 @@ module _ {A B : Type 0} (R : A → B → Type 0) where
     rolled : (y : Expr-F Expr) (a : A) (b : B) → of_f (roll-Expr y) ≡ a → of_g (roll-Expr y) ≡ b → R a b → R (of_f (roll-Expr y)) (of_g (roll-Expr y))
     rolled y a b ea eb r = subst (λ (x : A). R x (of_g (roll-Expr y))) (sym ea) (subst (λ (x : B). R a x) (sym eb) r)
 
-    level : (y : Expr-F Expr) (pairs : Expr-F (Both R)) → of_f (roll-Expr y) ≡ f (left_of R pairs) → of_g (roll-Expr y) ≡ g (right_of R pairs) → R (f (left_of R pairs)) (g (right_of R pairs)) → R (of_f (roll-Expr y)) (of_g (roll-Expr y))
+    level : (y : Expr-F Expr) (pairs : Expr-F (Both R)) → of_f (roll-Expr y) ≡ f (left_of R pairs) → of_g (roll-Expr y) ≡ g (right_of R pairs)
+        → R (f (left_of R pairs)) (g (right_of R pairs)) → R (of_f (roll-Expr y)) (of_g (roll-Expr y))
     level y pairs ea eb r = rolled y (f (left_of R pairs)) (g (right_of R pairs)) ea eb r
 
     abbrev both : (e : Expr) → R (of_f e) (of_g e) → Both R

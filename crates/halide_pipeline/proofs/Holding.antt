@@ -7,7 +7,8 @@ use Rattle.halide_pipeline.specs.declared.definitions.Update.{Update}
 use Rattle.halide_pipeline.specs.declared.expressions.Source.{Source}
 use Rattle.halide_pipeline.specs.declared.expressions.Source.TheVariants as sources
 use Rattle.halide_pipeline.specs.Pixel.{Planes, reads_of, with_plane, at_point, at_reduction, points, is_hit, after, stage, pixels}
-use Rattle.halide_pipeline.specs.Points.{Point, Hold, points_read, left_points, untraced, with_trace, trace_of, traced, left_trace, after_trace, after_all_trace, stage_trace, ReadsHold, DefinitionsHoldReads}
+use Rattle.halide_pipeline.specs.Points.{Point, Hold, points_read, left_points, untraced, with_trace, trace_of, traced, left_trace, after_trace}
+use Rattle.halide_pipeline.specs.Points.{after_all_trace, stage_trace, ReadsHold, DefinitionsHoldReads}
 use Rattle.halide_pipeline.proofs.Seeing.{all_both}
 
 module _ (test : Point → Bool) where
@@ -21,8 +22,11 @@ module _ (test : Point → Bool) where
   -- points alone, where nothing is read in turn
   pub traced_alone : (read : List Point) → Hold test read → Hold test (traced untraced read)
   traced_alone [] held = tt
-  traced_alone (point ∷ others) held =
-      (held.0, both (trace_of untraced point.source point.x point.y) (traced untraced others) (none_traced point.source point.x point.y) (traced_alone others held.1))
+  traced_alone (point ∷ others) held = (
+    held.0,
+    both (trace_of untraced point.source point.x point.y) (traced untraced others) (none_traced point.source point.x point.y)
+        (traced_alone others held.1),
+  )
 
   module _ (own : ℕ) where
     abbrev Reached : (ℕ → ℕ → List Point) → Type 0
@@ -39,18 +43,25 @@ module _ (test : Point → Bool) where
 
     traced_own : (trace : ℕ → ℕ → List Point) → Reached trace → (read : List Point) → Hold test read → Hold test (traced (with_trace own trace untraced) read)
     traced_own trace reached [] held = tt
-    traced_own trace reached (point ∷ others) held =
-        (held.0, both (trace_of (with_trace own trace untraced) point.source point.x point.y) (traced (with_trace own trace untraced) others) (own_traced trace reached point.source point.x point.y held.0) (traced_own trace reached others held.1))
+    traced_own trace reached (point ∷ others) held = (
+      held.0,
+      both (trace_of (with_trace own trace untraced) point.source point.x point.y) (traced (with_trace own trace untraced) others)
+          (own_traced trace reached point.source point.x point.y held.0) (traced_own trace reached others held.1),
+    )
 
     module _ (func : Func) (inputs earlier : Planes) (holds : ReadsHold test own func inputs earlier) where
-      left_at : (at : ℕ) (update : Update) → slice_get func.updates at ≡ Some update → (number : ℕ) → number < points update → Reached (λ x y. traced untraced (left_points (reads_of inputs earlier) (at_reduction update number x y) update))
-      left_at at update is number before x y passed = traced_alone (left_points (reads_of inputs earlier) (at_reduction update number x y) update) (holds.left at update is number x y before passed)
+      left_at : (at : ℕ) (update : Update) → slice_get func.updates at ≡ Some update → (number : ℕ) → number < points update
+          → Reached (λ x y. traced untraced (left_points (reads_of inputs earlier) (at_reduction update number x y) update))
+      left_at at update is number before x y passed = traced_alone (left_points (reads_of inputs earlier) (at_reduction update number x y) update)
+          (holds.left at update is number x y before passed)
 
-      lefts_at : (at : ℕ) (update : Update) → slice_get func.updates at ≡ Some update → (number : ℕ) → number ≤ points update → Reached (left_trace update inputs earlier untraced number)
+      lefts_at : (at : ℕ) (update : Update) → slice_get func.updates at ≡ Some update → (number : ℕ) → number ≤ points update
+          → Reached (left_trace update inputs earlier untraced number)
       unfolding left_trace
       lefts_at at update is zero few x y passed = tt
       lefts_at at update is (suc number) few x y passed =
-          both (traced untraced (left_points (reads_of inputs earlier) (at_reduction update number x y) update)) (left_trace update inputs earlier untraced number x y)
+          both (traced untraced (left_points (reads_of inputs earlier) (at_reduction update number x y) update)) (left_trace update inputs earlier untraced
+          number x y)
           (left_at at update is number (omega (arith, few)) x y passed) (lefts_at at update is number (omega (arith, few)) x y passed)
 
       -- what stands after so many points
@@ -59,10 +70,12 @@ module _ (test : Point → Bool) where
 
       abbrev right_of : ℕ → Update → ℕ → ℕ → ℕ → List Point
       right_of at update number x y =
-          points_read (reads_of inputs (with_plane own (after own update inputs earlier (stage own func inputs earlier at) number) earlier)) (at_reduction update number x y) update.right
+          points_read (reads_of inputs (with_plane own (after own update inputs earlier (stage own func inputs earlier at) number) earlier))
+          (at_reduction update number x y) update.right
 
       abbrev hit : ℕ → Update → (ℕ → ℕ → List Point) → ℕ → ℕ → ℕ → List Point
-      hit at update trace number x y = left_trace update inputs earlier untraced number x y ++ traced (with_trace own (reach at update trace number) untraced) (right_of at update number x y)
+      hit at update trace number x y = left_trace update inputs earlier untraced number x y ++ traced (with_trace own (reach at update trace number) untraced)
+          (right_of at update number x y)
 
       -- where the last point is a hit or not
       step_at : (at : ℕ) (update : Update) → slice_get func.updates at ≡ Some update → (trace : ℕ → ℕ → List Point) (number x y : ℕ) → number < points update
@@ -70,19 +83,22 @@ module _ (test : Point → Bool) where
           → (is_at : Bool) → is_hit (reads_of inputs earlier) update (at_reduction update number x y) ≡ is_at
           → Hold test (cond is_at (hit at update trace number x y) (reach at update trace number x y))
       step_at at update is trace number x y before passed inner true e =
-          both (left_trace update inputs earlier untraced number x y) (traced (with_trace own (reach at update trace number) untraced) (right_of at update number x y))
+          both (left_trace update inputs earlier untraced number x y) (traced (with_trace own (reach at update trace number) untraced)
+          (right_of at update number x y))
           (lefts_at at update is number (omega (arith, before)) x y passed)
           (traced_own (reach at update trace number) inner (right_of at update number x y) (holds.right at update is number x y before passed e))
       step_at at update is trace number x y before passed inner false e = inner x y passed
 
-      after_at : (at : ℕ) (update : Update) → slice_get func.updates at ≡ Some update → (trace : ℕ → ℕ → List Point) → Reached trace → (number : ℕ) → number ≤ points update
+      after_at : (at : ℕ) (update : Update) → slice_get func.updates at ≡ Some update → (trace : ℕ → ℕ → List Point) → Reached trace → (number : ℕ)
+          → number ≤ points update
           → Reached (reach at update trace number)
       unfolding after_trace
       after_at at update is trace reached zero few x y passed = reached x y passed
       after_at at update is trace reached (suc number) few x y passed =
           let before : number < points update = omega (arith, few) in
           let is_at = is_hit (reads_of inputs earlier) update (at_reduction update number x y) in
-          both (traced untraced (left_points (reads_of inputs earlier) (at_reduction update number x y) update)) (cond is_at (hit at update trace number x y) (reach at update trace number x y))
+          both (traced untraced (left_points (reads_of inputs earlier) (at_reduction update number x y) update)) (cond is_at (hit at update trace number x y)
+          (reach at update trace number x y))
           (left_at at update is number before x y passed)
           (step_at at update is trace number x y before passed (after_at at update is trace reached number (omega (arith, few))) is_at refl)
 
@@ -94,7 +110,8 @@ module _ (test : Point → Bool) where
       stage_at : (updates : ℕ) → Reached (stage_trace own func inputs earlier untraced updates)
       unfolding stage_trace
       stage_at zero x y passed = traced_alone (points_read (reads_of inputs earlier) (at_point x y) func.pure) (holds.pure x y passed)
-      stage_at (suc updates) x y passed = all_at updates (slice_get func.updates updates) refl (stage_trace own func inputs earlier untraced updates) (stage_at updates) x y passed
+      stage_at (suc updates) x y passed = all_at updates (slice_get func.updates updates) refl (stage_trace own func inputs earlier untraced updates)
+          (stage_at updates) x y passed
 
 pub definitions_hold_reads : DefinitionsHoldReads
 definitions_hold_reads test funcs inputs place func is holds x y passed =

@@ -66,7 +66,8 @@ module _ (reads more : Source → ℕ → Bool) (has : Variable → Bool) (grows
       let parts = and_parts (keeps reads has a && keeps reads has b) (reads s 2) (sym (fold-roll-Expr Bool (keeps_at reads has) l) ∙ kept) in
       let indexes = and_parts (keeps reads has a) (keeps reads has b) parts.0 in
       fold-roll-Expr Bool (keeps_at more has) l
-      ∙ and_from (keeps more has a && keeps more has b) (more s 2) (and_from (keeps more has a) (keeps more has b) (ga indexes.0) (gb indexes.1)) (grows s 2 parts.1)
+      ∙ and_from (keeps more has a && keeps more has b) (more s 2) (and_from (keeps more has a) (keeps more has b) (ga indexes.0) (gb indexes.1))
+      (grows s 2 parts.1)
 
   by_layer : (X : Type 0) (expr : X → Expr) → ((part : X) → Grows (expr part)) → (y : Expr-F X) → Grows (roll-Expr (map-Expr X Expr expr y))
   by_layer X expr grow (layer.Number n) = number_grows n

@@ -18,11 +18,14 @@ found name [] = refl
 found name (entry ∷ entries) = ap (cond (bytes_eq name entry.0.items) (Some entry.1)) (found name entries)
 
 -- a name that is not there is appended
-pub added : (key : Vec ℕ Global) (source : Source) (entries : Entries) → lookup key.items (pairs_of entries) ≡ None → pairs_of (insert_entry same entries key source) ≡ pairs_of entries ++ (key.items, source) ∷ []
+pub added : (key : Vec ℕ Global) (source : Source) (entries : Entries) → lookup key.items (pairs_of entries) ≡ None
+    → pairs_of (insert_entry same entries key source) ≡ pairs_of entries ++ (key.items, source) ∷ []
 added key source [] none = refl
 added key source (entry ∷ entries) none = by (added key source entries) (bytes_eq key.items entry.0.items) refl
   where
-    by : (lookup key.items (pairs_of entries) ≡ None → pairs_of (insert_entry same entries key source) ≡ pairs_of entries ++ (key.items, source) ∷ []) → (b : Bool) → bytes_eq key.items entry.0.items ≡ b → pairs_of (insert_entry same (entry ∷ entries) key source) ≡ pairs_of (entry ∷ entries) ++ (key.items, source) ∷ []
+    by : (lookup key.items (pairs_of entries) ≡ None → pairs_of (insert_entry same entries key source) ≡ pairs_of entries ++ (key.items, source) ∷ [])
+        → (b : Bool) → bytes_eq key.items entry.0.items ≡ b → pairs_of (insert_entry same (entry ∷ entries) key source) ≡ pairs_of (entry ∷ entries)
+        ++ (key.items, source) ∷ []
     by later true is = let found_it : Some entry.1 ≡ None = rw is at none in cc
     by later false is =
         let others : lookup key.items (pairs_of entries) ≡ None = rw is at none in

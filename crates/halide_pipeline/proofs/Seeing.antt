@@ -31,7 +31,8 @@ module _ (reads : Reads) (environment : Environment) where
   same_at (layer.Divide a n) = ap (λ (x : ℕ). word.divide x n) a.is
   same_at (layer.Remainder a n) = ap (λ (x : ℕ). word.remainder x n) a.is
   same_at (layer.Select c a b) =
-      ap (λ (x : ℕ). cond (x == 0) b.left.value a.left.value) c.is ∙ ap (λ (x : ℕ). cond (c.right == 0) b.left.value x) a.is ∙ ap (λ (x : ℕ). cond (c.right == 0) x a.right) b.is
+      ap (λ (x : ℕ). cond (x == 0) b.left.value a.left.value) c.is ∙ ap (λ (x : ℕ). cond (c.right == 0) b.left.value x) a.is
+      ∙ ap (λ (x : ℕ). cond (c.right == 0) x a.right) b.is
   same_at (layer.Call1 s a) = ap (λ (x : ℕ). reads s x 0) a.is
   same_at (layer.Call2 s a b) = ap (λ (x : ℕ). reads s x b.left.value) a.is ∙ ap (λ (x : ℕ). reads s a.right x) b.is
 
@@ -50,7 +51,8 @@ module _ (reads : Reads) (environment : Environment) where
     matches_at (layer.Select c a b) agree =
         let k = all_parts (AgreeAt reads other) c.left.points (a.left.points ++ b.left.points) agree in
         let m = all_parts (AgreeAt reads other) a.left.points b.left.points k.1 in
-        ap (λ (x : ℕ). cond (x == 0) b.right a.right) (c.is k.0) ∙ ap (λ (x : ℕ). cond (c.left.value == 0) b.right x) (a.is m.0) ∙ ap (λ (x : ℕ). cond (c.left.value == 0) x a.left.value) (b.is m.1)
+        ap (λ (x : ℕ). cond (x == 0) b.right a.right) (c.is k.0) ∙ ap (λ (x : ℕ). cond (c.left.value == 0) b.right x) (a.is m.0)
+        ∙ ap (λ (x : ℕ). cond (c.left.value == 0) x a.left.value) (b.is m.1)
     matches_at (layer.Call1 s a) agree =
         let k = all_parts (AgreeAt reads other) a.left.points (record { source = s; x = a.left.value; y = 0 } ∷ []) agree in
         ap (λ (x : ℕ). other s x 0) (a.is k.0) ∙ k.1.0
@@ -61,7 +63,8 @@ module _ (reads : Reads) (environment : Environment) where
 
 pub values_are_seen : SeesValues
 unfolding seen value
-values_are_seen reads environment e = folds_related (SameValue reads environment) (seen_at reads environment) (value_at reads environment) (same_at reads environment) e
+values_are_seen reads environment e = folds_related (SameValue reads environment) (seen_at reads environment) (value_at reads environment)
+    (same_at reads environment) e
 
 pub values_depend_on_reads : ValuesDependOnReads
 unfolding seen value

@@ -3,7 +3,8 @@ use Rattle.std.proofs.Common.{◌≡◌, ℕ, ap, sym, ◌∙◌}
 use Rattle.halide_pipeline.specs.declared.expressions.Expr.{Expr, fold-Expr, fold-roll-Expr}
 use Rattle.halide_pipeline.specs.declared.expressions.Expr.TheOpen.{Expr-F}
 use Rattle.halide_pipeline.specs.declared.expressions.Expr.TheOpen as layer
-use Rattle.halide_pipeline.specs.declared.expressions.Expr.TheVariants.{rolls-Number, rolls-Variable, rolls-Binary, rolls-Divide, rolls-Remainder, rolls-Select, rolls-Call1, rolls-Call2}
+use Rattle.halide_pipeline.specs.declared.expressions.Expr.TheVariants.{rolls-Number, rolls-Variable, rolls-Binary, rolls-Divide, rolls-Remainder, rolls-Select}
+use Rattle.halide_pipeline.specs.declared.expressions.Expr.TheVariants.{rolls-Call1, rolls-Call2}
 use Rattle.halide_pipeline.specs.declared.expressions.Expr.TheVariants as e
 use Rattle.halide_pipeline.specs.declared.expressions.Operation.{Operation}
 use Rattle.halide_pipeline.specs.declared.expressions.Source.{Source}

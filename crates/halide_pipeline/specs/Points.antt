@@ -14,7 +14,8 @@ use Rattle.halide_pipeline.specs.declared.expressions.Source.TheVariants as sour
 use Rattle.halide_pipeline.specs.declared.definitions.Update.{Update}
 use Rattle.halide_pipeline.specs.declared.definitions.Func.{Func}
 use Rattle.halide_pipeline.specs.declared.environments.Environment.{Environment}
-use Rattle.halide_pipeline.specs.Pixel.{Plane, Planes, Reads, value, value_at, reads_of, with_plane, at_point, at_reduction, points, is_hit, after, stage, pixels}
+use Rattle.halide_pipeline.specs.Pixel.{Plane, Planes, Reads, value, value_at, reads_of, with_plane, at_point, at_reduction, points, is_hit, after, stage}
+use Rattle.halide_pipeline.specs.Pixel.{pixels}
 
 -- a point of a source
 pub record Point : Type 0 where
@@ -111,7 +112,8 @@ after_all_trace own (Some update) inputs earlier traces before trace = after_tra
 unfoldable pub stage_trace : ℕ → Func → Planes → Planes → Trace → ℕ → ℕ → ℕ → List Point
 stage_trace own func inputs earlier traces zero x y = traced traces (points_read (reads_of inputs earlier) (at_point x y) func.pure)
 stage_trace own func inputs earlier traces (suc updates) x y =
-    after_all_trace own (slice_get func.updates updates) inputs earlier traces (stage own func inputs earlier updates) (stage_trace own func inputs earlier traces updates) x y
+    after_all_trace own (slice_get func.updates updates) inputs earlier traces (stage own func inputs earlier updates) (stage_trace own func inputs earlier
+    traces updates) x y
 
 -- what the pixels read that stand after all updates; nothing where there is no Func
 abbrev pub func_trace : ℕ → Option Func → Planes → Planes → Trace → ℕ → ℕ → List Point
@@ -122,7 +124,8 @@ func_trace own (Some func) inputs earlier traces x y = stage_trace own func inpu
 unfoldable pub pixel_trace : List Func → Planes → ℕ → Trace
 pixel_trace funcs inputs zero = untraced
 pixel_trace funcs inputs (suc count) =
-    with_trace count (func_trace count (slice_get funcs count) inputs (pixels funcs inputs count) (pixel_trace funcs inputs count)) (pixel_trace funcs inputs count)
+    with_trace count (func_trace count (slice_get funcs count) inputs (pixels funcs inputs count) (pixel_trace funcs inputs count)) (pixel_trace funcs inputs
+    count)
 
 -- what a pixel of the Func at a place reads itself, also where it stood after fewer updates
 abbrev pub direct_trace : List Func → Planes → Trace
@@ -188,7 +191,8 @@ pub record ReadsHold (test : Point → Bool) (place : ℕ) (func : Func) (inputs
       → Hold test (left_points (reads_of inputs earlier) (at_reduction update number x y) update)
   pub right : (at : ℕ) (update : Update) → slice_get func.updates at ≡ Some update → (number x y : ℕ) → number < points update
       → test (record { source = sources.Func place; x = x; y = y }) ≡ true → is_hit (reads_of inputs earlier) update (at_reduction update number x y) ≡ true
-      → Hold test (points_read (reads_of inputs (with_plane place (after place update inputs earlier (stage place func inputs earlier at) number) earlier)) (at_reduction update number x y) update.right)
+      → Hold test (points_read (reads_of inputs (with_plane place (after place update inputs earlier (stage place func inputs earlier at) number) earlier))
+      (at_reduction update number x y) update.right)
 
 -- Then all that its pixels read themselves passes.
 abbrev pub DefinitionsHoldReads : Type 0

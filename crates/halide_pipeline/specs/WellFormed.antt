@@ -1,6 +1,7 @@
 -- What every pipeline keeps.
 -- This project's own.
-use Rattle.std.specs.Prelude.{◌≡◌, ℕ, suc, ◌*◌, ◌==◌, ◌&&◌, ◌||◌, Bool, true, false, not, nat_le, nat_lt, IsTrue, List, [], ◌∷◌, length, slice_get, Option, Some, None, is_some}
+use Rattle.std.specs.Prelude.{◌≡◌, ℕ, suc, ◌*◌, ◌==◌, ◌&&◌, ◌||◌, Bool, true, false, not, nat_le, nat_lt, IsTrue, List, [], ◌∷◌, length, slice_get, Option}
+use Rattle.std.specs.Prelude.{Some, None, is_some}
 use Rattle.std.specs.Str.{bytes_eq}
 use Rattle.halide_pipeline.specs.declared.definitions.Func.{Func}
 use Rattle.halide_pipeline.specs.declared.definitions.Input.{Input}
@@ -206,7 +207,8 @@ placed_at place first second (layer.Select c a b) = placed (c.stays && (a.stays 
 placed_at place first second (layer.Call1 s a) =
     placed (a.stays && (not (is_own_call place s) || (not first || is_alone variables.FirstArgument a.alone)))
 placed_at place first second (layer.Call2 s a b) =
-    placed ((a.stays && b.stays) && (not (is_own_call place s) || ((not first || is_alone variables.FirstArgument a.alone) && (not second || is_alone variables.SecondArgument b.alone))))
+    placed ((a.stays && b.stays) && (not (is_own_call place s) || ((not first || is_alone variables.FirstArgument a.alone)
+    && (not second || is_alone variables.SecondArgument b.alone))))
 
 -- all levels
 unfoldable pub calls_in_place : ℕ → Bool → Bool → Expr → Placed

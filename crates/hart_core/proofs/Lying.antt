@@ -28,31 +28,54 @@ module _ (bytes : ℕ) where
   first-lies widths.Bits16 address others l = grind (arith, nat_tests, l.inside)
   first-lies widths.Bits32 address others l = grind (arith, nat_tests, l.inside)
 
-  pub others-lie : (w : ElementWidth) (address others : ℕ) → LiesInData bytes w address (suc others) → LiesInData bytes w (address + bytes_in (size_of w)) others
-  others-lie widths.Bits8 address others l = record { aligned = omega arith; inside = grind (arith, nat_tests, l.inside); below = let q = l.below in omega (arith, q) }
-  others-lie widths.Bits16 address others l = record { aligned = let q = l.aligned in omega (arith, q); inside = grind (arith, nat_tests, l.inside); below = let q = l.below in omega (arith, q) }
-  others-lie widths.Bits32 address others l = record { aligned = let q = l.aligned in omega (arith, q); inside = grind (arith, nat_tests, l.inside); below = let q = l.below in omega (arith, q) }
+  pub others-lie : (w : ElementWidth) (address others : ℕ) → LiesInData bytes w address (suc others)
+      → LiesInData bytes w (address + bytes_in (size_of w)) others
+  others-lie widths.Bits8 address others l = record {
+    aligned = omega arith;
+    inside = grind (arith, nat_tests, l.inside);
+    below = let q = l.below in
+        omega (arith, q);
+  }
+  others-lie widths.Bits16 address others l = record {
+    aligned = let q = l.aligned in omega (arith, q);
+    inside = grind (arith, nat_tests, l.inside);
+    below =
+        let q = l.below in omega (arith, q);
+  }
+  others-lie widths.Bits32 address others l = record {
+    aligned = let q = l.aligned in omega (arith, q);
+    inside = grind (arith, nat_tests, l.inside);
+    below =
+        let q = l.below in omega (arith, q);
+  }
 
-  write-free : (words : ℕ) (w : ElementWidth) (address others : ℕ) → LiesInData bytes w address (suc others) → fault_of words bytes Writes address (bytes_in (size_of w)) ≡ None
+  write-free : (words : ℕ) (w : ElementWidth) (address others : ℕ) → LiesInData bytes w address (suc others)
+      → fault_of words bytes Writes address (bytes_in (size_of w)) ≡ None
   write-free words w address others l = let a = l.aligned in let i = first-lies w address others l in search (a, i)
 
-  read-free : (words : ℕ) (w : ElementWidth) (address others : ℕ) → LiesInData bytes w address (suc others) → fault_of words bytes Reads address (bytes_in (size_of w)) ≡ None
+  read-free : (words : ℕ) (w : ElementWidth) (address others : ℕ) → LiesInData bytes w address (suc others)
+      → fault_of words bytes Reads address (bytes_in (size_of w)) ≡ None
   read-free words w address others l =
       let size = bytes_in (size_of w) in
       let a = l.aligned in
-      let c : covers_load words bytes address size ≡ true = ap (λ t. in_text words address size || t) (first-lies w address others l) ∙ or-true (in_text words address size) in
+      let c : covers_load words bytes address size ≡ true = ap (λ t. in_text words address size || t) (first-lies w address others l)
+      ∙ or-true (in_text words address size) in
       search (a, c)
 
-  pub writes-free : (words : ℕ) (w : ElementWidth) (address others : ℕ) → LiesInData bytes w address others → first_fault words bytes Writes (accesses_at w (addresses_from w address others)) ≡ None
+  pub writes-free : (words : ℕ) (w : ElementWidth) (address others : ℕ) → LiesInData bytes w address others
+      → first_fault words bytes Writes (accesses_at w (addresses_from w address others)) ≡ None
   writes-free words w address zero l = refl
   writes-free words w address (suc others) l =
-      ap (λ t. or_else t (first_fault words bytes Writes (accesses_at w (addresses_from w (address + bytes_in (size_of w)) others)))) (write-free words w address others l)
+      ap (λ t. or_else t (first_fault words bytes Writes (accesses_at w (addresses_from w (address + bytes_in (size_of w)) others))))
+      (write-free words w address others l)
       ∙ writes-free words w (address + bytes_in (size_of w)) others (others-lie w address others l)
 
-  pub reads-free : (words : ℕ) (w : ElementWidth) (address others : ℕ) → LiesInData bytes w address others → first_fault words bytes Reads (accesses_at w (addresses_from w address others)) ≡ None
+  pub reads-free : (words : ℕ) (w : ElementWidth) (address others : ℕ) → LiesInData bytes w address others
+      → first_fault words bytes Reads (accesses_at w (addresses_from w address others)) ≡ None
   reads-free words w address zero l = refl
   reads-free words w address (suc others) l =
-      ap (λ t. or_else t (first_fault words bytes Reads (accesses_at w (addresses_from w (address + bytes_in (size_of w)) others)))) (read-free words w address others l)
+      ap (λ t. or_else t (first_fault words bytes Reads (accesses_at w (addresses_from w (address + bytes_in (size_of w)) others)))) (read-free words w address
+      others l)
       ∙ reads-free words w (address + bytes_in (size_of w)) others (others-lie w address others l)
 
 -- ---- all elements

@@ -1,5 +1,6 @@
 -- Elements that are moved four by four, one behind the other in data: that each lies there, and what four leave.
-use Rattle.std.proofs.Common.{◌≡◌, ℕ, zero, suc, ◌+◌, ◌-◌, ◌*◌, ◌/◌, ◌^◌, ◌<◌, ◌≤◌, List, [], ◌∷◌, length, map, true, false, refl, sym, ◌∙◌, ap, subst, arith, ◌&&◌}
+use Rattle.std.proofs.Common.{◌≡◌, ℕ, zero, suc, ◌+◌, ◌-◌, ◌*◌, ◌/◌, ◌^◌, ◌<◌, ◌≤◌, List, [], ◌∷◌, length, map, true, false, refl, sym, ◌∙◌, ap, subst, arith}
+use Rattle.std.proofs.Common.{◌&&◌}
 use Rattle.std.specs.Prelude.{replicate, nat_lt, nat_le}
 use Rattle.std.specs.List.{range_with_len}
 use Rattle.std.proofs.Math.ListN.{length-set}
@@ -36,12 +37,13 @@ module _ (bytes : ℕ) (w : ElementWidth) (address others : ℕ) (some : 0 < oth
   behind = others-lie bytes w _ _ fourth
 
 -- those behind the first four
-module _ (bytes : ℕ) (w : ElementWidth) (address others b : ℕ) (e : b ≡ bytes_in (size_of w)) (some : 0 < others) (l : LiesInData bytes w address (4 * others)) where
-  pub next-lie : LiesInData bytes w (address + 4 * b) (4 * (others - 1))
-  next-lie =
-      let z = bytes_in (size_of w) in
-      let place : address + z + z + z + z ≡ address + 4 * b = omega (arith, e) in
-      subst (λ a. LiesInData bytes w a (4 * (others - 1))) place (behind bytes w address others some l)
+module _ (bytes : ℕ) (w : ElementWidth) (address others b : ℕ) (e : b ≡ bytes_in (size_of w)) (some : 0 < others) (l : LiesInData bytes w address (4 * others))
+  where
+    pub next-lie : LiesInData bytes w (address + 4 * b) (4 * (others - 1))
+    next-lie =
+        let z = bytes_in (size_of w) in
+        let place : address + z + z + z + z ≡ address + 4 * b = omega (arith, e) in
+        subst (λ a. LiesInData bytes w a (4 * (others - 1))) place (behind bytes w address others some l)
 
 -- ---- what four leave
 
@@ -56,7 +58,8 @@ others-filled w v f state i a n = filled_from i state (bits_of w) v (replicate n
 loaded-four : (state : Vectors) (w : ElementWidth) (v address quad others : ℕ) (f : Access → ℕ) → 0 < others
     → filled_from (4 * quad) state (bits_of w) v (replicate (4 * others) true) (map f (accesses_at w (addresses_from w address (4 * others))))
     ≡ others-filled w v f
-    (at w v f (at w v f (at w v f (at w v f state (4 * quad) address) (4 * quad + 1) (address + bytes_in (size_of w))) (4 * quad + 2) (address + bytes_in (size_of w) + bytes_in (size_of w)))
+    (at w v f (at w v f (at w v f (at w v f state (4 * quad) address) (4 * quad + 1) (address + bytes_in (size_of w))) (4 * quad + 2)
+    (address + bytes_in (size_of w) + bytes_in (size_of w)))
     (4 * quad + 3) (address + bytes_in (size_of w) + bytes_in (size_of w) + bytes_in (size_of w)))
     (4 * (quad + 1)) (address + bytes_in (size_of w) + bytes_in (size_of w) + bytes_in (size_of w) + bytes_in (size_of w)) (4 * (others - 1))
 loaded-four state w v address quad others f some =
@@ -78,7 +81,8 @@ filled-next : (state : Vectors) (w : ElementWidth) (v b address quad others : �
     ≡ others-filled w v f state (4 * quad) address (4 * others)
 filled-next state w v b address quad others f e some =
     let z = bytes_in (size_of w) in
-    let n : Vectors = at w v f (at w v f (at w v f (at w v f state (4 * quad) address) (4 * quad + 1) (address + z)) (4 * quad + 2) (address + z + z)) (4 * quad + 3) (address + z + z + z) in
+    let n : Vectors = at w v f (at w v f (at w v f (at w v f state (4 * quad) address) (4 * quad + 1) (address + z)) (4 * quad + 2) (address + z + z))
+    (4 * quad + 3) (address + z + z + z) in
     let one : others-filled w v f state (4 * quad) address 4 ≡ n = loaded-four state w v address quad 1 f (omega arith) in
     let place : address + 4 * b ≡ address + z + z + z + z = omega (arith, e) in
     ap (λ s. others-filled w v f s (4 * (quad + 1)) (address + 4 * b) (4 * (others - 1))) one
@@ -105,7 +109,8 @@ length-stored memory memory' size a n e = ap length e ∙ length-put memory (pla
 
 -- so many elements that are stored from an element and an address on
 abbrev others-put : ElementWidth → (ℕ → ℕ) → List ℕ → ℕ → ℕ → ℕ → List ℕ
-others-put w f memory i a n = put memory (touched (accesses_at w (addresses_from w a n))) (spread (accesses_at w (addresses_from w a n)) (map f (range_with_len i n)))
+others-put w f memory i a n = put memory (touched (accesses_at w (addresses_from w a n))) (spread (accesses_at w (addresses_from w a n))
+    (map f (range_with_len i n)))
 
 put-next : (w : ElementWidth) (f : ℕ → ℕ) (memory : List ℕ) (i a n : ℕ)
     → others-put w f memory i a (suc n) ≡ others-put w f (put_number memory (size_of w) a (f i)) (i + 1) (a + bytes_in (size_of w)) n
@@ -155,9 +160,11 @@ put-more w f b address quad others memory e some =
     ∙ sym (stored-four memory w address quad others f some)
 
 -- a memory after four are stored has as many bytes as before
-pub length-four : (memory memory' : List ℕ) (w : ElementWidth) (f : ℕ → ℕ) (address quad : ℕ) → memory' ≡ others-put w f memory (4 * quad) address 4 → length memory' ≡ length memory
+pub length-four : (memory memory' : List ℕ) (w : ElementWidth) (f : ℕ → ℕ) (address quad : ℕ) → memory' ≡ others-put w f memory (4 * quad) address 4
+    → length memory' ≡ length memory
 length-four memory memory' w f address quad e =
-    ap length e ∙ length-put memory (touched (accesses_at w (addresses_from w address 4))) (spread (accesses_at w (addresses_from w address 4)) (map f (range_with_len (4 * quad) 4)))
+    ap length e ∙ length-put memory (touched (accesses_at w (addresses_from w address 4))) (spread (accesses_at w (addresses_from w address 4))
+    (map f (range_with_len (4 * quad) 4)))
 
 -- ---- the same of states that follow each other
 
@@ -203,4 +210,5 @@ quads g (suc (suc (suc k))) l = absurd (omega (arith, l))
 pub count-quads : (state : Vectors) → has_vill state ≡ false → 4 * (count state / 4) ≡ count state
 count-quads state e =
     quads (group_of state.vtype) (vsew_of state.vtype)
-    (leb-true (vsew_of state.vtype) 2 (and_parts (nat_lt state.vtype 256 && nat_le (vlmul_of state.vtype) 2) (nat_le (vsew_of state.vtype) 2) (not-false (is_supported state.vtype) e)).1)
+    (leb-true (vsew_of state.vtype) 2 (and_parts (nat_lt state.vtype 256 && nat_le (vlmul_of state.vtype) 2) (nat_le (vsew_of state.vtype) 2)
+    (not-false (is_supported state.vtype) e)).1)

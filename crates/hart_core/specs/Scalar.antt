@@ -11,7 +11,8 @@ use Rattle.rv_insn.specs.declared.outcomes.Trap.TheVariants.{IllegalInstruction,
 use Rattle.rv_insn.specs.declared.outcomes.Outcome.{Outcome}
 use Rattle.rv_insn.specs.declared.outcomes.Outcome.TheVariants.{Stepped, Finished}
 use Rattle.rv_insn.specs.declared.instructions.Insn.{Insn}
-use Rattle.rv_insn.specs.declared.instructions.Insn.TheVariants.{Lui, Auipc, Jal, Jalr, Branch, Load, Store, AluImm, Shift, Alu, AmoaddW, Fence, Ecall, Ebreak, Vector}
+use Rattle.rv_insn.specs.declared.instructions.Insn.TheVariants.{Lui, Auipc, Jal, Jalr, Branch, Load, Store, AluImm, Shift, Alu, AmoaddW, Fence, Ecall, Ebreak}
+use Rattle.rv_insn.specs.declared.instructions.Insn.TheVariants.{Vector}
 use Rattle.rv_insn.specs.declared.operations.BranchOp.{BranchOp}
 use Rattle.memory.specs.Access.{Size, Word, Kind, NoAccess, Reads, Writes, Updates, Access, access_at, Byte, Half}
 use Rattle.hart_core.specs.declared.harts.Status.TheVariants.{Finished as HasFinished}

@@ -1,7 +1,8 @@
 //! What the scalar instructions compute, from the numbers of registers and immediates.
 
 ghost use Rattle.std.specs.Prelude.{◌≡◌};
-ghost use Rattle.hart_core.specs.Scalar.{computed as computed_of, computed_with_immediate as computed_with_immediate_of};
+ghost use Rattle.hart_core.specs.Scalar.{computed as computed_of};
+ghost use Rattle.hart_core.specs.Scalar.{computed_with_immediate as computed_with_immediate_of};
 ghost use Rattle.hart_core.specs.Scalar.{shifted as shifted_of, is_taken as is_taken_of, extended};
 
 use lanes::LaneKind;

@@ -18,7 +18,8 @@ use Rattle.hrv_engines.specs.Replay.{IsRefusedReplay, IsReplay}
 use Rattle.hrv_engines.specs.Run as run
 use Rattle.hrv_engines.specs.declared.explain.TheConstants.{VERSION}
 use Rattle.hrv_refusals.specs.Explanations.{explanation}
-use Rattle.hrv_command_line.specs.CommandLine.{Asked, Replays, Debugs, Blames, Assembles, Lists, ListsAddresses, Renews, Draws, Compiles, Maps, Runs, Resumes, Explains, TellsVersion}
+use Rattle.hrv_command_line.specs.CommandLine.{Asked, Replays, Debugs, Blames, Assembles, Lists, ListsAddresses, Renews, Draws, Compiles, Maps, Runs, Resumes}
+use Rattle.hrv_command_line.specs.CommandLine.{Explains, TellsVersion}
 
 -- a fact of some device at this place, by its state before and after
 abbrev pub At : {S : Type 0} → (S → List ℕ) → List ℕ → (S → S → Type 0) → Type 0
@@ -80,7 +81,8 @@ module _ {R W T P : Type 0}
   Does alloc (Compiles algorithm schedule image inputs) result =
       OrMemory result (At read_at algorithm (λ s t. At read_at schedule (λ u v. AtEach read_at inputs (λ x y. At written_at image (λ o p.
       Performs (IsCompilation alloc) (IsRefusedCompilation alloc)
-      (both (both (algorithm_text_of read_at read_failed gave ended s t) (text_of read_at read_failed gave ended u v)) (picture_texts_of read_at read_failed gave ended x y))
+      (both (both (algorithm_text_of read_at read_failed gave ended s t) (text_of read_at read_failed gave ended u v)) (picture_texts_of read_at read_failed
+      gave ended x y))
       (sink_of written_at write_failed stored o p) result)))))
   Does alloc (Maps algorithm schedule) result =
       At read_at algorithm (λ s t. At read_at schedule (λ u v. At printed_at dash (λ o p.

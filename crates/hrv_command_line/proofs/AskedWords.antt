@@ -7,9 +7,13 @@ use Rattle.clap.specs.Walk.{Row, Text, rows_after, first_of}
 use Rattle.clap.specs.Simple.{subcommand_of}
 use Rattle.clap.specs.Kinds.{Kinds}
 use Rattle.clap.specs.Faults.{fault_of}
-use Rattle.hrv_command_line.specs.CommandLine.{Asked, Assembles, Blames, Debugs, Draws, Explains, IsSpelled, IsWithinLimits, Maps, Renews, Replays, TellsVersion, asked_in, asked_of, asm_of, compile_of, debug_of, explain_of, hrv_app, if_known, is_version_flag, map_of, named as named_in_all, named_by_clap as named, picture_of, renew_of, replay_of, run_from, unless_fault, unmarked}
+use Rattle.hrv_command_line.specs.CommandLine.{Asked, Assembles, Blames, Debugs, Draws, Explains, IsSpelled, IsWithinLimits, Maps, Renews, Replays}
+use Rattle.hrv_command_line.specs.CommandLine.{TellsVersion, asked_in, asked_of, asm_of, compile_of, debug_of, explain_of, hrv_app, if_known, is_version_flag}
+use Rattle.hrv_command_line.specs.CommandLine.{map_of, named as named_in_all, named_by_clap as named, picture_of, renew_of, replay_of, run_from, unless_fault}
+use Rattle.hrv_command_line.specs.CommandLine.{unmarked}
 use Rattle.hrv_command_line.proofs.Positionals.{takes_all}
-use Rattle.hrv_command_line.proofs.Subcommands.{IsName, first_is_name, is_asm, is_blame, is_compile, is_debug, is_dis, is_explain, is_map, is_picture, is_renew, is_replay, is_run, is_version, name_given, name_passes}
+use Rattle.hrv_command_line.proofs.Subcommands.{IsName, first_is_name, is_asm, is_blame, is_compile, is_debug, is_dis, is_explain, is_map, is_picture, is_renew}
+use Rattle.hrv_command_line.proofs.Subcommands.{is_replay, is_run, is_version, name_given, name_passes}
 use Rattle.hrv_command_line.proofs.ReplayWords as replay
 use Rattle.hrv_command_line.proofs.DebugWords as debug
 use Rattle.hrv_command_line.proofs.AsmWords as asm

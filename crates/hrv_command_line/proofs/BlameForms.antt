@@ -36,7 +36,8 @@ named_by : (words : List Text) (end : Walk) (asked : Asked) → Passes (walk_fro
 named_by words end asked passes ends asks known =
     let held_is : (fold (walked leaf.rules []) (walk_from nothing_held) words).held ≡ end.held = ap (λ (w : Walk). w.held) passes.1 in
     let free : level_fault leaf [] nothing_held words false [] ≡ [] = ap₂ or_else passes.0 (ap (end_fault leaf) held_is ∙ ends) in
-    ap (option_and_then if_known) (ap (λ kinds. unless_fault kinds (option_and_then asked_of (subcommand_of hrv_app (codes "blame" ∷ words)))) (name_free blame_command words free)
+    ap (option_and_then if_known) (ap (λ kinds. unless_fault kinds (option_and_then asked_of (subcommand_of hrv_app (codes "blame" ∷ words))))
+    (name_free blame_command words free)
     ∙ ap (option_and_then asked_of) (name_given blame_command words) ∙ ap (λ h. blame_of (finished leaf.rules h)) held_is ∙ asks) ∙ known
 
 -- ---- what is held
@@ -65,7 +66,8 @@ with_flag image log = held (row (codes "IMAGE") image ∷ row (codes "LOG") log 
 -- ---- its words, one after the other
 
 -- a plain word is the argument at its place
-word_quiet : (position : ℕ) (h : Held) (word : Text) → step_fault leaf position h value ≡ [] → IsPlainWord word → turn_fault leaf [] (at false idle position h) word ≡ []
+word_quiet : (position : ℕ) (h : Held) (word : Text) → step_fault leaf position h value ≡ [] → IsPlainWord word
+    → turn_fault leaf [] (at false idle position h) word ≡ []
 word_quiet position h word fits plain =
     let met = plain_met leaf idle is_idle position word h plain in
     ap₂ or_else met.0 (ap (λ (m : Held × Step). step_fault leaf position m.0 m.1) met.1 ∙ fits)
@@ -73,10 +75,12 @@ word_quiet position h word fits plain =
 word_moves : (position : ℕ) (h : Held) (word : Text) → IsPlainWord word
     → walked leaf.rules [] (at false idle position h) word ≡ after_step leaf.rules word (at false idle position h) h value
 unfolding walked
-word_moves position h word plain = ap (λ (m : Held × Step). after_step leaf.rules word (at false idle position h) m.0 m.1) (plain_met leaf idle is_idle position word h plain).1
+word_moves position h word plain = ap (λ (m : Held × Step). after_step leaf.rules word (at false idle position h) m.0 m.1) (plain_met leaf idle is_idle position
+    word h plain).1
 
 module _ (image log : Text) (image_plain : IsPlainWord image) (log_plain : IsPlainWord log) where
-  files_pass : (rest : List Text) (to : Walk) → Passes (at false idle 3 (with_files image log)) rest to → Passes (walk_from nothing_held) (image ∷ log ∷ rest) to
+  files_pass : (rest : List Text) (to : Walk) → Passes (at false idle 3 (with_files image log)) rest to
+      → Passes (walk_from nothing_held) (image ∷ log ∷ rest) to
   files_pass rest to passes =
       one_further _ _ to image (log ∷ rest) (word_quiet 1 nothing_held image refl image_plain) (word_moves 1 nothing_held image image_plain)
       (one_further _ _ to log rest (word_quiet 2 (with_image image) log refl log_plain) (word_moves 2 (with_image image) log log_plain) passes)
@@ -134,7 +138,8 @@ module _ (image log address : Text) (plain : IsPlainWord address) where
   address_quiet : turn_fault leaf [] (at false idle 3 (with_files image log)) (codes "--address") ≡ []
   address_quiet = refl
 
-  address_waits : walked leaf.rules [] (at false idle 3 (with_files image log)) (codes "--address") ≡ at false (option (codes "address")) 3 (with_address image log [])
+  address_waits : walked leaf.rules [] (at false idle 3 (with_files image log)) (codes "--address") ≡ at false (option (codes "address")) 3
+      (with_address image log [])
   unfolding walked
   address_waits = refl
 
@@ -143,7 +148,8 @@ module _ (image log address : Text) (plain : IsPlainWord address) where
       ap₂ or_else (text_fault (codes "address") 3 (with_address image log []) address plain)
       (ap (λ (m : Held × Step). step_fault leaf 3 m.0 m.1) (text_met (codes "address") 3 (with_address image log []) address plain))
 
-  address_read : walked leaf.rules [] (at false (option (codes "address")) 3 (with_address image log [])) address ≡ at false idle 3 (with_address image log (address ∷ []))
+  address_read : walked leaf.rules [] (at false (option (codes "address")) 3 (with_address image log [])) address
+      ≡ at false idle 3 (with_address image log (address ∷ []))
   unfolding walked
   address_read =
       ap (λ (m : Held × Step). after_step leaf.rules address (at false (option (codes "address")) 3 (with_address image log [])) m.0 m.1)
@@ -161,5 +167,6 @@ module _ (image log address : Text) (plain : IsPlainWord address) where
   pub address_blame : IsPlainWord image → IsPlainWord log
       → named (codes "blame" ∷ image ∷ log ∷ codes "--address" ∷ address ∷ []) ≡ Some (Blames image log None None (Some address) false)
   address_blame image_plain log_plain =
-      named_by (image ∷ log ∷ codes "--address" ∷ address ∷ []) (at false idle 3 (with_address image log (address ∷ []))) (Blames image log None None (Some address) false)
+      named_by (image ∷ log ∷ codes "--address" ∷ address ∷ []) (at false idle 3 (with_address image log (address ∷ []))) (Blames image log None None
+      (Some address) false)
       (files_pass image log image_plain log_plain _ _ address_passes) address_end refl refl

@@ -1,18 +1,23 @@
 -- The words that `clap` takes for blame: two files, the numbers of a pixel, an address, and a flag.
-use Rattle.std.proofs.Common.{◌≡◌, ◌∙◌, ◌&&◌, ◌||◌, ◌==◌, ◌⊎◌, ◌+◌, ℕ, arith, Bool, cond, codes, true, false, true≢false, ne_eqb, length, suc, refl, sym, ap, subst, List, [], ◌∷◌, ◌++◌, Option, Some, None, inl, inr}
+use Rattle.std.proofs.Common.{◌≡◌, ◌∙◌, ◌&&◌, ◌||◌, ◌==◌, ◌⊎◌, ◌+◌, ℕ, arith, Bool, cond, codes, true, false, true≢false, ne_eqb, length, suc, refl, sym, ap}
+use Rattle.std.proofs.Common.{subst, List, [], ◌∷◌, ◌++◌, Option, Some, None, inl, inr}
 use Rattle.std.specs.Prelude.{find, fold, if◌then◌else◌, min, not, is_some, option_and_then, option_map, slice_get}
 use Rattle.std.specs.List.{AllByRecursion}
 use Rattle.std.specs.Option.{option_map_or}
 use Rattle.std.specs.Str.{bytes_eq}
 use Rattle.clap.proofs.OnLiterals.{clap_on_literals}
 use Rattle.clap.specs.Lexer.{long_of, short_of, usize_max}
-use Rattle.clap.specs.Walk.{Held, Row, Rule, Step, Text, Waiting, Walk, after_flag, after_step, arg_by_index, arg_by_long, at_row, default_rows, has_row, idle, is_pending, long_met, long_or_other, long_word, more_values, next, nothing_held, option, plain_word, pushed, reacted, first_of, one_of, reading_by, row_text, rows_after, settled, subcommand_met, to_positional, trailing, used, value, walk_from, walked, with_default, without, word_met}
+use Rattle.clap.specs.Walk.{Held, Row, Rule, Step, Text, Waiting, Walk, after_flag, after_step, arg_by_index, arg_by_long, at_row, default_rows, has_row, idle}
+use Rattle.clap.specs.Walk.{is_pending, long_met, long_or_other, long_word, more_values, next, nothing_held, option, plain_word, pushed, reacted, first_of}
+use Rattle.clap.specs.Walk.{one_of, reading_by, row_text, rows_after, settled, subcommand_met, to_positional, trailing, used, value, walk_from, walked}
+use Rattle.clap.specs.Walk.{with_default, without, word_met}
 use Rattle.clap.specs.Facts.{explicit_source}
 use Rattle.clap.specs.Words.{new_rule}
 use Rattle.clap.specs.Simple.{Shape, built_leaf, filled, help_rule, inherited, marked_built, with_index, with_leaf_noted}
 use Rattle.clap.specs.Takes.{is_given}
 use Rattle.clap.specs.Kinds.{range_kinds}
-use Rattle.clap.specs.Faults.{defaults_fault, flag_word_fault, level_fault, long_fault, positional_fault, react_fault, repeat_fault, settle_fault, stray_fault, step_fault, turn_fault, use_fault, walk_fault, word_fault}
+use Rattle.clap.specs.Faults.{defaults_fault, flag_word_fault, level_fault, long_fault, positional_fault, react_fault, repeat_fault, settle_fault, stray_fault}
+use Rattle.clap.specs.Faults.{step_fault, turn_fault, use_fault, walk_fault, word_fault}
 use Rattle.clap.specs.declared.builder.value_parser.Reading.TheVariants.{AsWritten}
 use Rattle.clap.specs.declared.parser.matches.ValueSource.TheVariants.{CommandLine, DefaultValue}
 use Rattle.clap.specs.declared.error.ErrorKind.TheVariants as kind
@@ -178,7 +183,8 @@ one_value {id} is_address (v ∷ []) rows e = (
   },
 )
 
-fits_used : {id : Text} {a : Rule} → IsArg id a → (values : List Text) (rows : List Row) → AllFit rows → use_fault false a values rows ≡ [] → AllFit (used a values rows)
+fits_used : {id : Text} {a : Rule} → IsArg id a → (values : List Text) (rows : List Row) → AllFit rows → use_fault false a values rows ≡ []
+    → AllFit (used a values rows)
 fits_used {id} {a} arg values rows all e =
     let found = one_value arg values rows e in
     subst (λ vs. AllFit (used a vs rows)) (sym found.1) (subst AllFit (sym (used_once arg found.0 rows found.2)) (one_more rows _ all found.3))
@@ -206,7 +212,8 @@ data IsWaiting : Waiting → Type 0 where
   for_file : IsWaiting idle
   for_option : {id : Text} {a : Rule} → IsArg id a → IsWaiting (option id)
 
-fits_settled : (rows : List Row) (pending : Option (Text × List Text)) → AllFit rows → IsPending pending → settle_fault leaf.rules false (held rows pending) ≡ []
+fits_settled : (rows : List Row) (pending : Option (Text × List Text)) → AllFit rows → IsPending pending → settle_fault leaf.rules false (held rows pending)
+    ≡ []
     → AllFit (settled leaf.rules (held rows pending)).rows
 fits_settled rows _ all nothing e = all
 fits_settled rows _ all (begun is_image values) e = fits_used is_image values rows all e
@@ -270,7 +277,8 @@ module _ (waiting : Waiting) (position : ℕ) (rows : List Row) (pending : Optio
   h = held rows pending
 
   -- the word goes to the argument at its place
-  to_file : (t : Bool) → step_fault leaf position h value ≡ [] → Stands (to_positional leaf.rules (arg_by_index leaf.rules position) word (at t waiting position h) h)
+  to_file : (t : Bool) → step_fault leaf position h value ≡ []
+      → Stands (to_positional leaf.rules (arg_by_index leaf.rules position) word (at t waiting position h) h)
   to_file t e = go (arg_by_index leaf.rules position) (by_index position) e
     where
       to_image : positional_fault leaf.rules false image_rule h ≡ [] → Stands (to_positional leaf.rules (Some image_rule) word (at t waiting position h) h)
@@ -342,7 +350,8 @@ module _ (waiting : Waiting) (position : ℕ) (rows : List Row) (pending : Optio
       go _ beyond bad = absurd (some_fault kind.UnknownArgument [] bad)
 
   -- an option with its text in the same word
-  attached : (a : Rule) → IsArg a.id a → (text : Text) → react_fault leaf.rules false a (text ∷ []) h ≡ [] → StandsBy waiting position h word (reacted leaf.rules a (text ∷ []) h, next idle)
+  attached : (a : Rule) → IsArg a.id a → (text : Text) → react_fault leaf.rules false a (text ∷ []) h ≡ []
+      → StandsBy waiting position h word (reacted leaf.rules a (text ∷ []) h, next idle)
   attached a arg text e _ =
       let parts = both_pass (settle_fault leaf.rules false h) _ e in
       record {
@@ -358,7 +367,8 @@ module _ (waiting : Waiting) (position : ℕ) (rows : List Row) (pending : Optio
       }
 
   -- an option whose text is the next word
-  awaited : (a : Rule) → IsArg a.id a → settle_fault leaf.rules false h ≡ [] → StandsBy waiting position h word (record (settled leaf.rules h) { pending = Some (a.id, []) }, next (option a.id))
+  awaited : (a : Rule) → IsArg a.id a → settle_fault leaf.rules false h ≡ []
+      → StandsBy waiting position h word (record (settled leaf.rules h) { pending = Some (a.id, []) }, next (option a.id))
   awaited a arg e _ = record {
     rows = (settled leaf.rules h).rows;
     pending = Some (a.id, []);
@@ -387,14 +397,17 @@ module _ (waiting : Waiting) (position : ℕ) (rows : List Row) (pending : Optio
         next_for = for_file;
       }
 
-  long_stands : (name : Text) (v : Option Text) → long_fault leaf.rules false (arg_by_long leaf.rules name) v h ≡ [] → StandsBy waiting position h word (long_word leaf.rules waiting word name v h)
+  long_stands : (name : Text) (v : Option Text) → long_fault leaf.rules false (arg_by_long leaf.rules name) v h ≡ []
+      → StandsBy waiting position h word (long_word leaf.rules waiting word name v h)
   long_stands name v e = go (bytes_eq (codes "address") name || false) (bytes_eq (codes "turns") name || false) (bytes_eq (codes "help") name || false) v e
     where
       found : Bool → Bool → Bool → Option Rule
-      found is_address_name is_turns_name is_help = cond is_address_name (Some address_rule) (cond is_turns_name (Some turns_rule) (cond is_help (Some (filled help_rule)) None))
+      found is_address_name is_turns_name is_help = cond is_address_name (Some address_rule) (cond is_turns_name (Some turns_rule)
+          (cond is_help (Some (filled help_rule)) None))
 
       go : (a b c : Bool) (v : Option Text) → long_fault leaf.rules false (found a b c) v h ≡ []
-          → StandsBy waiting position h word (after_flag leaf.rules waiting word (long_met leaf.rules (found a b c) v h).0 (long_met leaf.rules (found a b c) v h).1)
+          → StandsBy waiting position h word (after_flag leaf.rules waiting word (long_met leaf.rules (found a b c) v h).0 (long_met leaf.rules (found a b c) v
+          h).1)
       go true b c (Some text) bad = attached address_rule is_address text bad
       go true b c None bad = awaited address_rule is_address bad
       go false true c (Some text) bad = absurd (some_fault _ _ bad)
@@ -403,7 +416,8 @@ module _ (waiting : Waiting) (position : ℕ) (rows : List Row) (pending : Optio
       go false false false v bad = absurd (some_fault _ _ bad)
 
 plain_stands : (waiting : Waiting) (position : ℕ) (rows : List Row) (pending : Option (Text × List Text)) (word : Text)
-    → AllFit rows → IsPending pending → IsWaiting waiting → StandsBy waiting position (held rows pending) word (plain_word leaf.rules waiting word (held rows pending))
+    → AllFit rows → IsPending pending → IsWaiting waiting
+    → StandsBy waiting position (held rows pending) word (plain_word leaf.rules waiting word (held rows pending))
 plain_stands _ position rows pending word all left_over for_file = to_file idle position rows pending word all left_over false
 plain_stands _ position rows pending word all left_over (for_option arg) = go arg
   where
@@ -423,7 +437,8 @@ plain_stands _ position rows pending word all left_over (for_option arg) = go ar
       next_for = still_waiting b arg;
     }
 
-    go : {id : Text} {a : Rule} → IsArg id a → StandsBy (option id) position (held rows pending) word (plain_word leaf.rules (option id) word (held rows pending))
+    go : {id : Text} {a : Rule} → IsArg id a → StandsBy (option id) position (held rows pending) word (plain_word leaf.rules (option id) word
+        (held rows pending))
     go is_image _ = more _ is_image
     go is_log _ = more _ is_log
     go is_x _ = more _ is_x
@@ -461,11 +476,13 @@ one_turn false waiting position rows pending word all left_over next_for e = by_
         }
     by_mark false other =
         let parts = both_pass (word_fault leaf [] false waiting word h) _ e in
-        let met : word_met leaf.rules [] false waiting position word h ≡ long_or_other leaf.rules waiting word (long_of word) h = rw (unnamed word next_for, other) refl in
+        let met : word_met leaf.rules [] false waiting position word h ≡ long_or_other leaf.rules waiting word (long_of word) h =
+        rw (unnamed word next_for, other) refl in
         let bad : flag_word_fault leaf.rules false (long_of word) word h ≡ [] = rw (unnamed word next_for, other) at parts.0 in
         subst (StandsBy waiting position (held rows pending) word) (sym met) (by_long (long_of word) bad) parts.1
       where
-        by_long : (o : Option (Text × Option Text)) → flag_word_fault leaf.rules false o word h ≡ [] → StandsBy waiting position (held rows pending) word (long_or_other leaf.rules waiting word o h)
+        by_long : (o : Option (Text × Option Text)) → flag_word_fault leaf.rules false o word h ≡ []
+            → StandsBy waiting position (held rows pending) word (long_or_other leaf.rules waiting word o h)
         by_long (Some p) bad = long_stands waiting position rows pending word all left_over p.0 p.1 bad
         by_long None bad =
             subst (StandsBy waiting position (held rows pending) word) (sym (short_met_plain leaf (λ x. refl) waiting word rows pending (short_of word) bad))
@@ -496,7 +513,8 @@ no_default a rows none = go (has_row a.id rows)
 flag_default : (rows : List Row) → AllFit rows → AllFit (with_default rows turns_rule)
 flag_default rows all = go (has_row (codes "turns") rows) refl
   where
-    go : (b : Bool) → has_row (codes "turns") rows ≡ b → AllFit (if b then rows else default_rows (codes "turns") (reading_by turns_rule) turns_rule.defaults rows)
+    go : (b : Bool) → has_row (codes "turns") rows ≡ b → AllFit (if b then rows else default_rows (codes "turns") (reading_by turns_rule) turns_rule.defaults
+        rows)
     go true there = all
     go false none =
         subst AllFit (sym (new_row (codes "turns") (more_values DefaultValue (codes "false" ∷ [])) _ rows none)) (one_more rows _ all (record {
@@ -634,11 +652,20 @@ pub record BlameNeeds (rows : List Row) (asked : Asked) : Type 0 where
 pub blame_needs : (rows : List Row) (asked : Asked) → blame_of rows ≡ Some asked → BlameNeeds rows asked
 blame_needs rows asked is = go (first_of (codes "IMAGE") rows) (first_of (codes "LOG") rows) (is_given_by (one_of (codes "turns") rows)) refl refl refl is
   where
-    go : (i l : Option Text) (f : Option Bool) → first_of (codes "IMAGE") rows ≡ i → first_of (codes "LOG") rows ≡ l → is_given_by (one_of (codes "turns") rows) ≡ f
+    go : (i l : Option Text) (f : Option Bool) → first_of (codes "IMAGE") rows ≡ i → first_of (codes "LOG") rows ≡ l → is_given_by (one_of (codes "turns") rows)
+        ≡ f
         → option_and_then (λ image. option_and_then (λ log. option_map (λ with_turns.
         Blames image log (first_of (codes "X") rows) (first_of (codes "Y") rows) (first_of (codes "address") rows) with_turns) f) l) i ≡ Some asked
         → BlameNeeds rows asked
     go None l f _ _ _ e = absurd (true≢false (sym (ap is_some e)))
     go (Some i) None f _ _ _ e = absurd (true≢false (sym (ap is_some e)))
     go (Some i) (Some l) None _ _ _ e = absurd (true≢false (sym (ap is_some e)))
-    go (Some i) (Some l) (Some f) image_is log_is flag_is e = record { image = i; log = l; with_turns = f; image_is = image_is; log_is = log_is; flag_is = flag_is }
+    go (Some i) (Some l) (Some f) image_is log_is flag_is e = record {
+      image = i;
+      log = l;
+      with_turns = f;
+      image_is = image_is;
+      log_is = log_is;
+      flag_is =
+          flag_is;
+    }

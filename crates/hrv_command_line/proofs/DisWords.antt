@@ -1,16 +1,19 @@
 -- The words that `clap` takes for a listing: a file, and `--addresses` before it or behind it.
-use Rattle.std.proofs.Common.{◌≡◌, ◌∙◌, ◌||◌, ℕ, Bool, cond, codes, true, false, true≢false, refl, sym, ap, ap₂, subst, List, [], ◌∷◌, ◌++◌, append-nil, append_assoc, ◌⊎◌, Option, Some, None, inl, inr}
+use Rattle.std.proofs.Common.{◌≡◌, ◌∙◌, ◌||◌, ℕ, Bool, cond, codes, true, false, true≢false, refl, sym, ap, ap₂, subst, List, [], ◌∷◌, ◌++◌, append-nil}
+use Rattle.std.proofs.Common.{append_assoc, ◌⊎◌, Option, Some, None, inl, inr}
 use Rattle.std.specs.Prelude.{fold}
 use Rattle.std.specs.Str.{bytes_eq}
 use Rattle.clap.proofs.OnLiterals.{clap_on_literals}
 use Rattle.clap.specs.Lexer.{long_of, short_of}
-use Rattle.clap.specs.Walk.{Held, Row, Rule, Step, Text, Walk, after_flag, after_step, arg_by_index, arg_by_long, finished, idle, long_met, long_or_other, long_word, nothing_held, reacted, rows_after, to_positional, value, walk_from, walked, word_met}
+use Rattle.clap.specs.Walk.{Held, Row, Rule, Step, Text, Walk, after_flag, after_step, arg_by_index, arg_by_long, finished, idle, long_met, long_or_other}
+use Rattle.clap.specs.Walk.{long_word, nothing_held, reacted, rows_after, to_positional, value, walk_from, walked, word_met}
 use Rattle.clap.specs.Simple.{Shape, built_leaf, filled, help_rule, inherited, marked_built, with_leaf_noted}
 use Rattle.clap.specs.Kinds.{or_else}
 use Rattle.clap.specs.Faults.{flag_word_fault, level_fault, long_fault, react_fault, step_fault, turn_fault, walk_fault, word_fault}
 use Rattle.clap.specs.declared.builder.value_parser.Reading.TheVariants.{AsWritten}
 use Rattle.clap.specs.declared.parser.matches.ValueSource.TheVariants.{CommandLine}
-use Rattle.hrv_command_line.specs.CommandLine.{Asked, IsPlainWord, IsSpelled, IsWithinLimits, Lists, ListsAddresses, dis_app, dis_of, flag_rule, hrv_app, unmarked}
+use Rattle.hrv_command_line.specs.CommandLine.{Asked, IsPlainWord, IsSpelled, IsWithinLimits, Lists, ListsAddresses, dis_app, dis_of, flag_rule, hrv_app}
+use Rattle.hrv_command_line.specs.CommandLine.{unmarked}
 use Rattle.hrv_command_line.proofs.HelpOnly.{both_pass, held, help_called, is_idle, mark_met, plain_met, short_met_plain, some_fault}
 use Rattle.hrv_command_line.proofs.Positionals.{at, end_fault}
 use Rattle.hrv_command_line.proofs.Subcommands.{IsSubcommand}
@@ -141,7 +144,8 @@ long_reacts s word name v e = go (bytes_eq (codes "addresses") name || false) (b
     found is_flag is_help = cond is_flag (Some addresses_rule) (cond is_help (Some (filled help_rule)) None)
 
     go : (a b : Bool) (v : Option Text) → long_fault leaf.rules false (found a b) v (held_at s) ≡ []
-        → (r : Reacts s) × (goes s word (after_flag leaf.rules idle word (long_met leaf.rules (found a b) v (held_at s)).0 (long_met leaf.rules (found a b) v (held_at s)).1) ≡ stands false r.after)
+        → (r : Reacts s) × (goes s word (after_flag leaf.rules idle word (long_met leaf.rules (found a b) v (held_at s)).0 (long_met leaf.rules (found a b) v
+        (held_at s)).1) ≡ stands false r.after)
     go true b (Some text) bad = absurd (some_fault _ _ bad)
     go true b None bad = let r = reacts s bad in (r, r.is)
     go false true v bad = absurd (help_called leaf.rules false v (held_at s) bad)
@@ -162,7 +166,8 @@ turns false s word e = by_mark (bytes_eq word (codes "--")) refl
     })
     by_mark false other = by_long (long_of word) bad met parts.1
       where
-        parts : (word_fault leaf [] false idle word h ≡ []) × (step_fault leaf (position s) (word_met leaf.rules [] false idle (position s) word h).0 (word_met leaf.rules [] false idle (position s) word h).1 ≡ [])
+        parts : (word_fault leaf [] false idle word h ≡ []) × (step_fault leaf (position s) (word_met leaf.rules [] false idle (position s) word h).0
+            (word_met leaf.rules [] false idle (position s) word h).1 ≡ [])
         parts = both_pass (word_fault leaf [] false idle word h) _ e
 
         met : word_met leaf.rules [] false idle (position s) word h ≡ long_or_other leaf.rules idle word (long_of word) h
@@ -173,7 +178,8 @@ turns false s word e = by_mark (bytes_eq word (codes "--")) refl
 
         by_long : (o : Option (Text × Option Text)) → flag_word_fault leaf.rules false o word h ≡ []
             → word_met leaf.rules [] false idle (position s) word h ≡ long_or_other leaf.rules idle word o h
-            → step_fault leaf (position s) (word_met leaf.rules [] false idle (position s) word h).0 (word_met leaf.rules [] false idle (position s) word h).1 ≡ []
+            → step_fault leaf (position s) (word_met leaf.rules [] false idle (position s) word h).0 (word_met leaf.rules [] false idle (position s) word h).1
+            ≡ []
             → Turns false s word
         by_long (Some p) faultless is fits =
             let r = long_reacts s word p.0 p.1 faultless in

@@ -4,7 +4,8 @@ use Rattle.std.specs.Prelude.{◌==◌, ◌&&◌, option_and_then, drop, encode_
 use Rattle.std.specs.Option.{option_map_or}
 use Rattle.std.specs.Str.{bytes_eq, chars}
 use Rattle.clap.specs.Lexer.{long_of, long_of_rest, short_of, short_of_rest, strip_byte}
-use Rattle.clap.specs.Walk.{Held, after_flag, bundle_met, bundle_step, long_or_other, plain, reacted, short_or_plain, Names, Row, Rule, Text, Waiting, idle, positional, plain_word, value, arg_by_long, arg_by_short, subcommand_met, trailing, word_met}
+use Rattle.clap.specs.Walk.{Held, after_flag, bundle_met, bundle_step, long_or_other, plain, reacted, short_or_plain, Names, Row, Rule, Text, Waiting, idle}
+use Rattle.clap.specs.Walk.{positional, plain_word, value, arg_by_long, arg_by_short, subcommand_met, trailing, word_met}
 use Rattle.clap.specs.Simple.{Shape, filled, help_rule}
 use Rattle.clap.specs.Kinds.{Kinds, or_else}
 use Rattle.clap.specs.declared.error.ErrorKind.{ErrorKind}
@@ -70,16 +71,21 @@ short_refused rules only again x rest h next e = go ((104 == x) || false) (subst
     go false bad = some_fault _ _ bad
 
 -- a word whose flags are none is plain
-none_met : (shape : Shape) → HasHelpShort shape.rules → (waiting : Waiting) (word : Text) (rows : List Row) (pending : Option (Text × List Text)) (x : ℕ) (xs : Text) (o : Option ℕ)
-    → bundle_step_fault shape.rules shape.args_override_self o (x ∷ xs) 0 (held rows pending) (flags_fault shape.rules shape.args_override_self (length xs)) ≡ []
+none_met : (shape : Shape) → HasHelpShort shape.rules → (waiting : Waiting) (word : Text) (rows : List Row) (pending : Option (Text × List Text)) (x : ℕ)
+    (xs : Text) (o : Option ℕ)
+    → bundle_step_fault shape.rules shape.args_override_self o (x ∷ xs) 0 (held rows pending) (flags_fault shape.rules shape.args_override_self (length xs))
+    ≡ []
     → after_flag shape.rules waiting word (bundle_step shape.rules o (x ∷ xs) 0 plain (held rows pending) (bundle_met shape.rules (length xs))).0
-    (bundle_step shape.rules o (x ∷ xs) 0 plain (held rows pending) (bundle_met shape.rules (length xs))).1 ≡ plain_word shape.rules waiting word (held rows pending)
+    (bundle_step shape.rules o (x ∷ xs) 0 plain (held rows pending) (bundle_met shape.rules (length xs))).1 ≡ plain_word shape.rules waiting word
+    (held rows pending)
 none_met shape only waiting word rows pending x xs None e = refl
 none_met shape only waiting word rows pending x xs (Some c) e =
     let rest = drop (length (encode_utf8 c)) (x ∷ xs) in
-    absurd (short_refused shape.rules only shape.args_override_self c rest (held rows pending) (flags_fault shape.rules shape.args_override_self (length xs) rest 0) e)
+    absurd (short_refused shape.rules only shape.args_override_self c rest (held rows pending) (flags_fault shape.rules shape.args_override_self (length xs)
+    rest 0) e)
 
-pub short_met_plain : (shape : Shape) → HasHelpShort shape.rules → (waiting : Waiting) (word : Text) (rows : List Row) (pending : Option (Text × List Text)) (o : Option Text)
+pub short_met_plain : (shape : Shape) → HasHelpShort shape.rules → (waiting : Waiting) (word : Text) (rows : List Row) (pending : Option (Text × List Text))
+    (o : Option Text)
     → option_map_or (λ flags. bundle_fault shape.rules shape.args_override_self flags (held rows pending)) o [] ≡ []
     → short_or_plain shape.rules waiting word o (held rows pending) ≡ plain_word shape.rules waiting word (held rows pending)
 unfolding bundle_met flags_fault
@@ -88,7 +94,8 @@ short_met_plain shape only waiting word rows pending (Some []) e = refl
 short_met_plain shape only waiting word rows pending (Some (x ∷ xs)) e = none_met shape only waiting word rows pending x xs (slice_get (chars (x ∷ xs)) 0) e
 
 -- a word that is no option, no `--` and no subcommand is a value
-pub value_met : (shape : Shape) (names : Names) → HasHelpOnly shape.rules → (waiting : Waiting) → IsFree waiting → (position : ℕ) (word : Text) (rows : List Row) (pending : Option (Text × List Text))
+pub value_met : (shape : Shape) (names : Names) → HasHelpOnly shape.rules → (waiting : Waiting) → IsFree waiting
+    → (position : ℕ) (word : Text) (rows : List Row) (pending : Option (Text × List Text))
     → subcommand_met names waiting word ≡ None → bytes_eq word (codes "--") ≡ false
     → word_fault shape names false waiting word (held rows pending) ≡ []
     → word_met shape.rules names false waiting position word (held rows pending) ≡ (held rows pending, value)

@@ -29,7 +29,8 @@ values_map words algorithm schedule are_plain two =
     ap (option_and_then if_known) (ap (λ kinds. unless_fault kinds (option_and_then asked_of (subcommand_of hrv_app (codes "map" ∷ words)))) pass
     ∙ ap (option_and_then asked_of) (name_given map.map_command words) ∙ rows ∙ ap (λ a. Some a) same)
 
-pub plain_map : (algorithm schedule : Text) → IsPlainWord algorithm → IsPlainWord schedule → named (codes "map" ∷ algorithm ∷ schedule ∷ []) ≡ Some (Maps algorithm schedule)
+pub plain_map : (algorithm schedule : Text) → IsPlainWord algorithm → IsPlainWord schedule → named (codes "map" ∷ algorithm ∷ schedule ∷ [])
+    ≡ Some (Maps algorithm schedule)
 plain_map algorithm schedule algorithm_plain schedule_plain =
     let two = unmarked-plain algorithm (schedule ∷ []) algorithm_plain ∙ ap (λ ws. algorithm ∷ ws) (unmarked-plain schedule [] schedule_plain) in
     values_map (algorithm ∷ schedule ∷ []) algorithm schedule (plain algorithm_plain (plain schedule_plain none)) two

@@ -8,7 +8,9 @@ use Rattle.clap.specs.Lexer.{usize_max}
 use Rattle.clap.specs.Walk.{Row, Text, rows_after}
 use Rattle.clap.specs.Simple.{subcommand_of}
 use Rattle.clap.specs.Faults.{fault_of}
-use Rattle.hrv_command_line.specs.CommandLine.{Asked, Assembles, Compiles, Debugs, Draws, Explains, IsPlainWord, Lists, ListsAddresses, Renews, Replays, TellsVersion, asked_in, asked_of, asm_of, compile_of, debug_of, explain_of, hrv_app, if_known, named_by_clap as named, picture_of, renew_of, replay_of, unless_fault, unmarked}
+use Rattle.hrv_command_line.specs.CommandLine.{Asked, Assembles, Compiles, Debugs, Draws, Explains, IsPlainWord, Lists, ListsAddresses, Renews, Replays}
+use Rattle.hrv_command_line.specs.CommandLine.{TellsVersion, asked_in, asked_of, asm_of, compile_of, debug_of, explain_of, hrv_app, if_known}
+use Rattle.hrv_command_line.specs.CommandLine.{named_by_clap as named, picture_of, renew_of, replay_of, unless_fault, unmarked}
 use Rattle.hrv_command_line.proofs.Positionals.{ArePlain, marked, none, passes_all, plain, takes_all, unmarked-plain}
 use Rattle.hrv_command_line.proofs.Subcommands.{name_free, name_given}
 use Rattle.hrv_command_line.proofs.ReplayWords as replay
@@ -49,7 +51,8 @@ values_replay words image log are_plain two =
     let rows = ap replay_of all.0 ∙ both.3 in
     let same : replayed_in (codes "replay" ∷ both.0 ∷ both.1 ∷ []) ≡ replayed_in (codes "replay" ∷ image ∷ log ∷ []) =
     ap (λ ws. replayed_in (codes "replay" ∷ ws)) (sym both.2 ∙ two) in
-    named_as (codes "replay" ∷ words) (codes "replay") (rows_after replay.leaf.rules [] words) _ pass (name_given replay.replay_command words) (rows ∙ ap (λ a. Some a) same) refl
+    named_as (codes "replay" ∷ words) (codes "replay") (rows_after replay.leaf.rules [] words) _ pass (name_given replay.replay_command words) (rows
+    ∙ ap (λ a. Some a) same) refl
 
 pub plain_replay : (image log : Text) → IsPlainWord image → IsPlainWord log → named (codes "replay" ∷ image ∷ log ∷ []) ≡ Some (Replays image log)
 plain_replay image log image_plain log_plain =
@@ -77,7 +80,8 @@ values_debug words image log are_plain two =
     let rows = ap debug_of all.0 ∙ both.3 in
     let same : talked_in (codes "debug" ∷ both.0 ∷ both.1 ∷ []) ≡ talked_in (codes "debug" ∷ image ∷ log ∷ []) =
     ap (λ ws. talked_in (codes "debug" ∷ ws)) (sym both.2 ∙ two) in
-    named_as (codes "debug" ∷ words) (codes "debug") (rows_after debug.leaf.rules [] words) _ pass (name_given debug.debug_command words) (rows ∙ ap (λ a. Some a) same) refl
+    named_as (codes "debug" ∷ words) (codes "debug") (rows_after debug.leaf.rules [] words) _ pass (name_given debug.debug_command words) (rows
+    ∙ ap (λ a. Some a) same) refl
 
 pub plain_debug : (image log : Text) → IsPlainWord image → IsPlainWord log → named (codes "debug" ∷ image ∷ log ∷ []) ≡ Some (Debugs image log)
 plain_debug image log image_plain log_plain =
@@ -105,7 +109,8 @@ values_asm words source image are_plain two =
     let rows = ap asm_of all.0 ∙ both.3 in
     let same : assembled_in (codes "asm" ∷ both.0 ∷ both.1 ∷ []) ≡ assembled_in (codes "asm" ∷ source ∷ image ∷ []) =
     ap (λ ws. assembled_in (codes "asm" ∷ ws)) (sym both.2 ∙ two) in
-    named_as (codes "asm" ∷ words) (codes "asm") (rows_after asm.leaf.rules [] words) _ pass (name_given asm.asm_command words) (rows ∙ ap (λ a. Some a) same) refl
+    named_as (codes "asm" ∷ words) (codes "asm") (rows_after asm.leaf.rules [] words) _ pass (name_given asm.asm_command words) (rows
+    ∙ ap (λ a. Some a) same) refl
 
 pub plain_asm : (source image : Text) → IsPlainWord source → IsPlainWord image → named (codes "asm" ∷ source ∷ image ∷ []) ≡ Some (Assembles source image)
 plain_asm source image source_plain image_plain =
@@ -133,7 +138,8 @@ values_renew words old new are_plain two =
     let rows = ap renew_of all.0 ∙ both.3 in
     let same : renewed_in (codes "renew" ∷ both.0 ∷ both.1 ∷ []) ≡ renewed_in (codes "renew" ∷ old ∷ new ∷ []) =
     ap (λ ws. renewed_in (codes "renew" ∷ ws)) (sym both.2 ∙ two) in
-    named_as (codes "renew" ∷ words) (codes "renew") (rows_after renew.leaf.rules [] words) _ pass (name_given renew.renew_command words) (rows ∙ ap (λ a. Some a) same) refl
+    named_as (codes "renew" ∷ words) (codes "renew") (rows_after renew.leaf.rules [] words) _ pass (name_given renew.renew_command words) (rows
+    ∙ ap (λ a. Some a) same) refl
 
 pub plain_renew : (old new : Text) → IsPlainWord old → IsPlainWord new → named (codes "renew" ∷ old ∷ new ∷ []) ≡ Some (Renews old new)
 plain_renew old new old_plain new_plain =
@@ -167,7 +173,8 @@ unfolding explain.takes_some
 enough_words words family code (inl both) = ap explain.takes_some.is_enough both
 enough_words words family code (inr one) = ap explain.takes_some.is_enough one.0
 
-asked_words : (words : List Text) (family code : Text) → explain.AreGiven (unmarked words) family code → explain.asked_at (unmarked words) ≡ Some (Explains family code)
+asked_words : (words : List Text) (family code : Text) → explain.AreGiven (unmarked words) family code
+    → explain.asked_at (unmarked words) ≡ Some (Explains family code)
 asked_words words family code (inl both) = ap explain.asked_at both
 asked_words words family code (inr one) = ap explain.asked_at one.0 ∙ ap (λ c. Some (Explains family c)) (sym one.1)
 
@@ -230,7 +237,8 @@ values_picture words algorithm inputs are_plain split fit =
     let found = picture.all_values (unmarked words) enough in
     let rows = ap picture_of all.0 ∙ found.3 in
     let same : drawn_in (found.0 ∷ found.1) ≡ drawn_in (algorithm ∷ inputs) = ap drawn_in (sym found.2 ∙ split) in
-    named_as (codes "picture" ∷ words) (codes "picture") (rows_after picture.leaf.rules [] words) _ pass (name_given picture.picture_command words) (rows ∙ ap (λ a. Some a) same) refl
+    named_as (codes "picture" ∷ words) (codes "picture") (rows_after picture.leaf.rules [] words) _ pass (name_given picture.picture_command words) (rows
+    ∙ ap (λ a. Some a) same) refl
 
 -- all words are plain
 pub all_plain : (words : List Text) → AllByRecursion IsPlainWord words → ArePlain words × (unmarked words ≡ words)
@@ -268,7 +276,8 @@ values_compile words algorithm schedule image inputs are_plain split fit =
     let found = compile.all_values (unmarked words) enough in
     let rows = ap compile_of all.0 ∙ found.is_asked in
     let same : compile.asked found ≡ Compiles algorithm schedule image inputs = ap compiled_in (sym found.split ∙ split) in
-    named_as (codes "compile" ∷ words) (codes "compile") (rows_after compile.leaf.rules [] words) _ pass (name_given compile.compile_command words) (rows ∙ ap (λ a. Some a) same) refl
+    named_as (codes "compile" ∷ words) (codes "compile") (rows_after compile.leaf.rules [] words) _ pass (name_given compile.compile_command words) (rows
+    ∙ ap (λ a. Some a) same) refl
 
 pub plain_compile : (algorithm schedule image : Text) (inputs : List Text) → AllByRecursion IsPlainWord (algorithm ∷ schedule ∷ image ∷ inputs)
     → length inputs ≤ usize_max → named (codes "compile" ∷ algorithm ∷ schedule ∷ image ∷ inputs) ≡ Some (Compiles algorithm schedule image inputs)
@@ -279,4 +288,5 @@ plain_compile algorithm schedule image inputs plains fit =
 pub marked_compile : (algorithm schedule image : Text) (inputs : List Text) → length inputs ≤ usize_max
     → named (codes "compile" ∷ codes "--" ∷ algorithm ∷ schedule ∷ image ∷ inputs) ≡ Some (Compiles algorithm schedule image inputs)
 marked_compile algorithm schedule image inputs fit =
-    values_compile (codes "--" ∷ algorithm ∷ schedule ∷ image ∷ inputs) algorithm schedule image inputs (marked (algorithm ∷ schedule ∷ image ∷ inputs)) refl fit
+    values_compile (codes "--" ∷ algorithm ∷ schedule ∷ image ∷ inputs) algorithm schedule image inputs (marked (algorithm ∷ schedule ∷ image ∷ inputs)) refl
+    fit

@@ -33,7 +33,10 @@ use Rattle.hrv_command_line.specs.Faults.{fault_for}
 use Rattle.hrv_command_line.specs.declared.command_lines.Invocation.{Invocation}
 use Rattle.hrv_command_line.specs.declared.faults.CommandLineFault.{CommandLineFault}
 use Rattle.hrv_command_line.specs.declared.faults.CommandLineFault.TheVariants.{Refused, Memory, Unexplained}
-use Rattle.hrv_command_line.specs.CommandLine.{Asked, Assembles, Blames, Compiles, Debugs, Draws, Explains, IsRefusal, IsSpelled, IsWithinLimits, Makes, Maps, Renews, Replays, asked_in, asked_of, asm_of, blame_of, compile_of, debug_of, dis_of, explain_of, hrv_app, if_known, is_given_by, listing_of, map_of, most_harts, most_turns, named_by_clap as named, number_or, picture_of, renew_of, replay_of, run_from, run_of}
+use Rattle.hrv_command_line.specs.CommandLine.{Asked, Assembles, Blames, Compiles, Debugs, Draws, Explains, IsRefusal, IsSpelled, IsWithinLimits, Makes, Maps}
+use Rattle.hrv_command_line.specs.CommandLine.{Renews, Replays, asked_in, asked_of, asm_of, blame_of, compile_of, debug_of, dis_of, explain_of, hrv_app}
+use Rattle.hrv_command_line.specs.CommandLine.{if_known, is_given_by, listing_of, map_of, most_harts, most_turns, named_by_clap as named, number_or, picture_of}
+use Rattle.hrv_command_line.specs.CommandLine.{renew_of, replay_of, run_from, run_of}
 use Rattle.hrv_command_line.proofs.AskedWords.{Asks, asked_named, fault_of-named, words_ask}
 use Rattle.hrv_command_line.proofs.BlameWords.{blame_needs}
 use Rattle.hrv_command_line.proofs.RunWords.{run_needs}
@@ -77,7 +80,8 @@ read_none f id o gives is = sym (first_value-rows f id) ∙ sym gives ∙ ap (op
 pub is_given : (f : Found) (id : Text) (o : Option (Bor Text)) → option_map (λ s. s.now) o ≡ first_value f id → IsSome (first_of id (rows_of f)) → IsSome o
 is_given f id o gives has = some_of_text (λ s. s.now) o (first_value f id) gives (ap is_some (first_value-rows f id) ∙ has)
 
-both_given : (make : Text → Text → Asked) (image log : Option Text) → IsSome (option_and_then (λ i. option_map (λ l. make i l) log) image) → IsSome image × IsSome log
+both_given : (make : Text → Text → Asked) (image log : Option Text) → IsSome (option_and_then (λ i. option_map (λ l. make i l) log) image)
+    → IsSome image × IsSome log
 both_given make None log e = absurd (true≢false (sym e))
 both_given make (Some i) None e = absurd (true≢false (sym e))
 both_given make (Some i) (Some l) e = (refl, refl)
@@ -123,7 +127,8 @@ pub map_read : (rows : List Row) (algorithm schedule : Text) → first_of (codes
 map_read rows algorithm schedule first second = ap₂ (λ o n. option_and_then (λ x. option_map (λ y. Maps x y) n) o) first second
 
 -- the image of a listing is there, and whether its flag is
-listing_given : (image : Option Text) (flag : Option Bool) → IsSome (option_and_then (λ i. option_map (λ b. listing_of i b) flag) image) → IsSome image × IsSome flag
+listing_given : (image : Option Text) (flag : Option Bool) → IsSome (option_and_then (λ i. option_map (λ b. listing_of i b) flag) image)
+    → IsSome image × IsSome flag
 listing_given None flag e = absurd (true≢false (sym e))
 listing_given (Some i) None e = absurd (true≢false (sym e))
 listing_given (Some i) (Some b) e = (refl, refl)
@@ -139,7 +144,8 @@ dis_read rows image flag first given = ap₂ (λ i f. option_and_then (λ x. opt
 pub flag_read : (f : Found) (id : Text) (r : Bool) → (one_text f id ≡ None → r ≡ false) → (one_text f id ≡ Some (codes "true") → r ≡ true)
     → (one_text f id ≡ Some (codes "false") → r ≡ false) → IsSome (is_given_by (one_of id (rows_of f))) → is_given_by (one_of id (rows_of f)) ≡ Some r
 flag_read f id r none given refused some =
-    subst (λ o. is_given_by o ≡ Some r) (one_text-rows f id) (by_text (one_text f id) refl (subst (λ o. IsSome (is_given_by o)) (sym (one_text-rows f id)) some))
+    subst (λ o. is_given_by o ≡ Some r) (one_text-rows f id) (by_text (one_text f id) refl (subst (λ o. IsSome (is_given_by o)) (sym (one_text-rows f id))
+    some))
   where
     by_tests : (t : Text) (a b : Bool) → one_text f id ≡ Some t → bytes_eq t (codes "true") ≡ a → bytes_eq t (codes "false") ≡ b
         → IsSome (if a then Some true else (if b then Some false else None)) → (if a then Some true else (if b then Some false else None)) ≡ Some r
@@ -204,7 +210,8 @@ pub compile_read : (rows : List Row) (algorithm schedule image : Text) (inputs :
 compile_read rows algorithm schedule image inputs first second third rest = rw (first, second, third, ← rest) refl
 
 -- the values of an argument that takes the words left over
-rest_values : (f : Found) (id : Text) (o : Option (Bor (List (Bor Text)))) → option_map (λ s. map (λ v. v.now) s.now) o ≡ option_map raw_values (matched_of f id)
+rest_values : (f : Found) (id : Text) (o : Option (Bor (List (Bor Text)))) → option_map (λ s. map (λ v. v.now) s.now) o
+    ≡ option_map raw_values (matched_of f id)
     → unwrap_or (all_of id (rows_of f)) [] ≡ unwrap_or (option_map (λ s. texts s.now) o) []
 rest_values f id o gives = ap (λ r. unwrap_or r []) (sym (raw_values-rows f id) ∙ sym gives)
 
@@ -227,7 +234,8 @@ none_left f id o gives is = sym (rest_values f id o gives ∙ ap (λ r. unwrap_o
 name_of : (m : ArgMatches) → option_map (λ (p : Text × List Row). p.0) (subcommand_rows_of m) ≡ subcommand_name_of m
 name_of m = go (out-ArgMatches m).subcommand
   where
-    go : {Z : Type 0} (o : Option (Box SubCommand Z)) → option_map (λ (p : Text × List Row). p.0) (subcommand_rows o) ≡ option_map (λ b. (out-SubCommand (box_value b)).name.now) o
+    go : {Z : Type 0} (o : Option (Box SubCommand Z)) → option_map (λ (p : Text × List Row). p.0) (subcommand_rows o)
+        ≡ option_map (λ b. (out-SubCommand (box_value b)).name.now) o
     go None = refl
     go (Some b) = refl
 
@@ -237,7 +245,8 @@ pub met_as : (m : ArgMatches) (name : Text) (rows : List Row) (o : Option (Bor T
     → subcommand_rows_of m ≡ Some (name, rows) → asked_of (x.0.now, rows_of (found_of x.1.now)) ≡ asked_of (name, rows)
 met_as m name rows o x is names gives met =
     let first : Some x.0.now ≡ Some name = sym (ap (option_map (λ p. p.0.now)) is) ∙ names ∙ sym (name_of m) ∙ ap (option_map (λ p. p.0)) met in
-    let second : Some (rows_of (found_of x.1.now)) ≡ Some rows = sym (ap (option_map (λ p. rows_of (found_of p.1.now))) is) ∙ gives ∙ ap (option_map (λ p. p.1)) met in
+    let second : Some (rows_of (found_of x.1.now)) ≡ Some rows = sym (ap (option_map (λ p. rows_of (found_of p.1.now))) is) ∙ gives
+    ∙ ap (option_map (λ p. p.1)) met in
     ap₂ (λ n r. asked_of (n, r)) (ap (λ o. unwrap_or o name) first) (ap (λ o. unwrap_or o rows) second)
 
 -- so the matches ask for what the words do
@@ -280,7 +289,8 @@ unnamed words asked is unknown = ap (option_and_then if_known) is ∙ unknown
 pub known_named : (words : List Text) (asked : Asked) → asked_in words ≡ Some asked → if_known asked ≡ Some asked → named words ≡ Some asked
 known_named words asked is known = ap (option_and_then if_known) is ∙ known
 
-pub unexplained : (words : List Text) (f : CommandLineFault) (asked : Asked) → f ≡ Unexplained → asked_in words ≡ Some asked → if_known asked ≡ None → IsRefusal words f
+pub unexplained : (words : List Text) (f : CommandLineFault) (asked : Asked) → f ≡ Unexplained → asked_in words ≡ Some asked → if_known asked ≡ None
+    → IsRefusal words f
 unexplained words f asked is there unknown = inr (inr (asked, is, there, unknown))
 
 -- what is named is refused for memory alone
@@ -303,7 +313,8 @@ pub number_read : {E : Type 0} (gives : Text → Result ℕ E → Type 0) (f : F
 number_read {E} gives f id o none most asked parses no_text text is =
     by_text (one_text f id) refl (subst (λ t. number_or none most t ≡ Some asked) (sym (one_text-rows f id)) is)
   where
-    by_answer : (t : Text) (answer : Option ℕ) → ReadsOne gives t answer → accepts false (Unsigned 1 most) t ≡ true → unwrap_or answer none ≡ digits_value 10 (without_leading_plus t)
+    by_answer : (t : Text) (answer : Option ℕ) → ReadsOne gives t answer → accepts false (Unsigned 1 most) t ≡ true
+        → unwrap_or answer none ≡ digits_value 10 (without_leading_plus t)
     by_answer t None refused accepted =
         let fits = accepts-Accepts false (Unsigned 1 most) t accepted in
         absurd (parses t (Err refused.0) refused.1 (fits.0, fits.1))
@@ -362,5 +373,6 @@ blame_read rows image log x y address with_turns image_is log_is x_is y_is addre
     rw (image_is, log_is, flag_is, ← x_is, ← y_is, ← address_is) refl
 
 -- a value that may be left out
-pub read_or_none : (f : Found) (id : Text) (o : Option (Bor Text)) → option_map (λ s. s.now) o ≡ first_value f id → option_map (λ s. s.now) o ≡ first_of id (rows_of f)
+pub read_or_none : (f : Found) (id : Text) (o : Option (Bor Text)) → option_map (λ s. s.now) o ≡ first_value f id
+    → option_map (λ s. s.now) o ≡ first_of id (rows_of f)
 read_or_none f id o gives = gives ∙ first_value-rows f id

@@ -126,7 +126,8 @@ picture_command = record { quiet = refl; stops = refl; enters = λ words. refl; 
 
 -- what is given, by the values
 pub all_values : (values : List Text) → takes_rest.is_enough values ≡ true
-    → (algorithm : Text) × (inputs : List Text) × (values ≡ algorithm ∷ inputs) × (picture_of (finished leaf.rules (given values)) ≡ Some (Draws algorithm inputs))
+    → (algorithm : Text) × (inputs : List Text) × (values ≡ algorithm ∷ inputs) × (picture_of (finished leaf.rules (given values))
+    ≡ Some (Draws algorithm inputs))
 unfolding takes_rest
 all_values [] enough = absurd (true≢false (sym enough))
 all_values (algorithm ∷ []) enough = (algorithm, [], refl, refl)

@@ -1,8 +1,10 @@
 -- A subcommand of values and no option but `--help`: which words it takes, and what it is given by them.
-use Rattle.std.proofs.Common.{◌≡◌, ◌∙◌, ◌⊎◌, ℕ, Bool, cond, codes, true, false, refl, sym, ap, ap₂, subst, List, [], ◌∷◌, ◌++◌, append-nil, append_assoc, Option, None, inl, inr}
+use Rattle.std.proofs.Common.{◌≡◌, ◌∙◌, ◌⊎◌, ℕ, Bool, cond, codes, true, false, refl, sym, ap, ap₂, subst, List, [], ◌∷◌, ◌++◌, append-nil, append_assoc}
+use Rattle.std.proofs.Common.{Option, None, inl, inr}
 use Rattle.std.specs.Prelude.{fold}
 use Rattle.std.specs.Str.{bytes_eq}
-use Rattle.clap.specs.Walk.{Held, Row, Text, Waiting, Walk, arg_by_index, finished, nothing_held, rows_after, settled, to_positional, value, Step, after_step, walk_from, walked}
+use Rattle.clap.specs.Walk.{Held, Row, Text, Waiting, Walk, arg_by_index, finished, nothing_held, rows_after, settled, to_positional, value, Step, after_step}
+use Rattle.clap.specs.Walk.{walk_from, walked}
 use Rattle.clap.specs.Simple.{Shape}
 use Rattle.clap.specs.Kinds.{Kinds, or_else}
 use Rattle.clap.specs.Faults.{check_fault, defaults_fault, level_fault, settle_fault, step_fault, turn_fault, walk_fault, word_fault}
@@ -31,7 +33,8 @@ pub record TakesValues (leaf : Shape) : Type 0 where
   pub free : (values : List Text) → IsFree (waiting values)
   pub fits : (values : List Text) → may_follow values ≡ true → step_fault leaf (position values) (held (rows values) (pending values)) value ≡ []
   pub moves : (t : Bool) (values : List Text) (word : Text) → may_follow values ≡ true
-      → to_positional leaf.rules (arg_by_index leaf.rules (position values)) word (at t (waiting values) (position values) (held (rows values) (pending values)))
+      → to_positional leaf.rules (arg_by_index leaf.rules (position values)) word (at t (waiting values) (position values)
+      (held (rows values) (pending values)))
       (held (rows values) (pending values))
       ≡ at t (waiting (values ++ word ∷ [])) (position (values ++ word ∷ [])) (held (rows (values ++ word ∷ [])) (pending (values ++ word ∷ [])))
   pub full : (values : List Text) → may_follow values ≡ false → step_fault leaf (position values) (held (rows values) (pending values)) value ≡ [] → ⊥
@@ -59,7 +62,8 @@ Turns {leaf} v t values word = (step_fault leaf (v.position values) (read v valu
     ≡ to_positional leaf.rules (arg_by_index leaf.rules (v.position values)) word (after v t values) (read v values))
 
 -- past `--` each word is a value
-turn_trailing : {leaf : Shape} (v : TakesValues leaf) (values : List Text) (word : Text) → turn_fault leaf [] (after v true values) word ≡ [] → Turns v true values word
+turn_trailing : {leaf : Shape} (v : TakesValues leaf) (values : List Text) (word : Text) → turn_fault leaf [] (after v true values) word ≡ []
+    → Turns v true values word
 unfolding walked
 turn_trailing v values word e = (e, refl)
 
@@ -117,8 +121,19 @@ next_word {leaf} v true values word rest e =
 next_word {leaf} v false values word rest e =
     let parts = both_pass (turn_fault leaf [] (after v false values) word) _ e in
     elim (turn_open v values word parts.0) [
-      | inl mark ↦ inl (ap (λ b. cond b rest (word ∷ unmarked rest)) mark.0, subst (λ w. walk_fault leaf [] w rest ≡ []) mark.1 parts.1, ap (λ w. ends_at leaf w rest) mark.1)
-      | inr turn ↦ inr (ap (λ b. cond b rest (word ∷ unmarked rest)) turn.0, turn.1.0, subst (λ w. walk_fault leaf [] w rest ≡ []) turn.1.1 parts.1, ap (λ w. ends_at leaf w rest) turn.1.1)
+      | inl mark ↦ inl (
+        ap (λ b. cond b rest (word ∷ unmarked rest)) mark.0,
+        subst (λ w. walk_fault leaf [] w rest ≡ []) mark.1 parts.1,
+        ap
+            (λ w. ends_at leaf w rest) mark.1,
+      )
+      | inr turn ↦ inr (
+        ap (λ b. cond b rest (word ∷ unmarked rest)) turn.0,
+        turn.1.0,
+        subst (λ w. walk_fault leaf [] w rest ≡ []) turn.1.1 parts.1,
+        ap
+            (λ w. ends_at leaf w rest) turn.1.1,
+      )
     ]
 
 -- ---- all of the words

@@ -13,7 +13,8 @@ use Rattle.clap.specs.Faults.{level_fault, step_fault, turn_fault, walk_fault, w
 use Rattle.clap.specs.declared.builder.value_parser.Reading.TheVariants.{AsWritten}
 use Rattle.clap.specs.declared.builder.value_parser.ValueParser.TheVariants.{Unsigned}
 use Rattle.clap.specs.declared.parser.matches.ValueSource.TheVariants.{CommandLine}
-use Rattle.hrv_command_line.specs.CommandLine.{Asked, IsPlainWord, Resumes, Runs, asked_of, hrv_app, if_known, most_harts, most_turns, named_by_clap as named, number_or, run_of, unless_fault}
+use Rattle.hrv_command_line.specs.CommandLine.{Asked, IsPlainWord, Resumes, Runs, asked_of, hrv_app, if_known, most_harts, most_turns, named_by_clap as named}
+use Rattle.hrv_command_line.specs.CommandLine.{number_or, run_of, unless_fault}
 use Rattle.hrv_command_line.proofs.HelpOnly.{held, is_idle, looks_plain, plain_met}
 use Rattle.hrv_command_line.proofs.Positionals.{at, end_fault}
 use Rattle.hrv_command_line.proofs.RunWords.{leaf, run_command}
@@ -41,7 +42,8 @@ named_by : (words : List Text) (end : Walk) (asked : Asked) → Passes (walk_fro
 named_by words end asked passes ends asks known =
     let held_is : (fold (walked leaf.rules []) (walk_from nothing_held) words).held ≡ end.held = ap (λ (w : Walk). w.held) passes.1 in
     let free : level_fault leaf [] nothing_held words false [] ≡ [] = ap₂ or_else passes.0 (ap (end_fault leaf) held_is ∙ ends) in
-    ap (option_and_then if_known) (ap (λ kinds. unless_fault kinds (option_and_then asked_of (subcommand_of hrv_app (codes "run" ∷ words)))) (name_free run_command words free)
+    ap (option_and_then if_known) (ap (λ kinds. unless_fault kinds (option_and_then asked_of (subcommand_of hrv_app (codes "run" ∷ words))))
+    (name_free run_command words free)
     ∙ ap (option_and_then asked_of) (name_given run_command words) ∙ ap (λ h. run_of (finished leaf.rules h)) held_is ∙ asks) ∙ known
 
 -- ---- what is held
@@ -73,7 +75,8 @@ module _ (image log : Text) where
 
   image_moves : IsPlainWord image → walked leaf.rules [] (at false idle 1 nothing_held) image ≡ at false idle 2 (with_image image)
   unfolding walked
-  image_moves plain = ap (λ (m : Held × Step). after_step leaf.rules image (at false idle 1 nothing_held) m.0 m.1) (plain_met leaf idle is_idle 1 image nothing_held plain).1
+  image_moves plain = ap (λ (m : Held × Step). after_step leaf.rules image (at false idle 1 nothing_held) m.0 m.1) (plain_met leaf idle is_idle 1 image
+      nothing_held plain).1
 
   log_quiet : IsPlainWord log → turn_fault leaf [] (at false idle 2 (with_image image)) log ≡ []
   log_quiet plain =
@@ -82,7 +85,8 @@ module _ (image log : Text) where
 
   log_moves : IsPlainWord log → walked leaf.rules [] (at false idle 2 (with_image image)) log ≡ at false idle 3 (with_files image log)
   unfolding walked
-  log_moves plain = ap (λ (m : Held × Step). after_step leaf.rules log (at false idle 2 (with_image image)) m.0 m.1) (plain_met leaf idle is_idle 2 log (with_image image) plain).1
+  log_moves plain = ap (λ (m : Held × Step). after_step leaf.rules log (at false idle 2 (with_image image)) m.0 m.1) (plain_met leaf idle is_idle 2 log
+      (with_image image) plain).1
 
   files_pass : IsPlainWord image → IsPlainWord log → (rest : List Text) (to : Walk) → Passes (at false idle 3 (with_files image log)) rest to
       → Passes (walk_from nothing_held) (image ∷ log ∷ rest) to
@@ -109,7 +113,8 @@ module _ (image log : Text) where
   marked_pass = (refl, refl)
 
   pub marked_run : named (codes "run" ∷ codes "--" ∷ image ∷ log ∷ []) ≡ Some (Runs image log 1 most_turns)
-  marked_run = named_by (codes "--" ∷ image ∷ log ∷ []) (at true idle 3 (with_files image log)) (Runs image log 1 most_turns) marked_pass files_end files_asked refl
+  marked_run = named_by (codes "--" ∷ image ∷ log ∷ []) (at true idle 3 (with_files image log)) (Runs image log 1 most_turns) marked_pass files_end files_asked
+      refl
 
 -- ---- options
 
@@ -130,7 +135,8 @@ module _ (id : Text) (position : ℕ) (h : Held) (word : Text) (plain : IsPlainW
   text_met : word_met leaf.rules [] false (option id) position word h ≡ plain_word leaf.rules (option id) word h
   text_met = let looks = looks_plain word plain in rw (looks.unmarked, looks.long, looks.short) refl
 
-module _ (image log harts turns : Text) (harts_accepted : accepts false (Unsigned 1 most_harts) harts ≡ true) (turns_accepted : accepts false (Unsigned 1 most_turns) turns ≡ true) where
+module _ (image log harts turns : Text) (harts_accepted : accepts false (Unsigned 1 most_harts) harts ≡ true) (turns_accepted : accepts false
+    (Unsigned 1 most_turns) turns ≡ true) where
   harts_quiet : turn_fault leaf [] (at false idle 3 (with_files image log)) (codes "--harts") ≡ []
   harts_quiet = refl
 
@@ -154,7 +160,8 @@ module _ (image log harts turns : Text) (harts_accepted : accepts false (Unsigne
   turns_quiet : turn_fault leaf [] (at false idle 3 (with_harts image log (harts ∷ []))) (codes "--turns") ≡ []
   turns_quiet = rw (harts_accepted) refl
 
-  turns_waits : walked leaf.rules [] (at false idle 3 (with_harts image log (harts ∷ []))) (codes "--turns") ≡ at false (option (codes "turns")) 3 (with_turns image log harts [])
+  turns_waits : walked leaf.rules [] (at false idle 3 (with_harts image log (harts ∷ []))) (codes "--turns") ≡ at false (option (codes "turns")) 3
+      (with_turns image log harts [])
   unfolding walked
   turns_waits = refl
 
@@ -164,14 +171,16 @@ module _ (image log harts turns : Text) (harts_accepted : accepts false (Unsigne
       ap₂ or_else (text_fault (codes "turns") 3 (with_turns image log harts []) turns plain)
       (ap (λ (m : Held × Step). step_fault leaf 3 m.0 m.1) (text_met (codes "turns") 3 (with_turns image log harts []) turns plain))
 
-  turns_read : walked leaf.rules [] (at false (option (codes "turns")) 3 (with_turns image log harts [])) turns ≡ at false idle 3 (with_turns image log harts (turns ∷ []))
+  turns_read : walked leaf.rules [] (at false (option (codes "turns")) 3 (with_turns image log harts [])) turns
+      ≡ at false idle 3 (with_turns image log harts (turns ∷ []))
   unfolding walked
   turns_read =
       let plain = number_plain 1 most_turns turns turns_accepted in
       ap (λ (m : Held × Step). after_step leaf.rules turns (at false (option (codes "turns")) 3 (with_turns image log harts [])) m.0 m.1)
       (text_met (codes "turns") 3 (with_turns image log harts []) turns plain)
 
-  options_pass : Passes (at false idle 3 (with_files image log)) (codes "--harts" ∷ harts ∷ codes "--turns" ∷ turns ∷ []) (at false idle 3 (with_turns image log harts (turns ∷ [])))
+  options_pass : Passes (at false idle 3 (with_files image log)) (codes "--harts" ∷ harts ∷ codes "--turns" ∷ turns ∷ [])
+      (at false idle 3 (with_turns image log harts (turns ∷ [])))
   options_pass =
       one_further _ (at false (option (codes "harts")) 3 (with_harts image log [])) _ (codes "--harts") _ harts_quiet harts_waits
       (one_further _ (at false idle 3 (with_harts image log (harts ∷ []))) _ harts _ harts_text_quiet harts_read
@@ -222,7 +231,8 @@ module _ (image log old : Text) (plain : IsPlainWord old) where
   from_asked : run_of (finished leaf.rules (with_from image log (old ∷ []))) ≡ Some (Resumes image log old most_turns)
   from_asked = refl
 
-  pub resumed_run : IsPlainWord image → IsPlainWord log → named (codes "run" ∷ image ∷ log ∷ codes "--from" ∷ old ∷ []) ≡ Some (Resumes image log old most_turns)
+  pub resumed_run : IsPlainWord image → IsPlainWord log → named (codes "run" ∷ image ∷ log ∷ codes "--from" ∷ old ∷ [])
+      ≡ Some (Resumes image log old most_turns)
   resumed_run image_plain log_plain =
       named_by (image ∷ log ∷ codes "--from" ∷ old ∷ []) (at false idle 3 (with_from image log (old ∷ []))) (Resumes image log old most_turns)
       (files_pass image log image_plain log_plain _ _ from_passes) from_end from_asked refl
@@ -244,7 +254,8 @@ options_run image log harts turns h t image_plain log_plain harts_are turns_are 
     let hs = accepted_of 1 most_harts harts h harts_are in
     let ts = accepted_of 1 most_turns turns t turns_are in
     let words = image ∷ log ∷ codes "--harts" ∷ harts ∷ codes "--turns" ∷ turns ∷ [] in
-    named_by words (at false idle 3 (with_turns image log harts (turns ∷ []))) (Runs image log (digits_value 10 (without_leading_plus harts)) (digits_value 10 (without_leading_plus turns)))
+    named_by words (at false idle 3 (with_turns image log harts (turns ∷ []))) (Runs image log (digits_value 10 (without_leading_plus harts))
+    (digits_value 10 (without_leading_plus turns)))
     (files_pass image log image_plain log_plain _ _ (options_pass image log harts turns hs.0 ts.0)) (options_end image log harts turns hs.0 ts.0)
     (options_asked image log harts turns hs.0 ts.0) refl
     ∙ ap₂ (λ m n. Some (Runs image log m n)) hs.1 ts.1

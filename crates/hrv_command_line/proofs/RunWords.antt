@@ -1,5 +1,6 @@
 -- The words that `clap` takes for a run: two files, and two options with numbers.
-use Rattle.std.proofs.Common.{◌≡◌, ◌∙◌, ◌&&◌, ◌||◌, ◌==◌, ◌⊎◌, ◌≤◌, ◌+◌, ℕ, arith, Bool, cond, codes, true, false, true≢false, ne_eqb, length, suc, refl, sym, ap, subst, List, [], ◌∷◌, ◌++◌, Option, Some, None, inl, inr}
+use Rattle.std.proofs.Common.{◌≡◌, ◌∙◌, ◌&&◌, ◌||◌, ◌==◌, ◌⊎◌, ◌≤◌, ◌+◌, ℕ, arith, Bool, cond, codes, true, false, true≢false, ne_eqb, length, suc, refl, sym}
+use Rattle.std.proofs.Common.{ap, subst, List, [], ◌∷◌, ◌++◌, Option, Some, None, inl, inr}
 use Rattle.std.specs.Prelude.{find, fold, if◌then◌else◌, min, not, is_some, option_and_then, option_map, slice_get, unwrap_or}
 use Rattle.std.specs.List.{AllByRecursion}
 use Rattle.std.specs.Option.{option_map_or}
@@ -9,17 +10,22 @@ use Rattle.clap.proofs.ValueTestLemmas.{accepts-Accepts}
 use Rattle.std.specs.Str.Parse.{digits_value, without_leading_plus}
 use Rattle.clap.specs.Lexer.{long_of, short_of, usize_max}
 use Rattle.clap.specs.ValueTests.{accepts}
-use Rattle.clap.specs.Walk.{Held, Row, Rule, Step, Text, Waiting, Walk, after_flag, after_step, arg_by_index, arg_by_long, at_row, default_rows, has_row, idle, is_pending, long_met, long_or_other, long_word, more_values, next, nothing_held, option, plain_word, pushed, reacted, first_of, one_of, reading_by, row_text, rows_after, settled, subcommand_met, to_positional, trailing, used, value, walk_from, walked, with_default, without, word_met}
+use Rattle.clap.specs.Walk.{Held, Row, Rule, Step, Text, Waiting, Walk, after_flag, after_step, arg_by_index, arg_by_long, at_row, default_rows, has_row, idle}
+use Rattle.clap.specs.Walk.{is_pending, long_met, long_or_other, long_word, more_values, next, nothing_held, option, plain_word, pushed, reacted, first_of}
+use Rattle.clap.specs.Walk.{one_of, reading_by, row_text, rows_after, settled, subcommand_met, to_positional, trailing, used, value, walk_from, walked}
+use Rattle.clap.specs.Walk.{with_default, without, word_met}
 use Rattle.clap.specs.Facts.{explicit_source}
 use Rattle.clap.specs.Simple.{Shape, built_leaf, filled, help_rule, inherited, marked_built, with_index, with_leaf_noted}
 use Rattle.clap.specs.Takes.{is_given}
 use Rattle.clap.specs.Kinds.{or_else, range_kinds}
-use Rattle.clap.specs.Faults.{defaults_fault, flag_word_fault, level_fault, long_fault, positional_fault, react_fault, repeat_fault, settle_fault, stray_fault, step_fault, turn_fault, use_fault, walk_fault, word_fault}
+use Rattle.clap.specs.Faults.{defaults_fault, flag_word_fault, level_fault, long_fault, positional_fault, react_fault, repeat_fault, settle_fault, stray_fault}
+use Rattle.clap.specs.Faults.{step_fault, turn_fault, use_fault, walk_fault, word_fault}
 use Rattle.clap.specs.declared.builder.value_parser.Reading.TheVariants.{AsWritten}
 use Rattle.clap.specs.declared.builder.value_parser.ValueParser.TheVariants.{Unsigned}
 use Rattle.clap.specs.declared.parser.matches.ValueSource.TheVariants.{CommandLine}
 use Rattle.clap.specs.declared.error.ErrorKind.TheVariants as kind
-use Rattle.hrv_command_line.specs.CommandLine.{AreWithinLimits, Asked, IsSpelled, IsWithinLimits, hrv_app, most_harts, most_turns, number_or, number_rule, required_rule, run_app, run_from, run_of, word_rule}
+use Rattle.hrv_command_line.specs.CommandLine.{AreWithinLimits, Asked, IsSpelled, IsWithinLimits, hrv_app, most_harts, most_turns, number_or, number_rule}
+use Rattle.hrv_command_line.specs.CommandLine.{required_rule, run_app, run_from, run_of, word_rule}
 use Rattle.hrv_command_line.proofs.HelpOnly.{both_pass, help_called, held, short_met_plain, some_fault}
 use Rattle.hrv_command_line.proofs.Positionals.{at}
 use Rattle.hrv_command_line.proofs.Subcommands.{IsSubcommand}
@@ -187,7 +193,8 @@ one_value {id} is_turns (v ∷ []) rows e =
     accepted true bad = refl
     accepted false bad = absurd (some_fault _ _ bad)
 
-fits_used : {id : Text} {a : Rule} → IsArg id a → (values : List Text) (rows : List Row) → AllFit rows → use_fault false a values rows ≡ [] → AllFit (used a values rows)
+fits_used : {id : Text} {a : Rule} → IsArg id a → (values : List Text) (rows : List Row) → AllFit rows → use_fault false a values rows ≡ []
+    → AllFit (used a values rows)
 fits_used {id} {a} arg values rows all e =
     let found = one_value arg values rows e in
     subst (λ vs. AllFit (used a vs rows)) (sym found.1) (subst AllFit (sym (used_once arg found.0 rows found.2)) (one_more rows _ all found.3))
@@ -204,7 +211,8 @@ data IsWaiting : Waiting → Type 0 where
   for_file : IsWaiting idle
   for_option : {id : Text} {a : Rule} → IsArg id a → IsWaiting (option id)
 
-fits_settled : (rows : List Row) (pending : Option (Text × List Text)) → AllFit rows → IsPending pending → settle_fault leaf.rules false (held rows pending) ≡ []
+fits_settled : (rows : List Row) (pending : Option (Text × List Text)) → AllFit rows → IsPending pending → settle_fault leaf.rules false (held rows pending)
+    ≡ []
     → AllFit (settled leaf.rules (held rows pending)).rows
 fits_settled rows _ all nothing e = all
 fits_settled rows _ all (begun is_image values) e = fits_used is_image values rows all e
@@ -228,10 +236,12 @@ record Stands (w : Walk) : Type 0 where
 -- ---- one word
 
 -- a file's place
-by_index : (position : ℕ) → (arg_by_index leaf.rules position ≡ Some image_rule) ⊎ (arg_by_index leaf.rules position ≡ Some log_rule) ⊎ (arg_by_index leaf.rules position ≡ None)
+by_index : (position : ℕ) → (arg_by_index leaf.rules position ≡ Some image_rule) ⊎ (arg_by_index leaf.rules position ≡ Some log_rule)
+    ⊎ (arg_by_index leaf.rules position ≡ None)
 by_index position = go (1 == position) (2 == position)
   where
-    go : (a b : Bool) → (cond a (Some image_rule) (cond b (Some log_rule) None) ≡ Some image_rule) ⊎ (cond a (Some image_rule) (cond b (Some log_rule) None) ≡ Some log_rule)
+    go : (a b : Bool) → (cond a (Some image_rule) (cond b (Some log_rule) None) ≡ Some image_rule) ⊎ (cond a (Some image_rule) (cond b (Some log_rule) None)
+        ≡ Some log_rule)
         ⊎ (cond a (Some image_rule) (cond b (Some log_rule) None) ≡ None)
     go true b = inl refl
     go false true = inr (inl refl)
@@ -260,14 +270,16 @@ module _ (waiting : Waiting) (position : ℕ) (rows : List Row) (pending : Optio
   h = held rows pending
 
   -- the word goes to a file's argument
-  to_file : (t : Bool) → step_fault leaf position h value ≡ [] → Stands (to_positional leaf.rules (arg_by_index leaf.rules position) word (at t waiting position h) h)
+  to_file : (t : Bool) → step_fault leaf position h value ≡ []
+      → Stands (to_positional leaf.rules (arg_by_index leaf.rules position) word (at t waiting position h) h)
   to_file t e = elim (by_index position) [
     | inl first ↦ subst (λ o. Stands (to_positional leaf.rules o word (at t waiting position h) h)) (sym first)
         (to_image (subst (λ o. option_map_or (λ a. positional_fault leaf.rules false a h) o (stray_fault leaf) ≡ []) first e))
     | inr others ↦ elim others [
       | inl second ↦ subst (λ o. Stands (to_positional leaf.rules o word (at t waiting position h) h)) (sym second)
           (to_log (subst (λ o. option_map_or (λ a. positional_fault leaf.rules false a h) o (stray_fault leaf) ≡ []) second e))
-      | inr none ↦ absurd (some_fault kind.UnknownArgument [] (subst (λ o. option_map_or (λ a. positional_fault leaf.rules false a h) o (stray_fault leaf) ≡ []) none e))
+      | inr none ↦ absurd (some_fault kind.UnknownArgument [] (subst (λ o. option_map_or (λ a. positional_fault leaf.rules false a h) o (stray_fault leaf) ≡ [])
+          none e))
     ]
   ]
     where
@@ -302,7 +314,8 @@ module _ (waiting : Waiting) (position : ℕ) (rows : List Row) (pending : Optio
           }
 
   -- an option with its text in the same word
-  attached : (a : Rule) → IsArg a.id a → (text : Text) → react_fault leaf.rules false a (text ∷ []) h ≡ [] → StandsBy waiting position h word (reacted leaf.rules a (text ∷ []) h, next idle)
+  attached : (a : Rule) → IsArg a.id a → (text : Text) → react_fault leaf.rules false a (text ∷ []) h ≡ []
+      → StandsBy waiting position h word (reacted leaf.rules a (text ∷ []) h, next idle)
   attached a arg text e _ =
       let parts = both_pass (settle_fault leaf.rules false h) _ e in
       record {
@@ -318,7 +331,8 @@ module _ (waiting : Waiting) (position : ℕ) (rows : List Row) (pending : Optio
       }
 
   -- an option whose text is the next word
-  awaited : (a : Rule) → IsArg a.id a → settle_fault leaf.rules false h ≡ [] → StandsBy waiting position h word (record (settled leaf.rules h) { pending = Some (a.id, []) }, next (option a.id))
+  awaited : (a : Rule) → IsArg a.id a → settle_fault leaf.rules false h ≡ []
+      → StandsBy waiting position h word (record (settled leaf.rules h) { pending = Some (a.id, []) }, next (option a.id))
   awaited a arg e _ = record {
     rows = (settled leaf.rules h).rows;
     pending = Some (a.id, []);
@@ -331,16 +345,20 @@ module _ (waiting : Waiting) (position : ℕ) (rows : List Row) (pending : Optio
     next_for = for_option arg;
   }
 
-  long_stands : (name : Text) (v : Option Text) → long_fault leaf.rules false (arg_by_long leaf.rules name) v h ≡ [] → StandsBy waiting position h word (long_word leaf.rules waiting word name v h)
+  long_stands : (name : Text) (v : Option Text) → long_fault leaf.rules false (arg_by_long leaf.rules name) v h ≡ []
+      → StandsBy waiting position h word (long_word leaf.rules waiting word name v h)
   long_stands name v e =
-      go (bytes_eq (codes "harts") name || false) (bytes_eq (codes "turns") name || false) (bytes_eq (codes "from") name || false) (bytes_eq (codes "help") name || false) v e
+      go (bytes_eq (codes "harts") name || false) (bytes_eq (codes "turns") name || false) (bytes_eq (codes "from") name || false) (bytes_eq (codes "help") name
+      || false) v e
     where
       found : Bool → Bool → Bool → Bool → Option Rule
       found is_harts_name is_turns_name is_from_name is_help =
-          cond is_harts_name (Some harts_rule) (cond is_turns_name (Some turns_rule) (cond is_from_name (Some from_rule) (cond is_help (Some (filled help_rule)) None)))
+          cond is_harts_name (Some harts_rule) (cond is_turns_name (Some turns_rule) (cond is_from_name (Some from_rule) (cond is_help (Some (filled help_rule))
+          None)))
 
       go : (a b c d : Bool) (v : Option Text) → long_fault leaf.rules false (found a b c d) v h ≡ []
-          → StandsBy waiting position h word (after_flag leaf.rules waiting word (long_met leaf.rules (found a b c d) v h).0 (long_met leaf.rules (found a b c d) v h).1)
+          → StandsBy waiting position h word (after_flag leaf.rules waiting word (long_met leaf.rules (found a b c d) v h).0
+          (long_met leaf.rules (found a b c d) v h).1)
       go true b c d (Some text) bad = attached harts_rule is_harts text bad
       go true b c d None bad = awaited harts_rule is_harts bad
       go false true c d (Some text) bad = attached turns_rule is_turns text bad
@@ -351,7 +369,8 @@ module _ (waiting : Waiting) (position : ℕ) (rows : List Row) (pending : Optio
       go false false false false v bad = absurd (some_fault _ _ bad)
 
 plain_stands : (waiting : Waiting) (position : ℕ) (rows : List Row) (pending : Option (Text × List Text)) (word : Text)
-    → AllFit rows → IsPending pending → IsWaiting waiting → StandsBy waiting position (held rows pending) word (plain_word leaf.rules waiting word (held rows pending))
+    → AllFit rows → IsPending pending → IsWaiting waiting
+    → StandsBy waiting position (held rows pending) word (plain_word leaf.rules waiting word (held rows pending))
 plain_stands _ position rows pending word all left_over for_file = to_file idle position rows pending word all left_over false
 plain_stands _ position rows pending word all left_over (for_option arg) = go arg
   where
@@ -371,7 +390,8 @@ plain_stands _ position rows pending word all left_over (for_option arg) = go ar
       next_for = still_waiting b arg;
     }
 
-    go : {id : Text} {a : Rule} → IsArg id a → StandsBy (option id) position (held rows pending) word (plain_word leaf.rules (option id) word (held rows pending))
+    go : {id : Text} {a : Rule} → IsArg id a → StandsBy (option id) position (held rows pending) word (plain_word leaf.rules (option id) word
+        (held rows pending))
     go is_image _ = more _ is_image
     go is_log _ = more _ is_log
     go is_harts _ = more _ is_harts
@@ -409,11 +429,13 @@ one_turn false waiting position rows pending word all left_over next_for e = by_
         }
     by_mark false other =
         let parts = both_pass (word_fault leaf [] false waiting word h) _ e in
-        let met : word_met leaf.rules [] false waiting position word h ≡ long_or_other leaf.rules waiting word (long_of word) h = rw (unnamed word next_for, other) refl in
+        let met : word_met leaf.rules [] false waiting position word h ≡ long_or_other leaf.rules waiting word (long_of word) h =
+        rw (unnamed word next_for, other) refl in
         let bad : flag_word_fault leaf.rules false (long_of word) word h ≡ [] = rw (unnamed word next_for, other) at parts.0 in
         subst (StandsBy waiting position (held rows pending) word) (sym met) (by_long (long_of word) bad) parts.1
       where
-        by_long : (o : Option (Text × Option Text)) → flag_word_fault leaf.rules false o word h ≡ [] → StandsBy waiting position (held rows pending) word (long_or_other leaf.rules waiting word o h)
+        by_long : (o : Option (Text × Option Text)) → flag_word_fault leaf.rules false o word h ≡ []
+            → StandsBy waiting position (held rows pending) word (long_or_other leaf.rules waiting word o h)
         by_long (Some p) bad = long_stands waiting position rows pending word all left_over p.0 p.1 bad
         by_long None bad =
             subst (StandsBy waiting position (held rows pending) word) (sym (short_met_plain leaf (λ x. refl) waiting word rows pending (short_of word) bad))
@@ -510,7 +532,8 @@ first_there test (Some r) found e = (found.1.one, ap (λ vs. slice_get vs 0) fou
 read_one : (r : Row) (fits : Fits r) → row_text r ≡ Some fits.one
 read_one r fits = rw (fits.values_are, fits.as_written) refl
 
-accepted_number : (none most : ℕ) (text : Text) → accepts false (Unsigned 1 most) text ≡ true → number_or none most (Some text) ≡ Some (digits_value 10 (without_leading_plus text))
+accepted_number : (none most : ℕ) (text : Text) → accepts false (Unsigned 1 most) text ≡ true
+    → number_or none most (Some text) ≡ Some (digits_value 10 (without_leading_plus text))
 accepted_number none most text is = rw (is) refl
 
 number_there : (none most : ℕ) (test : Row → Bool) (o : Option Row) → Found test o
@@ -532,7 +555,8 @@ pub record RunAsked (rows : List Row) : Type 0 where
   pub is_asked : run_of rows ≡ Some (run_from (first_of (codes "from") rows) image log harts turns)
 
 -- it goes on from a log or not
-pub run_spelled : (words rest : List Text) (from : Option Text) (image log : Text) (harts turns : ℕ) → words ≡ codes "run" ∷ rest → IsSpelled words (run_from from image log harts turns)
+pub run_spelled : (words rest : List Text) (from : Option Text) (image log : Text) (harts turns : ℕ) → words ≡ codes "run" ∷ rest
+    → IsSpelled words (run_from from image log harts turns)
 run_spelled words rest None image log harts turns split = (rest, split)
 run_spelled words rest (Some old) image log harts turns split = (rest, split)
 
@@ -543,8 +567,10 @@ run_asked words e =
     let given = files_given words e in
     let image = first_there (λ r. bytes_eq r.id (codes "IMAGE")) (find (λ r. bytes_eq r.id (codes "IMAGE")) rows) (found_one _ rows all) given.0 in
     let log = first_there (λ r. bytes_eq r.id (codes "LOG")) (find (λ r. bytes_eq r.id (codes "LOG")) rows) (found_one _ rows all) given.1 in
-    let harts = number_there 1 most_harts (λ r. bytes_eq r.id (codes "harts")) (find (λ r. bytes_eq r.id (codes "harts")) rows) (found_one _ rows all) (λ r is fits. fits.harts is) in
-    let turns = number_there most_turns most_turns (λ r. bytes_eq r.id (codes "turns")) (find (λ r. bytes_eq r.id (codes "turns")) rows) (found_one _ rows all) (λ r is fits. fits.turns is) in
+    let harts = number_there 1 most_harts (λ r. bytes_eq r.id (codes "harts")) (find (λ r. bytes_eq r.id (codes "harts")) rows) (found_one _ rows all)
+    (λ r is fits. fits.harts is) in
+    let turns = number_there most_turns most_turns (λ r. bytes_eq r.id (codes "turns")) (find (λ r. bytes_eq r.id (codes "turns")) rows) (found_one _ rows all)
+    (λ r is fits. fits.turns is) in
     record {
       image = image.0;
       log = log.0;
@@ -565,7 +591,8 @@ number_within none most None n least few is =
     (subst (λ k. 1 ≤ k) same least, subst (λ k. k ≤ most) same few)
 number_within none most (Some text) n least few is = go (accepts false (Unsigned 1 most) text) refl is
   where
-    go : (b : Bool) → accepts false (Unsigned 1 most) text ≡ b → (if b then Some (digits_value 10 (without_leading_plus text)) else None) ≡ Some n → (1 ≤ n) × (n ≤ most)
+    go : (b : Bool) → accepts false (Unsigned 1 most) text ≡ b → (if b then Some (digits_value 10 (without_leading_plus text)) else None) ≡ Some n
+        → (1 ≤ n) × (n ≤ most)
     go true passes e =
         let same : digits_value 10 (without_leading_plus text) ≡ n = ap (λ o. unwrap_or o none) e in
         let accepted = accepts-Accepts false (Unsigned 1 most) text passes in
@@ -594,7 +621,8 @@ run_needs rows asked is =
 
     go : (i l : Option Text) (h t : Option ℕ) → first_of (codes "IMAGE") rows ≡ i → first_of (codes "LOG") rows ≡ l
         → number_or 1 most_harts (one_of (codes "harts") rows) ≡ h → number_or most_turns most_turns (one_of (codes "turns") rows) ≡ t
-        → option_and_then (λ image. option_and_then (λ log. option_and_then (λ harts. option_map (λ turns. run_from from image log harts turns) t) h) l) i ≡ Some asked
+        → option_and_then (λ image. option_and_then (λ log. option_and_then (λ harts. option_map (λ turns. run_from from image log harts turns) t) h) l) i
+        ≡ Some asked
         → RunNeeds rows asked
     go None l h t _ _ _ _ e = absurd (true≢false (sym (ap is_some e)))
     go (Some i) None h t _ _ _ _ e = absurd (true≢false (sym (ap is_some e)))

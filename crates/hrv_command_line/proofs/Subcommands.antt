@@ -4,7 +4,8 @@ use Rattle.std.specs.Prelude.{fold, is_some}
 use Rattle.std.specs.Str.{bytes_eq}
 use Rattle.std.proofs.lemmas.Slice.Eq.{bytes_eq-Decides}
 use Rattle.clap.proofs.OnLiterals.{clap_on_literals}
-use Rattle.clap.specs.Walk.{Held, Step, Text, Walk, finished, idle, nothing_held, rows_after, settled, stop_after, subcommand_met, walk, walk_from, walked, word_met}
+use Rattle.clap.specs.Walk.{Held, Step, Text, Walk, finished, idle, nothing_held, rows_after, settled, stop_after, subcommand_met, walk, walk_from, walked}
+use Rattle.clap.specs.Walk.{word_met}
 use Rattle.clap.specs.Simple.{App, Shape, built, entered, names_of, subcommand_of}
 use Rattle.clap.specs.Kinds.{Kinds, or_else}
 use Rattle.clap.specs.Faults.{check_fault, defaults_fault, entered_fault, fault_of, level_fault, settle_fault, step_fault, turn_fault, walk_fault, word_fault}
@@ -103,9 +104,38 @@ first_is_name (word ∷ rest) e =
     tell (bytes_eq (codes "run") word) (λ same. begins word rest (codes "run") is_run same) (λ no_run.
     tell (bytes_eq (codes "explain") word) (λ same. begins word rest (codes "explain") is_explain same) (λ no_explain.
     tell (bytes_eq (codes "version") word) (λ same. begins word rest (codes "version") is_version same) (λ no_version.
-    tell (bytes_eq (codes "help") word) (λ help. absurd (some_fault _ _ (rw (no_replay, no_debug, no_blame, no_asm, no_dis, no_renew, no_picture, no_compile, no_map, no_run, no_explain, no_version, help) at first))) (λ no_help.
-    let unnamed : subcommand_met (names_of app) idle word ≡ None = rw (no_replay, no_debug, no_blame, no_asm, no_dis, no_renew, no_picture, no_compile, no_map, no_run, no_explain, no_version, no_help) refl in
-    tell (bytes_eq word (codes "--")) (λ mark. absurd (fault_marked rest (subst (λ w. fault_of hrv_app (w ∷ rest) ≡ []) ((bytes_eq-Decides word (codes "--")).0 mark) e)))
+    tell (bytes_eq (codes "help") word) (λ help. absurd (some_fault _ _ (rw (
+      no_replay,
+      no_debug,
+      no_blame,
+      no_asm,
+      no_dis,
+      no_renew,
+      no_picture,
+      no_compile,
+      no_map,
+      no_run,
+      no_explain,
+      no_version,
+      help,
+    ) at first))) (λ no_help.
+    let unnamed : subcommand_met (names_of app) idle word ≡ None = rw (
+      no_replay,
+      no_debug,
+      no_blame,
+      no_asm,
+      no_dis,
+      no_renew,
+      no_picture,
+      no_compile,
+      no_map,
+      no_run,
+      no_explain,
+      no_version,
+      no_help,
+    ) refl in
+    tell (bytes_eq word (codes "--")) (λ mark. absurd (fault_marked rest (subst (λ w. fault_of hrv_app (w ∷ rest) ≡ []) ((bytes_eq-Decides word (codes "--")).0
+    mark) e)))
     (λ other. absurd (stray word unnamed other first)))))))))))))))
   where
     first : top_fault word ≡ []

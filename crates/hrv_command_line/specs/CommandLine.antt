@@ -16,7 +16,8 @@ use Rattle.clap.specs.declared.builder.command.Command.TheViews.{out-Command}
 use Rattle.clap.specs.declared.builder.value_parser.ValueParser.TheVariants.{Unsigned}
 use Rattle.clap.specs.declared.error.Error.{Error}
 use Rattle.hrv_command_line.specs.declared.command_lines.Invocation.{Invocation}
-use Rattle.hrv_command_line.specs.declared.command_lines.Invocation.TheVariants.{Asm, Blame, Compile, Debug, Dis, DisAddresses, Explain, Map, Picture, Renew, Replay, Resume, Run, Version}
+use Rattle.hrv_command_line.specs.declared.command_lines.Invocation.TheVariants.{Asm, Blame, Compile, Debug, Dis, DisAddresses, Explain, Map, Picture, Renew}
+use Rattle.hrv_command_line.specs.declared.command_lines.Invocation.TheVariants.{Replay, Resume, Run, Version}
 use Rattle.hrv_command_line.specs.declared.faults.CommandLineFault.{CommandLineFault}
 use Rattle.hrv_command_line.specs.declared.faults.CommandLineFault.TheVariants.{Refused, Memory, Unexplained}
 
@@ -276,7 +277,8 @@ run_from None image log harts turns = Runs image log harts turns
 run_from (Some old) image log harts turns = Resumes image log old turns
 
 abbrev pub run_of : List Row → Option Asked
-run_of given = option_and_then (λ image. option_and_then (λ log. option_and_then (λ harts. option_map (λ turns. run_from (first_of (codes "from") given) image log harts turns)
+run_of given = option_and_then (λ image. option_and_then (λ log. option_and_then (λ harts. option_map (λ turns. run_from (first_of (codes "from") given) image
+    log harts turns)
     (number_or most_turns most_turns (one_of (codes "turns") given)))
     (number_or 1 most_harts (one_of (codes "harts") given)))
     (first_of (codes "LOG") given)) (first_of (codes "IMAGE") given)

@@ -15,7 +15,8 @@ use Rattle.lowering.proofs.Using.{pictures_answer_words}
 use Rattle.hrv_compiler.specs.Images.{ArePictures}
 use Rattle.hrv_compiler.proofs.Images.{asked_for}
 
-each-is : (pictures : List PictureContents) → ArePictures pictures → (place : ℕ) (picture : PictureContents) → slice_get pictures place ≡ Some picture → IsPicture picture
+each-is : (pictures : List PictureContents) → ArePictures pictures → (place : ℕ) (picture : PictureContents) → slice_get pictures place ≡ Some picture
+    → IsPicture picture
 each-is [] are place picture e = absurd cc
 each-is (first ∷ pictures) are zero picture e = let same : first ≡ picture = cc in rw (sym same) are.0
 each-is (first ∷ pictures) are (suc place) picture e = each-is pictures are.1 place picture e
@@ -23,14 +24,16 @@ each-is (first ∷ pictures) are (suc place) picture e = each-is pictures are.1 
 all-below : (pixels : List ℕ) → list_all (λ pixel. nat_lt pixel 256) pixels ≡ true → All (λ pixel. pixel < 256) pixels
 all-below [] e i d l = absurd (omega (arith, l))
 all-below (pixel ∷ pixels) e zero d l = ltb-true pixel 256 (and_parts (nat_lt pixel 256) (list_all (λ other. nat_lt other 256) pixels) e).0
-all-below (pixel ∷ pixels) e (suc i) d l = all-below pixels (and_parts (nat_lt pixel 256) (list_all (λ other. nat_lt other 256) pixels) e).1 i d (omega (arith, l))
+all-below (pixel ∷ pixels) e (suc i) d l = all-below pixels (and_parts (nat_lt pixel 256) (list_all (λ other. nat_lt other 256) pixels) e).1 i d
+    (omega (arith, l))
 
 where-bytes : (is_bytes test : Bool) → is_bytes ≡ true → (not is_bytes || test) ≡ true → test ≡ true
 where-bytes true test b e = e
 where-bytes false test b e = absurd cc
 
 bytes-held : (inputs : List Input) (pictures : List PictureContents) → hold_bytes inputs pictures ≡ true
-    → (place : ℕ) (input : Input) (picture : PictureContents) → slice_get inputs place ≡ Some input → slice_get pictures place ≡ Some picture → input.is_bytes ≡ true
+    → (place : ℕ) (input : Input) (picture : PictureContents) → slice_get inputs place ≡ Some input → slice_get pictures place ≡ Some picture
+    → input.is_bytes ≡ true
     → All (λ pixel. pixel < 256) picture.pixels
 bytes-held [] pictures h place input picture e f b = absurd cc
 bytes-held (one ∷ inputs) [] h place input picture e f b = absurd cc

@@ -86,7 +86,8 @@ module _ (own : CompiledContents) (rules : IsHeld own) (pictures : List PictureC
 
   some : 1 ≤ length phases
   some =
-      some_phases own.pipeline own.schedule own.boxes (length own.pipeline.funcs) phases rules.words_are.are_lowered own.pipeline.output.func root.func root.plan root.own
+      some_phases own.pipeline own.schedule own.boxes (length own.pipeline.funcs) phases rules.words_are.are_lowered own.pipeline.output.func root.func
+      root.plan root.own
       (slice_get_within own.pipeline.funcs own.pipeline.output.func root.func root.at_root.func_is) root.at_root
 
   abbrev pub last : ℕ
@@ -146,7 +147,8 @@ module _ (own : CompiledContents) (rules : IsHeld own) (pictures : List PictureC
         text-stays : end.text ≡ own.words
         text-stays = (shape-run (opening image harts) turns).text
 
-        left : ((address task : ℕ) → task < (steps last).tasks → (steps last).uses address ≡ Owned task → byte_at end.text end.memory address ≡ (steps last).result address)
+        left : ((address task : ℕ) → task < (steps last).tasks → (steps last).uses address ≡ Owned task
+            → byte_at end.text end.memory address ≡ (steps last).result address)
             × ((address : ℕ) → (steps last).uses address ≡ Fixed → byte_at end.text end.memory address ≡ (steps last).start address)
         left = one-result steps last text_start bytes turns goes begins finished
 
@@ -162,7 +164,8 @@ module _ (own : CompiledContents) (rules : IsHeld own) (pictures : List PictureC
             and_parts (is_width own.pipeline.output.width)
             (is_height own.pipeline.output.width own.pipeline.output.height) rules.compiled.well_formed.output in
             let wide = and_parts (nat_le 1 own.pipeline.output.width) (nat_le own.pipeline.output.width 65536) extents.0 in
-            let all = and_parts (nat_le 1 own.pipeline.output.height && nat_le own.pipeline.output.height 65536) (nat_le (own.pipeline.output.width * own.pipeline.output.height) 1048576) extents.1 in
+            let all = and_parts (nat_le 1 own.pipeline.output.height && nat_le own.pipeline.output.height 65536)
+            (nat_le (own.pipeline.output.width * own.pipeline.output.height) 1048576) extents.1 in
             let high = and_parts (nat_le 1 own.pipeline.output.height) (nat_le own.pipeline.output.height 65536) all.0 in
             shows-output own rules.compiled pictures none are (leb-true own.pipeline.output.width 65536 wide.1)
             (leb-true own.pipeline.output.height 65536 high.1) end holds
@@ -177,13 +180,15 @@ module _ (own : CompiledContents) (rules : IsHeld own) (pictures : List PictureC
         leaves_pixels = shows;
         can_finish = λ turns. can-finish steps last text_start bytes turns goes begins;
         fair_ends = (enough_rounds steps last, λ turns rounds fair long. fair-ends steps last text_start bytes goes begins turns rounds fair long);
-        gates_once = λ turns number hart l. let all = counted in gate-once steps last text_start bytes turns goes begins number hart (let one = count in omega (arith, l, all, one));
+        gates_once = λ turns number hart l. let all = counted in gate-once steps last text_start bytes turns goes begins number hart (let one = count in
+            omega (arith, l, all, one));
         gates_grow = λ turns more number l.
             let all = counted in let one = count in
             gates-grow steps last text_start bytes turns more goes begins number (omega (arith, l, all, one));
         stops_alone = λ turns hart l.
             subst (λ (n : ℕ). (more : List ℕ) × OnlyBy hart more
-            × (Waits n hart (opening image harts) (turns ++ more) ⊎ ((one : HartState) → slice_get (run (opening image harts) (turns ++ more)).harts hart ≡ Some one → one.status ≡ Finished))) last-is
+            × (Waits n hart (opening image harts) (turns ++ more) ⊎ ((one : HartState) → slice_get (run (opening image harts) (turns ++ more)).harts hart
+            ≡ Some one → one.status ≡ Finished))) last-is
             (alone-stops steps last text_start bytes turns goes begins hart l);
       }
 

@@ -55,80 +55,90 @@ no-box None func = refl
 no-box (Some standing) None = refl
 no-box (Some standing) (Some func) = refl
 
-counted-all : (standings : List Standing) (funcs : List Func) (boxes : List (Option SourceBox)) (n : ℕ) → length funcs ≤ n → phases standings funcs boxes ≡ total n (counts standings funcs boxes)
+counted-all : (standings : List Standing) (funcs : List Func) (boxes : List (Option SourceBox)) (n : ℕ) → length funcs ≤ n
+    → phases standings funcs boxes ≡ total n (counts standings funcs boxes)
 counted-all [] funcs boxes n l = sym (total-zero n (counts [] funcs boxes) (λ k. refl))
-counted-all (standing ∷ standings) [] boxes n l = sym (total-zero n (counts (standing ∷ standings) [] boxes) (λ k. no-func (slice_get (standing ∷ standings) k) (slice_get boxes k)))
-counted-all (standing ∷ standings) (func ∷ funcs) [] n l = sym (total-zero n (counts (standing ∷ standings) (func ∷ funcs) []) (λ k. no-box (slice_get (standing ∷ standings) k) (slice_get (func ∷ funcs) k)))
+counted-all (standing ∷ standings) [] boxes n l = sym (total-zero n (counts (standing ∷ standings) [] boxes) (λ k. no-func (slice_get (standing ∷ standings) k)
+    (slice_get boxes k)))
+counted-all (standing ∷ standings) (func ∷ funcs) [] n l = sym (total-zero n (counts (standing ∷ standings) (func ∷ funcs) [])
+    (λ k. no-box (slice_get (standing ∷ standings) k) (slice_get (func ∷ funcs) k)))
 counted-all (standing ∷ standings) (func ∷ funcs) (own ∷ boxes) zero l = absurd (omega (arith, l))
-counted-all (standing ∷ standings) (func ∷ funcs) (own ∷ boxes) (suc n) l = ap (λ (rest : ℕ). phases_of standing.place func own + rest) (counted-all standings funcs boxes n (omega (arith, l)))
+counted-all (standing ∷ standings) (func ∷ funcs) (own ∷ boxes) (suc n) l = ap (λ (rest : ℕ). phases_of standing.place func own + rest)
+    (counted-all standings funcs boxes n (omega (arith, l)))
 
-module _ (pipeline : Pipeline) (schedule : Schedule) (boxes : Boxes) (accepted : IsAccepted pipeline schedule) (is : inferred pipeline schedule ≡ Ok boxes) where
-  abbrev at_place : ℕ → ℕ
-  at_place = counts schedule.standings pipeline.funcs boxes.funcs
+module _ (pipeline : Pipeline) (schedule : Schedule) (boxes : Boxes) (accepted : IsAccepted pipeline schedule) (is : inferred pipeline schedule ≡ Ok boxes)
+  where
+    abbrev at_place : ℕ → ℕ
+    at_place = counts schedule.standings pipeline.funcs boxes.funcs
 
-  -- a Func at root that has a box is reached
-  root-with-box : (place : ℕ) (standing : Standing) (func : Func) (own : SourceBox) → slice_get schedule.standings place ≡ Some standing → slice_get pipeline.funcs place ≡ Some func
-      → slice_get boxes.funcs place ≡ Some (Some own) → standing.place ≡ places.Root → IsNotAtRoot pipeline schedule boxes place → ⊥
-  root-with-box place standing func own s f b root none =
-      let plan = pair_there IsPlan pipeline.funcs schedule.funcs place func accepted.plans f in
-      let box = has_box pipeline schedule boxes accepted is place own b in
-      let same : box.standing ≡ standing = let p = box.there.standing in cc in
-      none func plan.value own (record {
-        func_is = f;
-        plan_is = plan.is;
-        box_is = b;
-        standing = standing;
-        there = subst (IsReached schedule.standings place) same box.there;
-        placed_is = root;
-      })
+    -- a Func at root that has a box is reached
+    root-with-box : (place : ℕ) (standing : Standing) (func : Func) (own : SourceBox) → slice_get schedule.standings place ≡ Some standing
+        → slice_get pipeline.funcs place ≡ Some func
+        → slice_get boxes.funcs place ≡ Some (Some own) → standing.place ≡ places.Root → IsNotAtRoot pipeline schedule boxes place → ⊥
+    root-with-box place standing func own s f b root none =
+        let plan = pair_there IsPlan pipeline.funcs schedule.funcs place func accepted.plans f in
+        let box = has_box pipeline schedule boxes accepted is place own b in
+        let same : box.standing ≡ standing = let p = box.there.standing in cc in
+        none func plan.value own (record {
+          func_is = f;
+          plan_is = plan.is;
+          box_is = b;
+          standing = standing;
+          there = subst (IsReached schedule.standings place) same box.there;
+          placed_is = root;
+        })
 
-  passed-by : (place : ℕ) → IsNotAtRoot pipeline schedule boxes place → at_place place ≡ 0
-  passed-by place none = by_all (slice_get schedule.standings place) (slice_get pipeline.funcs place) (slice_get boxes.funcs place) refl refl refl
-    where
-      by_box : (standing : Standing) (func : Func) (own : Option SourceBox) (at : Place) → slice_get schedule.standings place ≡ Some standing → slice_get pipeline.funcs place ≡ Some func
-          → slice_get boxes.funcs place ≡ Some own → standing.place ≡ at → phases_of at func own ≡ 0
-      by_box standing func None places.Root s f b p = refl
-      by_box standing func (Some own) places.Root s f b p = absurd (root-with-box place standing func own s f b p none)
-      by_box standing func own places.Inlined s f b p = refl
-      by_box standing func own (places.At at) s f b p = refl
-      by_box standing func own places.Nowhere s f b p = refl
+    passed-by : (place : ℕ) → IsNotAtRoot pipeline schedule boxes place → at_place place ≡ 0
+    passed-by place none = by_all (slice_get schedule.standings place) (slice_get pipeline.funcs place) (slice_get boxes.funcs place) refl refl refl
+      where
+        by_box : (standing : Standing) (func : Func) (own : Option SourceBox) (at : Place) → slice_get schedule.standings place ≡ Some standing
+            → slice_get pipeline.funcs place ≡ Some func
+            → slice_get boxes.funcs place ≡ Some own → standing.place ≡ at → phases_of at func own ≡ 0
+        by_box standing func None places.Root s f b p = refl
+        by_box standing func (Some own) places.Root s f b p = absurd (root-with-box place standing func own s f b p none)
+        by_box standing func own places.Inlined s f b p = refl
+        by_box standing func own (places.At at) s f b p = refl
+        by_box standing func own places.Nowhere s f b p = refl
 
-      by_all : (standing : Option Standing) (func : Option Func) (own : Option (Option SourceBox)) → slice_get schedule.standings place ≡ standing → slice_get pipeline.funcs place ≡ func
-          → slice_get boxes.funcs place ≡ own → count_at standing func own ≡ 0
-      by_all None func own s f b = refl
-      by_all (Some standing) None own s f b = refl
-      by_all (Some standing) (Some func) None s f b = refl
-      by_all (Some standing) (Some func) (Some own) s f b = by_box standing func own standing.place s f b refl
+        by_all : (standing : Option Standing) (func : Option Func) (own : Option (Option SourceBox)) → slice_get schedule.standings place ≡ standing
+            → slice_get pipeline.funcs place ≡ func
+            → slice_get boxes.funcs place ≡ own → count_at standing func own ≡ 0
+        by_all None func own s f b = refl
+        by_all (Some standing) None own s f b = refl
+        by_all (Some standing) (Some func) None s f b = refl
+        by_all (Some standing) (Some func) (Some own) s f b = by_box standing func own standing.place s f b refl
 
-  stages-long : (place : ℕ) (func : Func) (plan : FuncPlan) (own : SourceBox) (others : List Phase) (number : ℕ) (made : List Phase)
-      → ArePhasesOf pipeline schedule boxes place func plan own others number made → length made ≡ length others + number
-  stages-long place func plan own others _ _ None_yet = omega arith
-  stages-long place func plan own others _ _ (One_more number made phase before one) =
-      let rest = stages-long place func plan own others number made before in
-      let more = length-append made (phase ∷ []) in
-      omega (arith, rest, more)
+    stages-long : (place : ℕ) (func : Func) (plan : FuncPlan) (own : SourceBox) (others : List Phase) (number : ℕ) (made : List Phase)
+        → ArePhasesOf pipeline schedule boxes place func plan own others number made → length made ≡ length others + number
+    stages-long place func plan own others _ _ None_yet = omega arith
+    stages-long place func plan own others _ _ (One_more number made phase before one) =
+        let rest = stages-long place func plan own others number made before in
+        let more = length-append made (phase ∷ []) in
+        omega (arith, rest, more)
 
-  at-root : (place : ℕ) (func : Func) (plan : FuncPlan) (own : SourceBox) → IsAtRoot pipeline schedule boxes place func plan own → at_place place ≡ length func.updates + 1
-  at-root place func plan own root =
-      ap (λ (s : Option Standing). count_at s (slice_get pipeline.funcs place) (slice_get boxes.funcs place)) root.there.standing
-      ∙ (ap (λ (f : Option Func). count_at (Some root.standing) f (slice_get boxes.funcs place)) root.func_is
-      ∙ (ap (λ (b : Option (Option SourceBox)). count_at (Some root.standing) (Some func) b) root.box_is
-      ∙ ap (λ (p : Place). phases_of p func (Some own)) root.placed_is))
+    at-root : (place : ℕ) (func : Func) (plan : FuncPlan) (own : SourceBox) → IsAtRoot pipeline schedule boxes place func plan own
+        → at_place place ≡ length func.updates + 1
+    at-root place func plan own root =
+        ap (λ (s : Option Standing). count_at s (slice_get pipeline.funcs place) (slice_get boxes.funcs place)) root.there.standing
+        ∙ (ap (λ (f : Option Func). count_at (Some root.standing) f (slice_get boxes.funcs place)) root.func_is
+        ∙ (ap (λ (b : Option (Option SourceBox)). count_at (Some root.standing) (Some func) b) root.box_is
+        ∙ ap (λ (p : Place). phases_of p func (Some own)) root.placed_is))
 
-  lowered-long : (count : ℕ) (made : List Phase) → AreLowered pipeline schedule boxes count made → length made ≡ total count at_place
-  lowered-long _ _ No_func = refl
-  lowered-long _ made (Passed place _ before none) =
-      let rest = lowered-long place made before in
-      let zero_here = passed-by place none in
-      let next = total-next place at_place in
-      omega (arith, rest, zero_here, next)
-  lowered-long _ made (Computed place before _ func plan own earlier root stages) =
-      let rest = lowered-long place before earlier in
-      let here = at-root place func plan own root in
-      let long = stages-long place func plan own before (suc (length func.updates)) made stages in
-      let next = total-next place at_place in
-      omega (arith, rest, here, long, next)
+    lowered-long : (count : ℕ) (made : List Phase) → AreLowered pipeline schedule boxes count made → length made ≡ total count at_place
+    lowered-long _ _ No_func = refl
+    lowered-long _ made (Passed place _ before none) =
+        let rest = lowered-long place made before in
+        let zero_here = passed-by place none in
+        let next = total-next place at_place in
+        omega (arith, rest, zero_here, next)
+    lowered-long _ made (Computed place before _ func plan own earlier root stages) =
+        let rest = lowered-long place before earlier in
+        let here = at-root place func plan own root in
+        let long = stages-long place func plan own before (suc (length func.updates)) made stages in
+        let next = total-next place at_place in
+        omega (arith, rest, here, long, next)
 
-  pub phases-counted : (made : List Phase) → AreLowered pipeline schedule boxes (length pipeline.funcs) made → phases schedule.standings pipeline.funcs boxes.funcs ≡ length made
-  phases-counted made are =
-      counted-all schedule.standings pipeline.funcs boxes.funcs (length pipeline.funcs) (omega arith) ∙ sym (lowered-long (length pipeline.funcs) made are)
+    pub phases-counted : (made : List Phase) → AreLowered pipeline schedule boxes (length pipeline.funcs) made
+        → phases schedule.standings pipeline.funcs boxes.funcs ≡ length made
+    phases-counted made are =
+        counted-all schedule.standings pipeline.funcs boxes.funcs (length pipeline.funcs) (omega arith) ∙ sym (lowered-long (length pipeline.funcs) made are)

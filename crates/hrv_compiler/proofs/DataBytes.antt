@@ -1,5 +1,6 @@
 -- What stands in the data of an image: at each byte what the part that it is of holds there.
-use Rattle.std.proofs.Common.{◌≡◌, ℕ, zero, suc, ◌+◌, ◌-◌, ◌*◌, ◌/◌, ◌%◌, ◌<◌, ◌≤◌, Bool, true, false, cond, List, [], ◌∷◌, ◌++◌, map, length, replicate, Option, Some, None, refl, sym, ap, ◌∙◌, arith, inl, inr}
+use Rattle.std.proofs.Common.{◌≡◌, ℕ, zero, suc, ◌+◌, ◌-◌, ◌*◌, ◌/◌, ◌%◌, ◌<◌, ◌≤◌, Bool, true, false, cond, List, [], ◌∷◌, ◌++◌, map, length, replicate}
+use Rattle.std.proofs.Common.{Option, Some, None, refl, sym, ap, ◌∙◌, arith, inl, inr}
 use Rattle.std.specs.Prelude.{◌&&◌, ◌==◌, nat_lt, nat_le, slice_index, slice_get}
 use Rattle.std.specs.Int.{w32, to_le_bytes}
 use Rattle.std.proofs.Math.Nat.{mul_comm, mod-lt, div-lt_iff_lt-mul}
@@ -117,7 +118,8 @@ module _ (input : Input) (picture : PictureContents) (rules : IsPicture picture)
           let l : length picture.pixels ≤ whole (length picture.pixels) = omega arith in
           length-append picture.pixels (replicate (whole (length picture.pixels) - length picture.pixels) 0)
           ∙ (ap (λ (k : ℕ). length picture.pixels + k) (length-replicate (whole (length picture.pixels) - length picture.pixels) 0)
-          ∙ (let e : length picture.pixels + (whole (length picture.pixels) - length picture.pixels) ≡ whole (length picture.pixels) = omega (arith, l) in e) ∙ ap whole pixels_are)
+          ∙ (let e : length picture.pixels + (whole (length picture.pixels) - length picture.pixels) ≡ whole (length picture.pixels) = omega (arith, l) in e)
+          ∙ ap whole pixels_are)
       by_kind false = words-length picture.pixels ∙ ap (λ (k : ℕ). k * 4) pixels_are
 
   module _ (place : ℕ) (inputs : Planes) (same : (x y : ℕ) → inputs place x y ≡ input_plane (Some picture) x y) (n : ℕ) (l : n < input_bytes input) where
@@ -125,17 +127,21 @@ module _ (input : Input) (picture : PictureContents) (rules : IsPicture picture)
     of_bytes = elim (cases_lt n (length picture.pixels)) [
       | inl b ↦
           before-zeros picture.pixels (whole (length picture.pixels) - length picture.pixels) n b
-          ∙ (sym (numbered picture rules n b) ∙ (ap (λ (w : ℕ). input_plane (Some picture) (n % w) (n / w)) widths ∙ sym (same (n % input.width) (n / input.width))))
+          ∙ (sym (numbered picture rules n b) ∙ (ap (λ (w : ℕ). input_plane (Some picture) (n % w) (n / w)) widths
+          ∙ sym (same (n % input.width) (n / input.width))))
       | inr b ↦
           behind-zeros picture.pixels (whole (length picture.pixels) - length picture.pixels) n b
-          ∙ (sym (beyond picture rules n b) ∙ (ap (λ (w : ℕ). input_plane (Some picture) (n % w) (n / w)) widths ∙ sym (same (n % input.width) (n / input.width))))
+          ∙ (sym (beyond picture rules n b) ∙ (ap (λ (w : ℕ). input_plane (Some picture) (n % w) (n / w)) widths
+          ∙ sym (same (n % input.width) (n / input.width))))
     ]
 
-    of_words : n < length picture.pixels * 4 → slice_index (word_bytes picture.pixels) n ≡ byte_of (inputs place (n / 4 % input.width) (n / 4 / input.width)) (n % 4)
+    of_words : n < length picture.pixels * 4 → slice_index (word_bytes picture.pixels) n ≡ byte_of (inputs place (n / 4 % input.width) (n / 4 / input.width))
+        (n % 4)
     of_words b =
         let q : n / 4 < length picture.pixels = omega (arith, b) in
         words-at picture.pixels n b
-        ∙ ap (λ (p : ℕ). byte_of p (n % 4)) (sym (numbered picture rules (n / 4) q) ∙ (ap (λ (w : ℕ). input_plane (Some picture) (n / 4 % w) (n / 4 / w)) widths ∙ sym (same (n / 4 % input.width) (n / 4 / input.width))))
+        ∙ ap (λ (p : ℕ). byte_of p (n % 4)) (sym (numbered picture rules (n / 4) q) ∙ (ap (λ (w : ℕ). input_plane (Some picture) (n / 4 % w) (n / 4 / w)) widths
+        ∙ sym (same (n / 4 % input.width) (n / 4 / input.width))))
 
     pub byte-of-input : slice_index (input_data input picture) n ≡ input_byte (Some input) place inputs n
     byte-of-input = by_kind input.is_bytes l
@@ -158,12 +164,15 @@ one_further : (input : Input) (others : List Input) (picture : PictureContents) 
 one_further input others picture pictures None = refl
 one_further input others picture pictures (Some found) = of_place (slice_get others found.place)
   where
-    of_place : (own : Option Input) → input_byte own (suc found.place) (input_planes (picture ∷ pictures)) found.offset ≡ input_byte own found.place (input_planes pictures) found.offset
+    of_place : (own : Option Input) → input_byte own (suc found.place) (input_planes (picture ∷ pictures)) found.offset
+        ≡ input_byte own found.place (input_planes pictures) found.offset
     of_place None = refl
     of_place (Some own) = refl
 
-pub inputs-found : (inputs : List Input) (pictures : List PictureContents) → length pictures ≡ length inputs → are_sizes inputs pictures ≡ true → ArePictures pictures
-    → (zeros_behind n : ℕ) → slice_index (inputs_data inputs pictures ++ replicate zeros_behind 0) n ≡ found_byte inputs (input_planes pictures) (find (map input_bytes inputs) n)
+pub inputs-found : (inputs : List Input) (pictures : List PictureContents) → length pictures ≡ length inputs → are_sizes inputs pictures ≡ true
+    → ArePictures pictures
+    → (zeros_behind n : ℕ) → slice_index (inputs_data inputs pictures ++ replicate zeros_behind 0) n ≡ found_byte inputs (input_planes pictures)
+    (find (map input_bytes inputs) n)
 inputs-found [] [] e s r behind n = zeros behind n
 inputs-found [] (picture ∷ pictures) e s r behind n = absurd cc
 inputs-found (input ∷ inputs) [] e s r behind n = absurd cc
@@ -176,16 +185,19 @@ inputs-found (input ∷ inputs) (picture ∷ pictures) e s r behind n =
       | inl l ↦
           get_or_append_left (input_data input picture) rest 0 n (omega (arith, l, long))
           ∙ (byte-of-input input picture r.0 sizes.0 0 (input_planes (picture ∷ pictures)) (λ x y. refl) n l
-          ∙ ap (λ (b : Bool). found_byte (input ∷ inputs) (input_planes (picture ∷ pictures)) (cond b (Some (record { place = 0; offset = n })) (further (find (map input_bytes inputs) (n - input_bytes input))))) (sym (lt-ltb n (input_bytes input) l)))
+          ∙ ap (λ (b : Bool). found_byte (input ∷ inputs) (input_planes (picture ∷ pictures)) (cond b (Some (record { place = 0; offset = n }))
+          (further (find (map input_bytes inputs) (n - input_bytes input))))) (sym (lt-ltb n (input_bytes input) l)))
       | inr l ↦
           get_or-append_right (input_data input picture) rest n 0 (omega (arith, l, long))
           ∙ (ap (λ (k : ℕ). slice_index rest (n - k)) long
           ∙ (inputs-found inputs pictures (let p : length pictures ≡ length inputs = omega (arith, e) in p) sizes.1 r.1 behind (n - input_bytes input)
           ∙ (sym (one_further input inputs picture pictures (find (map input_bytes inputs) (n - input_bytes input)))
-          ∙ ap (λ (b : Bool). found_byte (input ∷ inputs) (input_planes (picture ∷ pictures)) (cond b (Some (record { place = 0; offset = n })) (further (find (map input_bytes inputs) (n - input_bytes input))))) (sym (le-ltb n (input_bytes input) l)))))
+          ∙ ap (λ (b : Bool). found_byte (input ∷ inputs) (input_planes (picture ∷ pictures)) (cond b (Some (record { place = 0; offset = n }))
+          (further (find (map input_bytes inputs) (n - input_bytes input))))) (sym (le-ltb n (input_bytes input) l)))))
     ]
 
-pub length-inputs : (inputs : List Input) (pictures : List PictureContents) → length pictures ≡ length inputs → are_sizes inputs pictures ≡ true → ArePictures pictures
+pub length-inputs : (inputs : List Input) (pictures : List PictureContents) → length pictures ≡ length inputs → are_sizes inputs pictures ≡ true
+    → ArePictures pictures
     → length (inputs_data inputs pictures) ≡ total (map input_bytes inputs)
 length-inputs [] pictures e s r = refl
 length-inputs (input ∷ inputs) [] e s r = absurd cc

@@ -1,5 +1,6 @@
 -- The parts of an image keep the rules of images.
-use Rattle.std.proofs.Common.{◌≡◌, ℕ, ◌+◌, ◌-◌, ◌*◌, ◌%◌, ◌≤◌, Bool, true, false, cond, List, [], ◌++◌, map, length, replicate, Option, Some, None, refl, sym, ap, ◌∙◌, arith}
+use Rattle.std.proofs.Common.{◌≡◌, ℕ, ◌+◌, ◌-◌, ◌*◌, ◌%◌, ◌≤◌, Bool, true, false, cond, List, [], ◌++◌, map, length, replicate, Option, Some, None, refl, sym}
+use Rattle.std.proofs.Common.{ap, ◌∙◌, arith}
 use Rattle.std.specs.Prelude.{◌==◌, nat_le, nat_lt, not, slice_get, Result, Ok, Err}
 use Rattle.std.specs.Result.{IsOk}
 use Rattle.std.proofs.lemmas.Bool.{eq-eqb, eqb-true, le-leb, lt-ltb}
@@ -42,7 +43,8 @@ passed false wrong next e = absurd cc
 
 pub asked_for : (inputs : List Input) (pictures : List PictureContents) → judged inputs pictures ≡ None → AreAskedFor inputs pictures
 asked_for inputs pictures e =
-    let a = passed (length pictures == length inputs) errors.InputCount (cond (not (are_sizes inputs pictures)) (Some errors.InputSize) (cond (not (hold_bytes inputs pictures)) (Some errors.InputByte) None)) e in
+    let a = passed (length pictures == length inputs) errors.InputCount (cond (not (are_sizes inputs pictures)) (Some errors.InputSize)
+    (cond (not (hold_bytes inputs pictures)) (Some errors.InputByte) None)) e in
     let b = passed (are_sizes inputs pictures) errors.InputSize (cond (not (hold_bytes inputs pictures)) (Some errors.InputByte) None) a.1 in
     let c = passed (hold_bytes inputs pictures) errors.InputByte None b.1 in
     record { count = eqb-true (length pictures) (length inputs) a.0; sizes = b.0; bytes = c.0 }
@@ -63,7 +65,8 @@ room size phases inputs pictures none rules fit =
 
 -- ---- the output's picture
 
-picture_lies : (at size : ℕ) (own : SourceBox) (width height : ℕ) → Holds at own width height → at % 4 ≡ 0 → data_start ≤ at → at + 4 * points own ≤ data_start + size → width * height ≤ most_pixels
+picture_lies : (at size : ℕ) (own : SourceBox) (width height : ℕ) → Holds at own width height → at % 4 ≡ 0 → data_start ≤ at
+    → at + 4 * points own ≤ data_start + size → width * height ≤ most_pixels
     → is_output_or_none size (output_in at (Some own) width height) ≡ true
 picture_lies at size own width height h aligned above within few =
     let row = extent own.x in
@@ -91,13 +94,16 @@ picture_lies at size own width height h aligned above within few =
 
 -- ---- the parts of an image
 
-module _ (own : CompiledContents) (rules : IsCompiled own) (pictures : List PictureContents) (none : judged own.pipeline.inputs pictures ≡ None) (are : ArePictures pictures) where
+module _ (own : CompiledContents) (rules : IsCompiled own) (pictures : List PictureContents) (none : judged own.pipeline.inputs pictures ≡ None)
+    (are : ArePictures pictures) where
   pub long : length (image_data own.boxes.layout own.pipeline.inputs pictures) ≡ own.boxes.layout.size
   long =
       let content = replicate (8 * own.boxes.layout.phases) 0 ++ inputs_data own.pipeline.inputs pictures in
-      let fit = room own.boxes.layout.size own.boxes.layout.phases own.pipeline.inputs pictures none are (inputs_fit own.pipeline own.schedule own.boxes rules.inferred_is) in
+      let fit = room own.boxes.layout.size own.boxes.layout.phases own.pipeline.inputs pictures none are (inputs_fit own.pipeline own.schedule own.boxes
+      rules.inferred_is) in
       let a = length-append {A = ℕ} content (replicate (own.boxes.layout.size - length content) 0) in
-      let b : length {A = ℕ} (replicate (own.boxes.layout.size - length content) 0) ≡ own.boxes.layout.size - length content = length-replicate {A = ℕ} (own.boxes.layout.size - length content) 0 in
+      let b : length {A = ℕ} (replicate (own.boxes.layout.size - length content) 0) ≡ own.boxes.layout.size - length content = length-replicate {A = ℕ}
+      (own.boxes.layout.size - length content) 0 in
       omega (arith, a, b, fit)
 
   pub box_here : OutputBox own.pipeline own.boxes
@@ -111,7 +117,8 @@ module _ (own : CompiledContents) (rules : IsCompiled own) (pictures : List Pict
 
   output_lies : is_output_or_none (length (image_data own.boxes.layout own.pipeline.inputs pictures)) (output_of own.pipeline own.boxes) ≡ true
   output_lies =
-      rw output_is (rw long (picture_lies box_here.at own.boxes.layout.size box_here.own own.pipeline.output.width own.pipeline.output.height box_here.holds box_here.aligned box_here.above box_here.within
+      rw output_is (rw long (picture_lies box_here.at own.boxes.layout.size box_here.own own.pipeline.output.width own.pipeline.output.height box_here.holds
+      box_here.aligned box_here.above box_here.within
       (output_points own.pipeline own.schedule own.boxes rules.well_formed rules.accepted rules.inferred_is)))
 
 module _ (own : CompiledContents) (rules : IsHeld own) (pictures : List PictureContents) (none : judged own.pipeline.inputs pictures ≡ None)
@@ -135,12 +142,19 @@ module _ (own : CompiledContents) (rules : IsHeld own) (pictures : List PictureC
   pub passes : judged_image (image_of own pictures) ≡ Ok (image_of own pictures)
   passes = rw limits (rw entry (rw (output_lies own rules.compiled pictures none are) refl))
 
-  pub parts_pass : (words bytes : List ℕ) (output : Option Output) → words ≡ own.words → bytes ≡ image_data own.boxes.layout own.pipeline.inputs pictures → output ≡ output_of own.pipeline own.boxes
+  pub parts_pass : (words bytes : List ℕ) (output : Option Output) → words ≡ own.words → bytes ≡ image_data own.boxes.layout own.pipeline.inputs pictures
+      → output ≡ output_of own.pipeline own.boxes
       → judged_image (record { entry = text_start; words = words; bytes = bytes; output = output }) ≡ Ok (image_of own pictures)
   parts_pass words bytes output e f g =
       ap (λ (w : List ℕ). judged_image (record { entry = text_start; words = w; bytes = bytes; output = output })) e
       ∙ (ap (λ (b : List ℕ). judged_image (record { entry = text_start; words = own.words; bytes = b; output = output })) f
-      ∙ (ap (λ (o : Option Output). judged_image (record { entry = text_start; words = own.words; bytes = image_data own.boxes.layout own.pipeline.inputs pictures; output = o })) g ∙ passes))
+      ∙ (ap (λ (o : Option Output). judged_image (record {
+        entry = text_start;
+        words = own.words;
+        bytes = image_data own.boxes.layout own.pipeline.inputs
+            pictures;
+        output = o;
+      })) g ∙ passes))
 
 pub is_ok : (answer : Result ImageContents LoadFault) (image : ImageContents) → answer ≡ Ok image → IsOk answer
 is_ok (Ok own) image e = refl

@@ -29,15 +29,18 @@ kept true own boxes wrong e = cc
 kept false own boxes wrong e = absurd cc
 
 module _ (pipeline : Pipeline) (schedule : Schedule) (boxes : Boxes) where
-  judged_so : (funcs inputs : List (Option SourceBox)) → judged pipeline schedule funcs inputs ≡ Ok boxes → boxes.layout ≡ laid_out pipeline schedule boxes.funcs
+  judged_so : (funcs inputs : List (Option SourceBox)) → judged pipeline schedule funcs inputs ≡ Ok boxes
+      → boxes.layout ≡ laid_out pipeline schedule boxes.funcs
   judged_so funcs inputs e =
       let own = boxes_of pipeline schedule funcs inputs in
-      let a = passed (inputs_hold pipeline.inputs inputs) faults.InputExtents (cond (not (shifts_hold schedule.funcs funcs)) (Err faults.ShortShift) (sized own)) boxes e in
+      let a = passed (inputs_hold pipeline.inputs inputs) faults.InputExtents (cond (not (shifts_hold schedule.funcs funcs)) (Err faults.ShortShift)
+      (sized own)) boxes e in
       let b = passed (shifts_hold schedule.funcs funcs) faults.ShortShift (sized own) boxes a in
       let c = kept (have_few_points own.inputs && (have_few_points own.funcs && nat_le own.layout.size 33554432)) own boxes faults.TooLarge b in
       subst (λ (b : Boxes). b.layout ≡ laid_out pipeline schedule b.funcs) c refl
 
-  inputs_so : (funcs : List (Option SourceBox)) (inputs : Option (List (Option SourceBox))) → with_inputs pipeline schedule funcs inputs ≡ Ok boxes → boxes.layout ≡ laid_out pipeline schedule boxes.funcs
+  inputs_so : (funcs : List (Option SourceBox)) (inputs : Option (List (Option SourceBox))) → with_inputs pipeline schedule funcs inputs ≡ Ok boxes
+      → boxes.layout ≡ laid_out pipeline schedule boxes.funcs
   inputs_so funcs None e = absurd cc
   inputs_so funcs (Some inputs) e = judged_so funcs inputs e
 
@@ -56,7 +59,8 @@ unfolding AreAddresses
 addresses start [] l = tt
 addresses start (size ∷ sizes) l = (omega (arith, l), addresses (start + size) sizes (omega (arith, l)))
 
-low : (phases : ℕ) (inputs roots privates : List ℕ) (has_frames : Bool) → (laid_in phases inputs roots privates has_frames).size ≤ 33554432 → LiesLow (laid_in phases inputs roots privates has_frames)
+low : (phases : ℕ) (inputs roots privates : List ℕ) (has_frames : Bool) → (laid_in phases inputs roots privates has_frames).size ≤ 33554432
+    → LiesLow (laid_in phases inputs roots privates has_frames)
 unfolding laid_in
 low phases inputs roots privates has_frames l = record {
   inputs = addresses (data_start + 8 * phases) inputs (omega (arith, l));
@@ -80,7 +84,8 @@ module _ (pipeline : Pipeline) (schedule : Schedule) (boxes : Boxes) (is : infer
   all_few = (is_judged pipeline schedule boxes is).few
 
   pub own_few : (have_few_points boxes.funcs ≡ true) × (nat_le boxes.layout.size 33554432 ≡ true)
-  own_few = and_parts (have_few_points boxes.funcs) (nat_le boxes.layout.size 33554432) (and_parts (have_few_points boxes.inputs) (have_few_points boxes.funcs && nat_le boxes.layout.size 33554432) all_few).1
+  own_few = and_parts (have_few_points boxes.funcs) (nat_le boxes.layout.size 33554432) (and_parts (have_few_points boxes.inputs) (have_few_points boxes.funcs
+      && nat_le boxes.layout.size 33554432) all_few).1
 
   pub have_few : HaveFewPoints boxes.funcs
   have_few = few_all boxes.funcs own_few.0
@@ -92,7 +97,8 @@ module _ (pipeline : Pipeline) (schedule : Schedule) (boxes : Boxes) (is : infer
     where
       low_out : (laid_out pipeline schedule boxes.funcs).size ≤ 33554432 → LiesLow (laid_out pipeline schedule boxes.funcs)
       low_out l =
-          low (phases schedule.standings pipeline.funcs boxes.funcs) (map input_bytes pipeline.inputs) (root_sizes schedule.standings boxes.funcs) (private_sizes schedule.standings boxes.funcs)
+          low (phases schedule.standings pipeline.funcs boxes.funcs) (map input_bytes pipeline.inputs) (root_sizes schedule.standings boxes.funcs)
+          (private_sizes schedule.standings boxes.funcs)
           (has_frames (needs pipeline schedule)) l
 
 pub few_phases : (pipeline : Pipeline) (schedule : Schedule) (boxes : Boxes) → inferred pipeline schedule ≡ Ok boxes → 8 * boxes.layout.phases ≤ 33554432

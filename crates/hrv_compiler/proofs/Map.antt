@@ -30,7 +30,8 @@ are-phases own rules =
       as_many =
           parts-length (places_of own.pipeline own.schedule own.boxes.funcs own.boxes.layout) 0 rules.words_are.phases made.parts made.are_parts
           ∙ sym (phases_are own.pipeline own.schedule own.boxes rules.compiled.inferred_is
-          ∙ phases-counted own.pipeline own.schedule own.boxes rules.compiled.accepted rules.compiled.inferred_is rules.words_are.phases rules.words_are.are_lowered);
+          ∙ phases-counted own.pipeline own.schedule own.boxes rules.compiled.accepted rules.compiled.inferred_is rules.words_are.phases
+          rules.words_are.are_lowered);
       are_words = made.emits;
       ends_are = rules.words_are.ends_are;
     }

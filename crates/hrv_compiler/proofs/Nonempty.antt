@@ -36,7 +36,8 @@ module _ (pipeline : Pipeline) (schedule : Schedule) (boxes : Boxes) where
         let e : place ≡ last = omega (arith, l, b) in
         absurd (none func plan own (subst (λ (n : ℕ). IsAtRoot pipeline schedule boxes n func plan own) e at))
   ]
-  some_phases _ phases (Computed last before _ first second third rest there made) place func plan own l at = one_phase last first second third before (length first.updates) phases made
+  some_phases _ phases (Computed last before _ first second third rest there made) place func plan own l at = one_phase last first second third before
+      (length first.updates) phases made
 
 some_code : (number : ℕ) (parts : List Part) → 1 ≤ length parts → 1 ≤ length (program number parts)
 some_code number [] l = absurd (omega (arith, l))
@@ -47,7 +48,8 @@ pub some_words : (own : CompiledContents) → IsHeld own → 1 ≤ length own.wo
 some_words own rules =
     let root = root_output own.pipeline own.schedule own.boxes rules.compiled.well_formed rules.compiled.accepted rules.compiled.inferred_is in
     let words = rules.words_are in
-    let phases = some_phases own.pipeline own.schedule own.boxes (length own.pipeline.funcs) words.phases words.are_lowered own.pipeline.output.func root.func root.plan root.own inside root.at_root in
+    let phases = some_phases own.pipeline own.schedule own.boxes (length own.pipeline.funcs) words.phases words.are_lowered own.pipeline.output.func root.func
+    root.plan root.own inside root.at_root in
     let made = words.is_program in
     let same = parts-length (places_of own.pipeline own.schedule own.boxes.funcs own.boxes.layout) 0 words.phases made.parts made.are_parts in
     let code = some_code 0 made.parts (omega (arith, phases, same)) in

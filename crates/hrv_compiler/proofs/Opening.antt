@@ -1,5 +1,6 @@
 -- The data of an image are what its phases begin with: the inputs' pixels, and zeros.
-use Rattle.std.proofs.Common.{◌≡◌, ℕ, zero, suc, ◌-◌, ◌*◌, ◌/◌, ◌%◌, ◌^◌, ◌<◌, ◌≤◌, Bool, true, false, cond, List, ◌++◌, length, replicate, Option, Some, None, refl, sym, ap, subst, ◌∙◌, arith, inl, inr}
+use Rattle.std.proofs.Common.{◌≡◌, ℕ, zero, suc, ◌-◌, ◌*◌, ◌/◌, ◌%◌, ◌^◌, ◌<◌, ◌≤◌, Bool, true, false, cond, List, ◌++◌, length, replicate, Option, Some, None}
+use Rattle.std.proofs.Common.{refl, sym, ap, subst, ◌∙◌, arith, inl, inr}
 use Rattle.std.specs.Prelude.{slice_index, slice_get}
 use Rattle.std.proofs.lemmas.Bool.{cases_lt, lt-ltb, le-ltb}
 use Rattle.std.proofs.Math.Seq.{get_or-append_right}
@@ -13,7 +14,8 @@ use Rattle.bounds.specs.declared.boxes.SourceBox.{SourceBox}
 use Rattle.bounds.specs.declared.layout.Layout.{Layout}
 use Rattle.bounds.specs.Layout.{laid_in, laid_out, total}
 use Rattle.picture.specs.Evaluated.{judged}
-use Rattle.bounds.specs.Parts.{Part, Control, Input as InputPart, Root, Copies, Frame, Outside, Found, Sizes, sizes_of, find, found_or, in_privates, in_roots, in_inputs, in_data}
+use Rattle.bounds.specs.Parts.{Part, Control, Input as InputPart, Root, Copies, Frame, Outside, Found, Sizes, sizes_of, find, found_or, in_privates, in_roots}
+use Rattle.bounds.specs.Parts.{in_inputs, in_data}
 use Rattle.vector_codegen_laws.specs.Points.{part}
 use Rattle.vector_codegen_laws.specs.Uses.{byte_of, input_byte, byte_in}
 use Rattle.vector_codegen_laws.specs.Sharing.{OpensWith}
@@ -67,7 +69,8 @@ module _ (all : List Input) (boxes : List (Option SourceBox)) (inputs : Planes) 
 
 -- ---- the data
 
-module _ (own : CompiledContents) (rules : IsCompiled own) (pictures : List PictureContents) (none : judged own.pipeline.inputs pictures ≡ None) (are : ArePictures pictures) where
+module _ (own : CompiledContents) (rules : IsCompiled own) (pictures : List PictureContents) (none : judged own.pipeline.inputs pictures ≡ None)
+    (are : ArePictures pictures) where
   abbrev inputs : List Input
   inputs = own.pipeline.inputs
 
@@ -117,9 +120,11 @@ module _ (own : CompiledContents) (rules : IsCompiled own) (pictures : List Pict
       let at = n - 8 * sizes.phases in
       ap (λ (xs : List ℕ). slice_index xs n) parted
       ∙ (get_or-append_right (replicate control 0) rest n 0 (omega (arith, l, control-long, phases_are))
-      ∙ (ap (λ (k : ℕ). slice_index rest (n - k)) (let q : length {A = ℕ} (replicate control 0) ≡ 8 * sizes.phases = omega (arith, control-long, phases_are) in q)
+      ∙ (ap (λ (k : ℕ). slice_index rest (n - k)) (let q : length {A = ℕ} (replicate control 0) ≡ 8 * sizes.phases = omega (arith, control-long, phases_are) in
+      q)
       ∙ (inputs-found inputs pictures asked.count asked.sizes are behind at
-      ∙ (inputs-first inputs own.boxes.funcs planes (find sizes.inputs at) (in_roots sizes (at - total sizes.inputs)) (behind-zero inputs own.boxes.funcs planes sizes (at - total sizes.inputs))
+      ∙ (inputs-first inputs own.boxes.funcs planes (find sizes.inputs at) (in_roots sizes (at - total sizes.inputs)) (behind-zero inputs own.boxes.funcs planes
+      sizes (at - total sizes.inputs))
       ∙ ap (λ (b : Bool). wanted (cond b (Control (n / 8)) (in_inputs sizes at))) (sym (le-ltb n (8 * sizes.phases) l))))))
 
   pub byte-is : (n : ℕ) → slice_index bytes n ≡ wanted (in_data sizes n)
@@ -131,7 +136,8 @@ module _ (own : CompiledContents) (rules : IsCompiled own) (pictures : List Pict
   holds : (address : ℕ) → data_start ≤ address → byte_at own.words bytes address ≡ wanted (part own.pipeline own.schedule own.boxes.funcs address)
   holds address l =
       let n = address - data_start in
-      ap (λ (b : Bool). cond b (slice_index own.words ((address - text_start) / 4) / 256 ^ ((address - text_start) % 4) % 256) (slice_index bytes n)) (le-ltb address data_start l)
+      ap (λ (b : Bool). cond b (slice_index own.words ((address - text_start) / 4) / 256 ^ ((address - text_start) % 4) % 256) (slice_index bytes n))
+      (le-ltb address data_start l)
       ∙ (byte-is n ∙ ap (λ (b : Bool). wanted (cond b Outside (in_data sizes n))) (sym (le-ltb address data_start l)))
 
   -- ---- they are bytes
@@ -141,7 +147,8 @@ module _ (own : CompiledContents) (rules : IsCompiled own) (pictures : List Pict
     input-small place offset = by_input (slice_get inputs place) refl
       where
         by_kind : (input : Input) (is_bytes : Bool) → input.is_bytes ≡ is_bytes → slice_get inputs place ≡ Some input
-            → cond is_bytes (planes place (offset % input.width) (offset / input.width)) (byte_of (planes place (offset / 4 % input.width) (offset / 4 / input.width)) (offset % 4)) < 256
+            → cond is_bytes (planes place (offset % input.width) (offset / input.width)) (byte_of (planes place (offset / 4 % input.width)
+            (offset / 4 / input.width)) (offset % 4)) < 256
         by_kind input true e there = answers.bytes place input there e (offset % input.width) (offset / input.width)
         by_kind input false e there = byte-small (planes place (offset / 4 % input.width) (offset / 4 / input.width)) (offset % 4)
 

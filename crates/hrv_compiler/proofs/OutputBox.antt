@@ -1,5 +1,6 @@
 -- The output's picture lies in the box of its Func, and that in the data.
-use Rattle.std.proofs.Common.{◌≡◌, ℕ, zero, suc, ◌+◌, ◌-◌, ◌*◌, ◌%◌, ◌^◌, ◌<◌, ◌≤◌, Bool, true, false, List, [], ◌∷◌, map, Option, Some, None, refl, sym, ap, subst, ◌∙◌, arith}
+use Rattle.std.proofs.Common.{◌≡◌, ℕ, zero, suc, ◌+◌, ◌-◌, ◌*◌, ◌%◌, ◌^◌, ◌<◌, ◌≤◌, Bool, true, false, List, [], ◌∷◌, map, Option, Some, None, refl, sym, ap}
+use Rattle.std.proofs.Common.{subst, ◌∙◌, arith}
 use Rattle.std.specs.Prelude.{◌&&◌, ◌||◌, nat_le, slice_get, Ok}
 use Rattle.std.proofs.lemmas.Bool.{and_parts, leb-true}
 use Rattle.halide_pipeline.specs.declared.definitions.Func.{Func}
@@ -65,7 +66,8 @@ root_at start (first ∷ standings) [] place standing own aligned s b = absurd c
 root_at start (first ∷ standings) (one ∷ boxes) zero standing own aligned s b =
     let same : first ≡ standing = cc in
     let like : one ≡ own = cc in
-    let size : root_bytes standing.place own ≡ root_bytes first.place one = sym (ap (λ (t : Standing). root_bytes t.place one) same ∙ ap (root_bytes standing.place) like) in
+    let size : root_bytes standing.place own ≡ root_bytes first.place one = sym (ap (λ (t : Standing). root_bytes t.place one) same
+    ∙ ap (root_bytes standing.place) like) in
     record { at = start; is = refl; aligned = aligned; above = omega arith; within = omega (arith, size) }
 root_at start (first ∷ standings) (one ∷ boxes) (suc place) standing own aligned s b =
     let size = root_bytes first.place one in
@@ -130,7 +132,8 @@ pub record OutputBox (pipeline : Pipeline) (boxes : Boxes) : Type 0 where
   pub above : data_start ≤ at
   pub within : at + 4 * points own ≤ data_start + boxes.layout.size
 
-module _ (pipeline : Pipeline) (schedule : Schedule) (boxes : Boxes) (rules : IsWellFormed pipeline) (accepted : IsAccepted pipeline schedule) (is : inferred pipeline schedule ≡ Ok boxes) where
+module _ (pipeline : Pipeline) (schedule : Schedule) (boxes : Boxes) (rules : IsWellFormed pipeline) (accepted : IsAccepted pipeline schedule)
+    (is : inferred pipeline schedule ≡ Ok boxes) where
   abbrev output : ℕ
   output = pipeline.output.func
 
@@ -148,7 +151,8 @@ module _ (pipeline : Pipeline) (schedule : Schedule) (boxes : Boxes) (rules : Is
   own_standing =
       let drawn = drawn_func (slice_get pipeline.funcs output) pipeline.output.dimensions rules.drawn in
       let plan = pair_there IsPlan pipeline.funcs schedule.funcs output drawn.value accepted.plans drawn.is in
-      subst (λ (l : List Standing). IsSome (slice_get l output)) (sym all_standings) (standing_some pipeline schedule.funcs 0 schedule.funcs output plan.value plan.is)
+      subst (λ (l : List Standing). IsSome (slice_get l output)) (sym all_standings) (standing_some pipeline schedule.funcs 0 schedule.funcs output plan.value
+      plan.is)
 
   known : (own_standing.value.is_reached ≡ true) × (own_standing.value.place ≡ places.Root)
   known = output_standing pipeline schedule.funcs own_standing.value (ap (λ (l : List Standing). slice_get l output) (sym all_standings) ∙ own_standing.is)
@@ -166,7 +170,8 @@ module _ (pipeline : Pipeline) (schedule : Schedule) (boxes : Boxes) (rules : Is
 
   high : (1 ≤ pipeline.output.height) × (pipeline.output.height ≤ 65536)
   high =
-      let all = and_parts (nat_le 1 pipeline.output.height && nat_le pipeline.output.height 65536) (nat_le (pipeline.output.width * pipeline.output.height) 1048576) extents.1 in
+      let all = and_parts (nat_le 1 pipeline.output.height && nat_le pipeline.output.height 65536) (nat_le (pipeline.output.width * pipeline.output.height)
+      1048576) extents.1 in
       let k = and_parts (nat_le 1 pipeline.output.height) (nat_le pipeline.output.height 65536) all.0 in
       (leb-true 1 pipeline.output.height k.0, leb-true pipeline.output.height 65536 k.1)
 
@@ -198,15 +203,18 @@ module _ (pipeline : Pipeline) (schedule : Schedule) (boxes : Boxes) (rules : Is
   lasts_none =
       let b = has_box pipeline schedule boxes accepted is output box_found.own box_found.is in
       let same : b.standing ≡ own_standing.value = let p = b.there.standing in let q = own_standing.is in cc in
-      b.lasts ∙ (ap (λ (t : Standing). lasts_of (consumer_in schedule boxes.funcs t.place)) same ∙ ap (λ (p : Place). lasts_of (consumer_in schedule boxes.funcs p)) known.1)
+      b.lasts ∙ (ap (λ (t : Standing). lasts_of (consumer_in schedule boxes.funcs t.place)) same
+      ∙ ap (λ (p : Place). lasts_of (consumer_in schedule boxes.funcs p)) known.1)
 
   rules_of : IsBox box_found.own
   rules_of =
-      (boxes_are_produced pipeline schedule boxes is output own_standing.value own_standing.is known.0 (subst (λ (p : Place). IsComputed output p) (sym known.1) tt) box_found.own box_found.is).box
+      (boxes_are_produced pipeline schedule boxes is output own_standing.value own_standing.is known.0 (subst (λ (p : Place). IsComputed output p) (sym known.1)
+      tt) box_found.own box_found.is).box
 
   module _ (x y : ℕ) (inside_x : x < pipeline.output.width) (inside_y : y < pipeline.output.height) where
     lies : LiesIn no_loops box_found.own x y
-    lies = subst (λ (e : Option (Option SourceBox)). IsBoxed no_loops e x y) box_found.is (output_lies pipeline schedule boxes rules is own_standing.value own_standing.is known.0 known.1 x y inside_x inside_y)
+    lies = subst (λ (e : Option (Option SourceBox)). IsBoxed no_loops e x y) box_found.is (output_lies pipeline schedule boxes rules is own_standing.value
+        own_standing.is known.0 known.1 x y inside_x inside_y)
 
     lies_x : Lies no_loops no_loops box_found.own.x x
     lies_x = subst (λ (l : List ℕ). Lies l no_loops box_found.own.x x) lasts_none lies.first
@@ -245,7 +253,8 @@ module _ (pipeline : Pipeline) (schedule : Schedule) (boxes : Boxes) (rules : Is
   start_aligned : roots_start % 4 ≡ 0
   start_aligned = let w = whole_inputs pipeline.inputs in omega (arith, w)
 
-  placed_in : IsPlaced roots_start (roots_start + total roots) (slice_get (placed roots_start roots) output) (root_bytes own_standing.value.place (Some box_found.own))
+  placed_in : IsPlaced roots_start (roots_start + total roots) (slice_get (placed roots_start roots) output) (root_bytes own_standing.value.place
+      (Some box_found.own))
   placed_in = root_at roots_start schedule.standings boxes.funcs output own_standing.value (Some box_found.own) start_aligned own_standing.is box_found.is
 
   size_is : root_bytes own_standing.value.place (Some box_found.own) ≡ points box_found.own * 4
@@ -291,5 +300,6 @@ module _ (pipeline : Pipeline) (schedule : Schedule) (boxes : Boxes) (rules : Is
 
   pub output_points : pipeline.output.width * pipeline.output.height ≤ 1048576
   output_points =
-      let all = and_parts (nat_le 1 pipeline.output.height && nat_le pipeline.output.height 65536) (nat_le (pipeline.output.width * pipeline.output.height) 1048576) extents.1 in
+      let all = and_parts (nat_le 1 pipeline.output.height && nat_le pipeline.output.height 65536) (nat_le (pipeline.output.width * pipeline.output.height)
+      1048576) extents.1 in
       leb-true (pipeline.output.width * pipeline.output.height) 1048576 all.1

@@ -19,7 +19,8 @@ use Rattle.memory.specs.Access.{most_words}
 use Rattle.vector_codegen.specs.Programs.{HasFewTasks, HasRegisters, IsTooLong, words_asked}
 use Rattle.hrv_compiler.proofs.Low.{layout_is, own_few}
 
-frames_at : (count : ℕ) (inputs roots privates : List ℕ) (framed : Bool) → (laid_in count inputs roots privates framed).size ≤ 33554432 → (laid_in count inputs roots privates framed).frames ≤ 4294901760
+frames_at : (count : ℕ) (inputs roots privates : List ℕ) (framed : Bool) → (laid_in count inputs roots privates framed).size ≤ 33554432
+    → (laid_in count inputs roots privates framed).frames ≤ 4294901760
 unfolding laid_in
 frames_at count inputs roots privates framed l = omega (arith, l)
 
@@ -33,7 +34,8 @@ module _ (pipeline : Pipeline) (schedule : Schedule) (boxes : Boxes) (is : infer
       let e = layout_is pipeline schedule boxes is in
       let small = subst (λ (l : Layout). l.size ≤ 33554432) e (leb-true boxes.layout.size 33554432 (own_few pipeline schedule boxes is).1) in
       subst (λ (l : Layout). l.frames ≤ 4294901760) (sym e)
-      (frames_at (phase_count schedule.standings pipeline.funcs boxes.funcs) (map input_bytes pipeline.inputs) (root_sizes schedule.standings boxes.funcs) (private_sizes schedule.standings boxes.funcs)
+      (frames_at (phase_count schedule.standings pipeline.funcs boxes.funcs) (map input_bytes pipeline.inputs) (root_sizes schedule.standings boxes.funcs)
+      (private_sizes schedule.standings boxes.funcs)
       (has_frames (needs pipeline schedule)) small)
 
   framed_is : boxes.layout.has_frames ≡ has_frames (needs pipeline schedule)
@@ -61,7 +63,8 @@ module _ (pipeline : Pipeline) (schedule : Schedule) (boxes : Boxes) (is : infer
             let l = ltb-false 12 (needs pipeline schedule).greatest none in
             inl (omega (arith, l, least))
 
-    pub have_registers : (phases : List Phase) → TakeFew pipeline schedule phases → AllByRecursion (HasRegisters (places_of pipeline schedule boxes.funcs boxes.layout)) phases
+    pub have_registers : (phases : List Phase) → TakeFew pipeline schedule phases
+        → AllByRecursion (HasRegisters (places_of pipeline schedule boxes.funcs boxes.layout)) phases
     have_registers [] take = tt
     have_registers (phase ∷ phases) take = ((room _ take.0.1.0, take.0.0), have_registers phases take.1)
 
@@ -76,7 +79,8 @@ asked [] = refl
 asked (phase ∷ phases) = omega (arith, asked phases)
 
 -- 64 words for each unit that may be weighed are as many as a text may have
-pub ask_for_few : (pipeline : Pipeline) (schedule : Schedule) → weight pipeline schedule ≤ most_weight → (phases : List Phase) → words_of phases ≤ 64 * weight pipeline schedule → words_asked phases ≤ most_words
+pub ask_for_few : (pipeline : Pipeline) (schedule : Schedule) → weight pipeline schedule ≤ most_weight → (phases : List Phase)
+    → words_of phases ≤ 64 * weight pipeline schedule → words_asked phases ≤ most_words
 ask_for_few pipeline schedule light phases few = let e = asked phases in omega (arith, light, few, e)
 
 pub not_long : (phases : List Phase) → AllByRecursion HasFewTasks phases → words_asked phases ≤ most_words → IsTooLong phases → ⊥

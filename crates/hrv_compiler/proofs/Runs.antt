@@ -35,7 +35,8 @@ module _ (own : CompiledContents) (rules : IsHeld own) (pictures : List PictureC
 
   kept : RuleKept (steps own rules pictures none are harts some_harts few_harts all_shared) (last own rules pictures none are) written
   kept =
-      rules-kept (steps own rules pictures none are harts some_harts few_harts all_shared) (last own rules pictures none are) text_start (bytes own rules pictures none are) turns
+      rules-kept (steps own rules pictures none are harts some_harts few_harts all_shared) (last own rules pictures none are) text_start
+      (bytes own rules pictures none are) turns
       (goes own rules pictures none are harts some_harts few_harts all_shared) (begins own rules pictures none are harts some_harts few_harts all_shared) hart
 
   -- a stage of the Func is its pure definition
@@ -78,7 +79,8 @@ module _ (own : CompiledContents) (rules : IsHeld own) (pictures : List PictureC
     by_owner : IsOwnedIn own.pipeline own.schedule own.boxes all_shared.matter kept.k place byte_address
         → IsOneRun (address_at own.pipeline own.schedule own.boxes.funcs 0 (sources.Func place)) (extents_of is.box) is.plan.pure written
     by_owner owner =
-        all_shared.runs_are kept.k place is.func is.plan is.box 0 is.at_root (first_stage owner.stage owner.stage_is owner.func_is) is.vectorized owner.task written
+        all_shared.runs_are kept.k place is.func is.plan is.box 0 is.at_root (first_stage owner.stage owner.stage_is owner.func_is) is.vectorized owner.task
+        written
         (kept.rule byte_address owner.task hit_there owner.owned)
 
     one_run : IsOneRun (point_address own.boxes place) (extents_of is.box) is.plan.pure written

@@ -42,7 +42,8 @@ one-address at up aside row x y =
     let both = add-mul y up row in
     omega (arith, four, both)
 
-module _ (own : CompiledContents) (rules : IsCompiled own) (pictures : List PictureContents) (none : judged own.pipeline.inputs pictures ≡ None) (are : ArePictures pictures) where
+module _ (own : CompiledContents) (rules : IsCompiled own) (pictures : List PictureContents) (none : judged own.pipeline.inputs pictures ≡ None)
+    (are : ArePictures pictures) where
   abbrev func : ℕ
   func = own.pipeline.output.func
 
@@ -80,23 +81,33 @@ module _ (own : CompiledContents) (rules : IsCompiled own) (pictures : List Pict
       row = omega (arith, inside_y, box.holds.top, box.holds.bottom);
     }
 
-    lies : address_at own.pipeline own.schedule own.boxes.funcs 0 (sources.Func func) (x + aside) (y + up) ≡ box.at + 4 * (up * extent box.own.x + aside) + y * (4 * extent box.own.x) + 4 * x
+    lies : address_at own.pipeline own.schedule own.boxes.funcs 0 (sources.Func func) (x + aside) (y + up) ≡ box.at + 4 * (up * extent box.own.x + aside) + y
+        * (4 * extent box.own.x) + 4 * x
     lies =
         let same = one-address box.at up aside (extent box.own.x) x y in
         ap (λ place. address place 0 (x + aside) (y + up)) (root-place own.pipeline own.schedule own.boxes.funcs func (x + aside) (y + up) point)
         ∙ (ap (λ (start : ℕ). start + 0 * 0 + 4 * ((y + up) * extent box.own.x + (x + aside))) starts ∙ omega (arith, same))
 
     pixel-is : (small_x : x < 65536) (small_y : y < 65536)
-        → held own.boxes.funcs (pixels own.pipeline.funcs (input_planes pictures) (length own.pipeline.funcs)) func (x + aside) (y + up) ≡ output_pixel own.pipeline pictures x y
+        → held own.boxes.funcs (pixels own.pipeline.funcs (input_planes pictures) (length own.pipeline.funcs)) func (x + aside) (y + up)
+        ≡ output_pixel own.pipeline pictures x y
     pixel-is small_x small_y =
         let plane = pixels own.pipeline.funcs (input_planes pictures) (length own.pipeline.funcs) func in
         ap (λ found. plane (word.add (corner_of (box_in found)).x (x + aside)) (word.add (corner_of (box_in found)).y (y + up))) box.is
-        ∙ (ap (λ (a : ℕ). plane a (word.add (corner_word box.own.y.low) (y + up))) (from-corner box.own.x.low x (omega (arith, box.holds.rules.x.low)) box.holds.left small_x)
+        ∙ (ap (λ (a : ℕ). plane a (word.add (corner_word box.own.y.low) (y + up))) (from-corner box.own.x.low x (omega (arith, box.holds.rules.x.low))
+        box.holds.left small_x)
         ∙ ap (plane x) (from-corner box.own.y.low y (omega (arith, box.holds.rules.y.low)) box.holds.top small_y))
 
-  module _ (few_columns : own.pipeline.output.width ≤ 65536) (few_rows : own.pipeline.output.height ≤ 65536) (state : State) (holds : HoldsPixels own.pipeline own.schedule own.boxes state.text state.memory (input_planes pictures)) where
+  module _ (few_columns : own.pipeline.output.width ≤ 65536) (few_rows : own.pipeline.output.height ≤ 65536) (state : State) (holds : HoldsPixels own.pipeline
+      own.schedule own.boxes state.text state.memory (input_planes pictures)) where
     abbrev output : Output
-    output = record { address = box.at + 4 * (up * extent box.own.x + aside); width = own.pipeline.output.width; height = own.pipeline.output.height; stride = 4 * extent box.own.x }
+    output = record {
+      address = box.at + 4 * (up * extent box.own.x + aside);
+      width = own.pipeline.output.width;
+      height = own.pipeline.output.height;
+      stride =
+          4 * extent box.own.x;
+    }
 
     shows : ShowsPixels own.pipeline pictures state output
     shows = record {
@@ -104,7 +115,8 @@ module _ (own : CompiledContents) (rules : IsCompiled own) (pictures : List Pict
       height = refl;
       pixels = λ x y inside_x inside_y.
           ap (word_at state.text state.memory) (sym (lies x y inside_x inside_y))
-          ∙ (holds func (x + aside) (y + up) (point x y inside_x inside_y) ∙ pixel-is x y inside_x inside_y (omega (arith, inside_x, few_columns)) (omega (arith, inside_y, few_rows)));
+          ∙ (holds func (x + aside) (y + up) (point x y inside_x inside_y) ∙ pixel-is x y inside_x inside_y (omega (arith, inside_x, few_columns))
+          (omega (arith, inside_y, few_rows)));
     }
 
     pub shows-output : ShowsOutput own.pipeline pictures state (output_of own.pipeline own.boxes)

@@ -36,4 +36,5 @@ output_in at (Some own) width height = Some (record {
 -- The output lies where the layout has its Func, from point 0, 0 on.
 abbrev pub output_of : Pipeline → Boxes → Option Output
 output_of pipeline boxes =
-    output_in (slice_index boxes.layout.roots pipeline.output.func) (box_in (slice_get boxes.funcs pipeline.output.func)) pipeline.output.width pipeline.output.height
+    output_in (slice_index boxes.layout.roots pipeline.output.func) (box_in (slice_get boxes.funcs pipeline.output.func)) pipeline.output.width
+    pipeline.output.height

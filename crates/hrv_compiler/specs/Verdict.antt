@@ -29,7 +29,8 @@ by_boxes pipeline schedule (Ok boxes) = by_needs (needs pipeline schedule)
 by_boxes pipeline schedule (Err fault) = Some (faults.Bounds fault)
 
 abbrev pub by_weight : Pipeline → Schedule → ℕ → Option CompileFault
-by_weight pipeline schedule own = if nat_lt most_weight own then Some (faults.Lower weights.TooHeavy) else by_boxes pipeline schedule (inferred pipeline schedule)
+by_weight pipeline schedule own = if nat_lt most_weight own then Some (faults.Lower weights.TooHeavy) else by_boxes pipeline schedule
+    (inferred pipeline schedule)
 
 abbrev pub by_schedule : Pipeline → Result Schedule (ℕ × ScheduleFault) → Option CompileFault
 by_schedule pipeline (Ok schedule) = by_weight pipeline schedule (weight pipeline schedule)

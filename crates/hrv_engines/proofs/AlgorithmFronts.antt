@@ -1,5 +1,6 @@
 -- A front of an algorithm with more bytes than any has decides that it is refused, and a front with its first line the fault.
-use Rattle.std.proofs.Common.{◌≡◌, ◌∙◌, ◌<◌, ◌+◌, ◌||◌, ℕ, suc, Bool, true, false, nat_lt, List, [], ◌∷◌, ◌++◌, length, Option, Some, None, Result, Ok, Err, append_assoc, arith, refl, sym, ap, cond, subst}
+use Rattle.std.proofs.Common.{◌≡◌, ◌∙◌, ◌<◌, ◌+◌, ◌||◌, ℕ, suc, Bool, true, false, nat_lt, List, [], ◌∷◌, ◌++◌, length, Option, Some, None, Result, Ok, Err}
+use Rattle.std.proofs.Common.{append_assoc, arith, refl, sym, ap, cond, subst}
 use Rattle.std.specs.Prelude.{◌==◌, ◌≢◌}
 use Rattle.std.specs.declared.alloc.Global.{Global}
 use Rattle.std.proofs.lemmas.Bool.{eqb-true, lt-ltb}
@@ -50,7 +51,8 @@ settled_refused : (reader : Reader) (l : Line Written) (found : Option ParseFaul
 settled_refused reader l None is = absurd cc
 settled_refused reader l (Some f) is = (f, refl)
 
-spelled_refused : (reader : Reader) (tokens : List Token) (found : Option (Line Written)) → reader.is_oversized ≡ true → IsRefused (settled_if reader tokens found)
+spelled_refused : (reader : Reader) (tokens : List Token) (found : Option (Line Written)) → reader.is_oversized ≡ true
+    → IsRefused (settled_if reader tokens found)
 spelled_refused reader tokens None e = (fault.Syntax, refl)
 spelled_refused reader tokens (Some l) e = settled_refused reader l (fault_of reader tokens l) (line_faulty reader tokens l e)
 
@@ -79,7 +81,8 @@ first_refused : (alloc : Global) (text line : List ℕ) (lines : List (List ℕ)
 unfolding taken_from
 first_refused alloc text line lines f e = rw e refl
 
-at_lines : (alloc : Global) (text : List ℕ) (lines : List (List ℕ)) → is_oversized text ≡ true → (lines ≡ [] → ⊥) → (f : ParseFault) × (lines_answer alloc text lines ≡ Err (1, f))
+at_lines : (alloc : Global) (text : List ℕ) (lines : List (List ℕ)) → is_oversized text ≡ true → (lines ≡ [] → ⊥)
+    → (f : ParseFault) × (lines_answer alloc text lines ≡ Err (1, f))
 at_lines alloc text [] e some = absurd (some refl)
 at_lines alloc text (line ∷ lines) e some =
     let found = line_refused (start alloc text) line e in
@@ -129,7 +132,8 @@ pub same_answer : (alloc : Global) (line more rest : List ℕ) → IsLine line �
 same_answer alloc line more rest is long =
     let front = line ++ 10 ∷ more in
     let longer : most_text < length (front ++ rest) = omega (arith, long, length-append front rest) in
-    let lines : lines_of (front ++ rest) ≡ line ∷ lines_of (more ++ rest) = ap lines_of (append_assoc line (10 ∷ more) rest) ∙ first_line_is line (more ++ rest) is in
+    let lines : lines_of (front ++ rest) ≡ line ∷ lines_of (more ++ rest) = ap lines_of (append_assoc line (10 ∷ more) rest)
+    ∙ first_line_is line (more ++ rest) is in
     parsed_lines alloc (front ++ rest)
     ∙ ap (lines_answer alloc (front ++ rest)) lines
     ∙ same_first alloc front (front ++ rest) line (lines_of more) (lines_of (more ++ rest)) (oversized front long) (oversized (front ++ rest) longer)

@@ -53,11 +53,13 @@ compiled alloc texts own pictures given image bytes faultless means rules read s
     }
 
 -- pictures that aren't those that are asked for
-pub wrong_inputs : {X : Type 0} (value : X → List ℕ) (alloc : Global) (texts : Texts) (own : CompiledContents) (pictures : List PictureContents) (r : Result X Fault) (error : EvalError)
+pub wrong_inputs : {X : Type 0} (value : X → List ℕ) (alloc : Global) (texts : Texts) (own : CompiledContents) (pictures : List PictureContents)
+    (r : Result X Fault) (error : EvalError)
     → IsErrAnd r (λ f. f ≡ fault_of_input error) → first_fault alloc texts ≡ None → Means alloc texts.0.0 texts.0.1 own → pictures_of texts.1 ≡ Ok pictures
     → IsRefusedInput (judged own.pipeline.inputs pictures) error → Judges value (IsCompilation alloc) (IsRefusedCompilation alloc) texts r
 wrong_inputs value alloc texts own pictures r error is faultless means given p =
-    judges_not value (IsCompilation alloc) (IsRefusedCompilation alloc) texts r (passed (Unmeant (IsRefusedCompilation alloc) texts) r (fault_of_input error) is (unmeant error p))
+    judges_not value (IsCompilation alloc) (IsRefusedCompilation alloc) texts r (passed (Unmeant (IsRefusedCompilation alloc) texts) r (fault_of_input error) is
+    (unmeant error p))
   where
     refuses : (e : EvalError) → judged own.pipeline.inputs pictures ≡ Some e → RefusesInputs alloc texts (Input e)
     refuses e wanted = record {

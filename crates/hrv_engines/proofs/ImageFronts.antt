@@ -1,5 +1,6 @@
 -- More bytes than an image has: they are none, and what stands behind them changes no answer.
-use Rattle.std.proofs.Common.{◌≡◌, ℕ, ◌+◌, ◌*◌, ◌<◌, ◌≤◌, Bool, true, false, cond, List, [], ◌∷◌, ◌++◌, length, drop, Option, Some, None, Result, Ok, Err, refl, sym, ap, subst, ◌∙◌, arith}
+use Rattle.std.proofs.Common.{◌≡◌, ℕ, ◌+◌, ◌*◌, ◌<◌, ◌≤◌, Bool, true, false, cond, List, [], ◌∷◌, ◌++◌, length, drop, Option, Some, None, Result, Ok, Err, refl}
+use Rattle.std.proofs.Common.{sym, ap, subst, ◌∙◌, arith}
 use Rattle.std.specs.Prelude.{nat_lt, ◌||◌}
 use Rattle.std.proofs.lemmas.Bool.{ltb-false, le-ltb, lt-ltb, or_parts}
 use Rattle.std.proofs.lemmas.List.{take-append-le, drop-append-le, length-drop, length-append}
@@ -66,7 +67,8 @@ long_fault format bytes long = go (is_over (word_count bytes) (byte_count bytes)
     go : (over : Bool) → is_over (word_count bytes) (byte_count bytes) (stored_count format bytes) ≡ over → image_in format bytes ≡ Err (fault_in format bytes)
     go true is = rw (header, is) refl
     go false is =
-        let three = or_parts (nat_lt most_words (word_count bytes) || nat_lt most_bytes (byte_count bytes)) (nat_lt (byte_count bytes) (stored_count format bytes)) is in
+        let three = or_parts (nat_lt most_words (word_count bytes) || nat_lt most_bytes (byte_count bytes)) (nat_lt (byte_count bytes)
+        (stored_count format bytes)) is in
         let both = or_parts (nat_lt most_words (word_count bytes)) (nat_lt most_bytes (byte_count bytes)) three.0 in
         let words = ltb-false most_words (word_count bytes) both.0 in
         let data_bytes = ltb-false most_bytes (byte_count bytes) both.1 in

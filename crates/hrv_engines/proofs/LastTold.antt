@@ -8,10 +8,18 @@ use Rattle.hrv_engines.specs.Blame.{last_text, word_text, write_at}
 
 -- writes with the same parts are the same
 made : (t h p b a h' p' b' a' : ℕ) → h ≡ h' → p ≡ p' → b ≡ b' → a ≡ a'
-    → (let one : Write = record { turn = t; hart = h; pc = p; before = b; after = a } in one) ≡ (let one : Write = record { turn = t; hart = h'; pc = p'; before = b'; after = a' } in one)
+    → (let one : Write = record { turn = t; hart = h; pc = p; before = b; after = a } in one) ≡ (let one : Write = record {
+      turn = t;
+      hart = h';
+      pc =
+          p';
+      before = b';
+      after = a';
+    } in one)
 made t h p b a h' p' b' a' hs ps bs as' = rw (hs, ps, bs, as') refl
 
-pub last_told : (begin : State) (turns : List ℕ) (word : ℕ) (last : Option Write) → Blames begin turns word last → last_text begin.text last ≡ word_text begin turns word
+pub last_told : (begin : State) (turns : List ℕ) (word : ℕ) (last : Option Write) → Blames begin turns word last
+    → last_text begin.text last ≡ word_text begin turns word
 last_told begin turns word None blames = sym (ap (λ o. last_text begin.text (option_map (write_at begin turns word) o)) blames)
 last_told begin turns word (Some w) blames =
     let before : State = run begin (take w.turn turns) in

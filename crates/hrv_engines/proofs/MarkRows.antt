@@ -56,7 +56,8 @@ pub rows_in-none : (marks : List ℕ) (output : Output) → rows_in marks output
 unfolding rows_in
 rows_in-none marks output = refl
 
-pub rows_in-more : (marks : List ℕ) (output : Output) (y : ℕ) → rows_in marks output (y + 1) ≡ rows_in marks output y ++ row_text (row_in marks output y output.width)
+pub rows_in-more : (marks : List ℕ) (output : Output) (y : ℕ) → rows_in marks output (y + 1) ≡ rows_in marks output y
+    ++ row_text (row_in marks output y output.width)
 unfolding rows_in
 rows_in-more marks output y = rw add-one refl
 

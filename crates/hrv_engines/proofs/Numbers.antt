@@ -10,7 +10,8 @@ use Rattle.hrv_engines.specs.Commands.{below_most, spelled_by}
 
 -- ---- the digits are all of a class where they are as many as the front of the class
 
-front_and_more : (test : Bool) (class : ℕ → Bool) (bytes : List ℕ) → (test && list_all class bytes) ≡ false → (list_all class bytes ≡ false → prefix_len class bytes < length bytes)
+front_and_more : (test : Bool) (class : ℕ → Bool) (bytes : List ℕ) → (test && list_all class bytes) ≡ false → (list_all class bytes ≡ false
+    → prefix_len class bytes < length bytes)
     → cond test (1 + prefix_len class bytes) 0 < length bytes + 1
 front_and_more true class bytes e more = let below = more e in omega (arith, below)
 front_and_more false class bytes e more = omega arith
@@ -19,7 +20,8 @@ pub not_all : (class : ℕ → Bool) (bytes : List ℕ) → list_all class bytes
 not_all class [] e = grind arith
 not_all class (byte ∷ bytes) e = let h = front_and_more (class byte) class bytes e (not_all class bytes) in omega (arith, h)
 
-all_and_more : (test : Bool) (class : ℕ → Bool) (bytes : List ℕ) → (test && list_all class bytes) ≡ true → (list_all class bytes ≡ true → prefix_len class bytes ≡ length bytes)
+all_and_more : (test : Bool) (class : ℕ → Bool) (bytes : List ℕ) → (test && list_all class bytes) ≡ true → (list_all class bytes ≡ true
+    → prefix_len class bytes ≡ length bytes)
     → cond test (1 + prefix_len class bytes) 0 ≡ length bytes + 1
 all_and_more true class bytes e more = let same = more e in omega (arith, same)
 all_and_more false class bytes e more = grind arith
@@ -28,7 +30,8 @@ pub all_of : (class : ℕ → Bool) (bytes : List ℕ) → list_all class bytes 
 all_of class [] e = refl
 all_of class (byte ∷ bytes) e = let h = all_and_more (class byte) class bytes e (all_of class bytes) in omega (arith, h)
 
-by_test : (b : Bool) (class : ℕ → Bool) (value : List ℕ → ℕ) (bytes : List ℕ) → list_all class bytes ≡ b → prefix_len class bytes < length bytes → spelled_by class value bytes ≡ None
+by_test : (b : Bool) (class : ℕ → Bool) (value : List ℕ → ℕ) (bytes : List ℕ) → list_all class bytes ≡ b → prefix_len class bytes < length bytes
+    → spelled_by class value bytes ≡ None
 by_test true class value bytes e below = absurd (let same = all_of class bytes e in omega (arith, same))
 by_test false class value [] e below = refl
 by_test false class value (byte ∷ bytes) e below = rw e refl
@@ -37,7 +40,8 @@ by_test false class value (byte ∷ bytes) e below = rw e refl
 pub no_number : (class : ℕ → Bool) (value : List ℕ → ℕ) (bytes : List ℕ) → prefix_len class bytes < length bytes → None ≡ spelled_by class value bytes
 no_number class value bytes below = sym (by_test (list_all class bytes) class value bytes refl below)
 
-some_number : (b : Bool) (class : ℕ → Bool) (value : List ℕ → ℕ) (byte : ℕ) (bytes : List ℕ) → list_all class (byte ∷ bytes) ≡ b → length (byte ∷ bytes) ≤ prefix_len class (byte ∷ bytes)
+some_number : (b : Bool) (class : ℕ → Bool) (value : List ℕ → ℕ) (byte : ℕ) (bytes : List ℕ) → list_all class (byte ∷ bytes) ≡ b
+    → length (byte ∷ bytes) ≤ prefix_len class (byte ∷ bytes)
     → spelled_by class value (byte ∷ bytes) ≡ below_most (value (byte ∷ bytes))
 some_number true class value byte bytes e whole = rw e refl
 some_number false class value byte bytes e whole = absurd (let h = not_all class (byte ∷ bytes) e in omega (arith, h))

@@ -1,6 +1,7 @@
 -- A front of a picture with more bytes than any has decides its fault: each part of a picture is read from so many bytes, and where there
 -- are more, what stands behind them changes nothing.
-use Rattle.std.proofs.Common.{◌≡◌, ◌∙◌, ◌<◌, ◌≤◌, ◌+◌, ◌-◌, ◌*◌, ◌^◌, ◌%◌, ◌&&◌, ℕ, zero, suc, Bool, true, false, cond, not, nat_lt, nat_le, nat_eq, List, [], ◌∷◌, ◌++◌, length, take, drop, fold, codes, Option, Some, None, Result, Ok, Err, arith, refl, sym, ap, ap₂, subst, inl, inr}
+use Rattle.std.proofs.Common.{◌≡◌, ◌∙◌, ◌<◌, ◌≤◌, ◌+◌, ◌-◌, ◌*◌, ◌^◌, ◌%◌, ◌&&◌, ℕ, zero, suc, Bool, true, false, cond, not, nat_lt, nat_le, nat_eq, List, []}
+use Rattle.std.proofs.Common.{◌∷◌, ◌++◌, length, take, drop, fold, codes, Option, Some, None, Result, Ok, Err, arith, refl, sym, ap, ap₂, subst, inl, inr}
 use Rattle.std.specs.Prelude.{◌==◌}
 use Rattle.std.specs.List.{list_all, prefix_len, starts_with}
 use Rattle.std.specs.Fmt.{decimal}
@@ -16,7 +17,8 @@ use Rattle.halide_pipeline.specs.Contents.{PictureContents}
 use Rattle.halide_pipeline.specs.WellFormed.{is_height, is_width, most_extent, most_points}
 use Rattle.picture.specs.declared.faults.PictureFault.{PictureFault}
 use Rattle.picture.specs.declared.faults.PictureFault.TheVariants.{Syntax, Extents, Number}
-use Rattle.picture.specs.Reading.{Numeral, Read, behind, digits_at, ended, extent_at, extent_of, heading_at, is_plain, numeral_at, picture_at, picture_of, pixel_of, pixel_then, pixels_at, plain_at, separator}
+use Rattle.picture.specs.Reading.{Numeral, Read, behind, digits_at, ended, extent_at, extent_of, heading_at, is_plain, numeral_at, picture_at, picture_of}
+use Rattle.picture.specs.Reading.{pixel_of, pixel_then, pixels_at, plain_at, separator}
 use Rattle.picture.proofs.Numerals.{cond-Ok, decimal-decimal_number, then-Ok}
 use Rattle.hrv_engines.specs.Devices.{most_picture_bytes}
 
@@ -80,7 +82,8 @@ module _ {B : Type 0} (word : List ℕ) (more : ℕ) (next : List ℕ → Read B
           let within : length word ≤ length text = omega (arith, long) in
           let behind_it = drop (length word) text in
           let count : length behind_it + length word ≡ length text = omega (arith, length-drop (length word) text, within) in
-          widened (length word) more text behind_it rest (next behind_it) (next (behind_it ++ rest)) (omega (arith, count)) (local behind_it rest (omega (arith, count, long)))
+          widened (length word) more text behind_it rest (next behind_it) (next (behind_it ++ rest)) (omega (arith, count))
+          (local behind_it rest (omega (arith, count, long)))
 
 -- ---- numbers
 
@@ -90,11 +93,13 @@ FailsPastTen test fault =
     (negative : Bool) (digits : List ℕ) → list_all is_digit digits ≡ true → is_plain negative digits ≡ true → 10 < length digits
     → test (record { negative = negative; digits = digits }) ≡ Err fault
 
-large : (negative : Bool) (digits : List ℕ) → list_all is_digit digits ≡ true → is_plain negative digits ≡ true → 10 < length digits → 10 ^ 10 ≤ decimal_number digits
+large : (negative : Bool) (digits : List ℕ) → list_all is_digit digits ≡ true → is_plain negative digits ≡ true → 10 < length digits
+    → 10 ^ 10 ≤ decimal_number digits
 large negative digits all plain long = elim (cases_lt (decimal_number digits) (10 ^ 10)) [
   | inl small ↦
       let is : decimal (decimal_number digits) ≡ digits = decimal-decimal_number negative digits all plain (omega (arith, small)) in
-      let few : length (decimal (decimal_number digits)) ≤ 10 = length-decimal-le 10 (decimal_number digits) (omega arith) (omega (arith, small)) (omega (arith, small)) in
+      let few : length (decimal (decimal_number digits)) ≤ 10 = length-decimal-le 10 (decimal_number digits) (omega arith) (omega (arith, small))
+      (omega (arith, small)) in
       absurd (omega (arith, few, ap length is, long))
   | inr past ↦ past
 ]
@@ -141,7 +146,8 @@ same_plain negative (first ∷ second ∷ digits) more some = refl
 abbrev digit_count : List ℕ → ℕ
 digit_count text = prefix_len is_digit text
 
-module _ {B : Type 0} (more : ℕ) (test : Numeral → Result ℕ PictureFault) (fault : PictureFault) (fails : FailsPastTen test fault) (next : ℕ → List ℕ → Read B) where
+module _ {B : Type 0} (more : ℕ) (test : Numeral → Result ℕ PictureFault) (fault : PictureFault) (fails : FailsPastTen test fault) (next : ℕ → List ℕ
+    → Read B) where
   -- a numeral that passes the test, and what is read behind it
   abbrev tested : Read Numeral → Read B
   tested read = read >>= λ numeral. test numeral.0 >>= λ value. next value numeral.1
@@ -183,7 +189,8 @@ module _ {B : Type 0} (more : ℕ) (test : Numeral → Result ℕ PictureFault) 
             impossible e = cc
 
         by_plain : (plain : Bool) → is_plain negative digits ≡ plain
-            → Same (10 + more) text rest (tested (cond plain (Ok (numeral digits, left)) (Err Syntax))) (tested (cond plain (Ok (numeral digits, left ++ rest)) (Err Syntax)))
+            → Same (10 + more) text rest (tested (cond plain (Ok (numeral digits, left)) (Err Syntax))) (tested (cond plain (Ok (numeral digits, left ++ rest))
+            (Err Syntax)))
         by_plain false is = refl
         by_plain true is = by_test (test (numeral digits)) is refl
 
@@ -192,15 +199,25 @@ module _ {B : Type 0} (more : ℕ) (test : Numeral → Result ℕ PictureFault) 
     unfolding plain_at
     digits_alone all =
         let whole : digits ≡ text = take_all (digit_count text) text all in
-        let same : nat_eq (digit_count text) (length text) ≡ true = eq-eqb (digit_count text) (length text) (omega (arith, all, prefix_len-le-length is_digit text)) in
+        let same : nat_eq (digit_count text) (length text) ≡ true = eq-eqb (digit_count text) (length text) (omega (
+          arith,
+          all,
+          prefix_len-le-length is_digit
+              text,
+        )) in
         let count : digit_count (text ++ rest) ≡ length text + digit_count rest = prefix_len-append is_digit text rest ∙ rw same refl in
         let longer : digits_at (text ++ rest) ≡ text ++ take (digit_count rest) rest = rw count (take-append-add text rest (digit_count rest)) in
-        by_plain (is_plain negative digits) refl whole longer (rw (longer, whole) (same_plain negative text (take (digit_count rest) rest) (omega (arith, long))))
+        by_plain (is_plain negative digits) refl whole longer (rw (longer, whole) (same_plain negative text (take (digit_count rest) rest)
+        (omega (arith, long))))
       where
         by_plain : (plain : Bool) → is_plain negative digits ≡ plain → digits ≡ text → digits_at (text ++ rest) ≡ text ++ take (digit_count rest) rest
             → is_plain negative (digits_at (text ++ rest)) ≡ is_plain negative digits
             → Same (10 + more) text rest (tested (cond (is_plain negative digits) (Ok (numeral digits, left)) (Err Syntax)))
-            (tested (cond (is_plain negative (digits_at (text ++ rest))) (Ok (numeral (digits_at (text ++ rest)), drop (digit_count (text ++ rest)) (text ++ rest))) (Err Syntax)))
+            (tested (cond (is_plain negative (digits_at (text ++ rest))) (Ok (
+              numeral (digits_at (text ++ rest)),
+              drop (digit_count (text ++ rest)) (text
+                  ++ rest),
+            )) (Err Syntax)))
         by_plain false is whole longer same = rw (same, is) refl
         by_plain true is whole longer same =
             let short : test (numeral digits) ≡ Err fault = fails negative digits (all_digits text) is (omega (arith, ap length whole, long)) in
@@ -265,7 +282,8 @@ unfolding pixels_at
 pixels_local width zero = nothing_read []
 pixels_local width (suc left) =
     wider (12 + (12 * left + 0)) (12 * suc left) (pixels_at width (suc left))
-    (then_local 12 (12 * left + 0) (pixel_then (separator width left)) _ (pixel_local (separator width left) (separator_length width left)) (λ first text behind_it is.
+    (then_local 12 (12 * left + 0) (pixel_then (separator width left)) _ (pixel_local (separator width left) (separator_length width left))
+    (λ first text behind_it is.
     then_local (12 * left) 0 (pixels_at width left) _ (pixels_local width left) (λ others text behind_it is. nothing_read (first ∷ others))))
     (omega arith)
 
@@ -289,7 +307,8 @@ few_pixels text read is =
     let height = then-Ok (extent_at (is_height width.0.0) from_height.0) _ read from_height.1.1 in
     let rest = then-Ok (behind (codes "\n") height.0.1) _ read height.1.1 in
     let passed = extent_passed (is_height width.0.0) from_height.0 height.0 height.1.0 in
-    let few = leb-true (width.0.0 * height.0.0) most_points (and_parts (nat_le 1 height.0.0 && nat_le height.0.0 most_extent) (nat_le (width.0.0 * height.0.0) most_points) passed).1 in
+    let few = leb-true (width.0.0 * height.0.0) most_points (and_parts (nat_le 1 height.0.0 && nat_le height.0.0 most_extent) (nat_le (width.0.0 * height.0.0)
+    most_points) passed).1 in
     let found : ((width.0.0, height.0.0), rest.0) ≡ read = cc rest.1.1 in
     subst (λ (r : (ℕ × ℕ) × List ℕ). r.0.0 * r.0.1 ≤ most_points) found few
 
@@ -298,7 +317,8 @@ unfolding picture_at
 picture_local =
     then_local 32 (12 * most_points + 0) heading_at _ heading_local (λ extents text left is.
     then_local (12 * most_points) 0 (pixels_at extents.0 (extents.0 * extents.1)) _
-    (wider (12 * (extents.0 * extents.1)) (12 * most_points) (pixels_at extents.0 (extents.0 * extents.1)) (pixels_local extents.0 (extents.0 * extents.1)) (omega (arith, few_pixels text (extents, left) is)))
+    (wider (12 * (extents.0 * extents.1)) (12 * most_points) (pixels_at extents.0 (extents.0 * extents.1)) (pixels_local extents.0 (extents.0 * extents.1))
+    (omega (arith, few_pixels text (extents, left) is)))
     (λ pixels text left is. nothing_read (record { width = extents.0; height = extents.1; pixels = pixels })))
 
 pub same_answer : (front rest : List ℕ) → most_picture_bytes < length front → picture_of (front ++ rest) ≡ picture_of front
@@ -309,7 +329,8 @@ same_answer front rest long = by_read (picture_at front) (picture_at (front ++ r
     by_end picture [] some = absurd (omega (arith, some))
     by_end picture (byte ∷ left) some = refl
 
-    by_read : (r s : Read PictureContents) → Same (32 + (12 * most_points + 0)) front rest r s → (s >>= λ picture. ended picture.0 picture.1) ≡ (r >>= λ picture. ended picture.0 picture.1)
+    by_read : (r s : Read PictureContents) → Same (32 + (12 * most_points + 0)) front rest r s → (s >>= λ picture. ended picture.0 picture.1)
+        ≡ (r >>= λ picture. ended picture.0 picture.1)
     by_read (Err f) s same = ap (λ answer. answer >>= λ picture. ended picture.0 picture.1) same
     by_read (Ok read) s same = ap (λ answer. answer >>= λ picture. ended picture.0 picture.1) same.0 ∙ by_end read.0 read.1 (omega (arith, same.1, long))
 
@@ -324,6 +345,7 @@ picture_length text picture is = elim (cases_lt most_picture_bytes (length text)
     not_ended got [] some e = absurd (omega (arith, some))
     not_ended got (byte ∷ left) some e = cc
 
-    refused : (r s : Read PictureContents) → Same (32 + (12 * most_points + 0)) text [] r s → most_picture_bytes < length text → (r >>= λ got. ended got.0 got.1) ≡ Ok picture → ⊥
+    refused : (r s : Read PictureContents) → Same (32 + (12 * most_points + 0)) text [] r s → most_picture_bytes < length text
+        → (r >>= λ got. ended got.0 got.1) ≡ Ok picture → ⊥
     refused (Err f) s same long e = cc
     refused (Ok read) s same long e = not_ended read.0 read.1 (omega (arith, same.1, long)) e

@@ -39,7 +39,8 @@ before_last stride y height h =
 no_fault : (words bytes address : ℕ) → address % 4 ≡ 0 → data_start ≤ address → address + 4 ≤ data_start + bytes → fault_of words bytes Reads address 4 ≡ None
 no_fault words bytes address aligned low high = grind (arith, nat_tests)
 
-pub pixel_no_fault : (words bytes : ℕ) (output : Output) (x y : ℕ) → IsTrue (is_output bytes output) → x < output.width → y < output.height → fault_of words bytes Reads (pixel_address output x y) 4 ≡ None
+pub pixel_no_fault : (words bytes : ℕ) (output : Output) (x y : ℕ) → IsTrue (is_output bytes output) → x < output.width → y < output.height
+    → fault_of words bytes Reads (pixel_address output x y) 4 ≡ None
 pixel_no_fault words bytes output x y h below_x below_y =
     let l = lies bytes output h in
     let a = fours output.stride y l.stride in
@@ -50,6 +51,8 @@ pixel_no_fault words bytes output x y h below_x below_y =
     no_fault words bytes (pixel_address output x y) aligned low high
 
 -- so the word of a pixel is there
-pub pixel_word : (state : State) (output : Output) (x y : ℕ) → IsTrue (is_output (length state.memory) output) → x < output.width → y < output.height → word_in state (pixel_address output x y) ≡ Some (pixel state output x y)
+pub pixel_word : (state : State) (output : Output) (x y : ℕ) → IsTrue (is_output (length state.memory) output) → x < output.width → y < output.height
+    → word_in state (pixel_address output x y) ≡ Some (pixel state output x y)
 pixel_word state output x y h below_x below_y =
-    ap (λ f. if_no_fault f (word_at state.text state.memory (pixel_address output x y))) (pixel_no_fault (length state.text) (length state.memory) output x y h below_x below_y)
+    ap (λ f. if_no_fault f (word_at state.text state.memory (pixel_address output x y))) (pixel_no_fault (length state.text) (length state.memory) output x y h
+    below_x below_y)

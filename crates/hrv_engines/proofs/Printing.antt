@@ -1,5 +1,6 @@
 -- Printed numbers, one more at the end.
-use Rattle.std.proofs.Common.{◌≡◌, ℕ, zero, suc, ◌+◌, ◌/◌, ◌%◌, ◌^◌, ◌-◌, ◌<◌, List, [], ◌∷◌, ◌++◌, length, take, get_or, refl, sym, ap, ◌∙◌, append_assoc, add-one}
+use Rattle.std.proofs.Common.{◌≡◌, ℕ, zero, suc, ◌+◌, ◌/◌, ◌%◌, ◌^◌, ◌-◌, ◌<◌, List, [], ◌∷◌, ◌++◌, length, take, get_or, refl, sym, ap, ◌∙◌, append_assoc}
+use Rattle.std.proofs.Common.{add-one}
 use Rattle.std.proofs.Math.Dec.{eqb-suc-zero}
 use Rattle.std.proofs.lemmas.List.{map-append, take_more}
 use Rattle.std.specs.List.{join_with_byte}
@@ -88,7 +89,8 @@ unfolding rows
 rows-more state output y = rw add-one refl
 
 -- one more hart
-pub hart_texts-more : (state : State) (turns : List ℕ) (number : ℕ) → hart_texts state turns (number + 1) ≡ hart_texts state turns number ++ hart_text number (hart_at state number) (count_of turns number)
+pub hart_texts-more : (state : State) (turns : List ℕ) (number : ℕ) → hart_texts state turns (number + 1) ≡ hart_texts state turns number
+    ++ hart_text number (hart_at state number) (count_of turns number)
 unfolding hart_texts
 hart_texts-more state turns number = rw add-one refl
 

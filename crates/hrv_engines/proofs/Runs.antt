@@ -21,7 +21,8 @@ use Rattle.hrv_engines.specs.declared.faults.Fault.{Fault}
 use Rattle.hrv_engines.specs.declared.faults.Fault.TheVariants.{Refused, File, Memory, Thread}
 
 -- the output of an image lies in the machine's data after any turns
-pub output-fits : (image : ImageContents) (harts : ℕ) (turns : List ℕ) (machine : State) (output : Option Output) → machine ≡ state_after image harts turns → output ≡ image.output
+pub output-fits : (image : ImageContents) (harts : ℕ) (turns : List ℕ) (machine : State) (output : Option Output) → machine ≡ state_after image harts turns
+    → output ≡ image.output
     → IsImage image → IsTrue (is_output_or_none (length machine.memory) output)
 output-fits image harts turns machine output is out rules =
     let bytes : length machine.memory ≡ length image.bytes = ap (λ s. length s.memory) is ∙ (shape-run (machine_of image harts) turns).bytes in
@@ -40,7 +41,8 @@ run-is image old limit log_bytes text log machine output is_machine is_run is_sp
       log = log;
       is_run = is_run;
       is_spelled = is_spelled;
-      is_replay = ap (λ found. with_image found log_bytes) is_image ∙ ap (with_log image) (ap log_of is_spelled ∙ all_again log is_run.is_log) ∙ ap (λ t. Ok t) (sym dump);
+      is_replay = ap (λ found. with_image found log_bytes) is_image ∙ ap (with_log image) (ap log_of is_spelled ∙ all_again log is_run.is_log)
+          ∙ ap (λ t. Ok t) (sym dump);
     }
 
 -- inputs that leave no log: nothing was written

@@ -151,7 +151,8 @@ module _ {S : Type 0} (place_of : S → List ℕ) (failures : S → ℕ) (gave :
   next_unread first texts now count s t Memory g well here p = next_well failures first now count s t well here p
   next_unread first texts now count s t Thread g well here p = p
 
-  pub reads_no_texts : {X : Type 0} (value : X → List (List ℕ)) (r : Result X Fault) (first : List S) (texts : List (List ℕ)) (now : List S) (count : ℕ) (s t : S) (fault : Fault)
+  pub reads_no_texts : {X : Type 0} (value : X → List (List ℕ)) (r : Result X Fault) (first : List S) (texts : List (List ℕ)) (now : List S) (count : ℕ)
+      (s t : S) (fault : Fault)
       → IsErrAnd r (λ f. f ≡ fault)
       → GaveFirst (GaveTextFront most_picture_bytes gave ended) first texts now count → NoneFailed failures first now → slice_get now count ≡ Some s
       → Unread (picture_text_of place_of failures gave ended s t) fault → Reads value (picture_texts_of place_of failures gave ended first (set now count t)) r
@@ -159,7 +160,8 @@ module _ {S : Type 0} (place_of : S → List ℕ) (failures : S → ℕ) (gave :
       let sources = picture_texts_of place_of failures gave ended first (set now count t) in
       reads_not value sources r (passed (Unread sources) r fault is (next_unread first texts now count s t fault g well here p))
 
-  pub texts_lost : {X : Type 0} (value : X → List (List ℕ)) (r : Result X Fault) (first later : List S) → IsErrAnd r (λ f. f ≡ Memory) → NoneFailed failures first later
+  pub texts_lost : {X : Type 0} (value : X → List (List ℕ)) (r : Result X Fault) (first later : List S) → IsErrAnd r (λ f. f ≡ Memory)
+      → NoneFailed failures first later
       → Reads value (picture_texts_of place_of failures gave ended first later) r
   texts_lost value r first later is well =
       let sources = picture_texts_of place_of failures gave ended first later in

@@ -1,5 +1,6 @@
 -- Bytes before the first of a kind, and lists of words and lines that are cut there.
-use Rattle.std.proofs.Common.{◌≡◌, ◌≢◌, ℕ, ◌+◌, suc, Bool, true, false, not, cond, ◌==◌, List, [], ◌∷◌, ◌++◌, take, drop, length, refl, sym, ap, subst, ◌∙◌, arith}
+use Rattle.std.proofs.Common.{◌≡◌, ◌≢◌, ℕ, ◌+◌, suc, Bool, true, false, not, cond, ◌==◌, List, [], ◌∷◌, ◌++◌, take, drop, length, refl, sym, ap, subst, ◌∙◌}
+use Rattle.std.proofs.Common.{arith}
 use Rattle.std.specs.Prelude.{None}
 use Rattle.std.proofs.lemmas.List.{append-nil}
 use Rattle.std.specs.List.{AllByRecursion, prefix_len}
@@ -50,13 +51,15 @@ cut mark [] = record { clean = tt; first = λ b others e. absurd (nil_cons b oth
 cut mark (byte ∷ bytes) = cut_more (byte == mark) mark byte bytes refl (cut mark bytes)
 
 -- what a cut leaves, where nothing follows and where something does
-pub all_clean : (mark n : ℕ) (bytes front rest : List ℕ) → n ≡ before mark bytes → front ≡ take n bytes → bytes ≡ front ++ rest → length rest ≡ 0 → HasNo mark bytes
+pub all_clean : (mark n : ℕ) (bytes front rest : List ℕ) → n ≡ before mark bytes → front ≡ take n bytes → bytes ≡ front ++ rest → length rest ≡ 0
+    → HasNo mark bytes
 all_clean mark n bytes front rest at is_front split none =
     let nothing : rest ≡ [] = length_zero rest none in
     let all : front ≡ bytes = sym (append-nil front) ∙ ap (λ r. front ++ r) (sym nothing) ∙ sym split in
     subst (HasNo mark) (sym (is_front ∙ ap (λ k. take k bytes) at) ∙ all) (cut mark bytes).clean
 
-pub cut_here : (mark n : ℕ) (bytes front rest : List ℕ) (byte : ℕ) (others : List ℕ) → n ≡ before mark bytes → front ≡ take n bytes → rest ≡ drop n bytes → bytes ≡ front ++ rest
+pub cut_here : (mark n : ℕ) (bytes front rest : List ℕ) (byte : ℕ) (others : List ℕ) → n ≡ before mark bytes → front ≡ take n bytes → rest ≡ drop n bytes
+    → bytes ≡ front ++ rest
     → rest ≡ byte ∷ others → (bytes ≡ front ++ mark ∷ others) × HasNo mark front
 cut_here mark n bytes front rest byte others at is_front is_rest split some =
     let it : byte ≡ mark = (cut mark bytes).first byte others (sym (is_rest ∙ ap (λ k. drop k bytes) at) ∙ some) in (
@@ -100,7 +103,8 @@ no_more name one two [] some = absurd (some refl)
 no_more name one two (other ∷ others) some = refl
 
 -- four words and more are no command
-pub too_many : (line rest rest' rest'' name one two : List ℕ) → words_of line ≡ name ∷ words_of rest → words_of rest ≡ one ∷ words_of rest' → words_of rest' ≡ two ∷ words_of rest''
+pub too_many : (line rest rest' rest'' name one two : List ℕ) → words_of line ≡ name ∷ words_of rest → words_of rest ≡ one ∷ words_of rest'
+    → words_of rest' ≡ two ∷ words_of rest''
     → None ≡ command_of line
 unfolding command_of
 too_many line rest rest' rest'' name one two a b c =

@@ -58,7 +58,8 @@ module _ {I : Type 0} (means : I → List ℕ → Type 0) (refuses : I → Refus
       gave_up Thread q = q
 
   -- they have no output
-  pub unmeant : {X : Type 0} (r : Result X Fault) (fault : Fault) (inputs : I) → IsErrAnd r (λ f. f ≡ fault) → sink.untouched → sources.gave inputs → sources.well
+  pub unmeant : {X : Type 0} (r : Result X Fault) (fault : Fault) (inputs : I) → IsErrAnd r (λ f. f ≡ fault) → sink.untouched → sources.gave inputs
+      → sources.well
       → Unmeant refuses inputs fault → Performs means refuses sources sink r
   unmeant r fault inputs is still given well p = performs_not r (passed (GaveUp means refuses sources sink) r fault is (gave_up fault p))
     where

@@ -38,7 +38,8 @@ none_of_all s place (suc count) none =
 
 pub next_found : (s : SessionState) (stop : ℕ) → IsNextStop s stop → next_stop s ≡ Ok stop
 next_found s stop h =
-    ap (or_refusal NoStop) (first_of_all s (s.place + 1) (length s.log.turns - s.place) stop (omega (arith, h.after)) (omega (arith, h.after, h.within)) h.stops_there
+    ap (or_refusal NoStop) (first_of_all s (s.place + 1) (length s.log.turns - s.place) stop (omega (arith, h.after)) (omega (arith, h.after, h.within))
+    h.stops_there
     (λ k a b. h.least k (omega (arith, a)) b))
 
 pub no_next_found : (s : SessionState) → NoNextStop s → next_stop s ≡ Err NoStop
@@ -47,7 +48,8 @@ no_next_found s h =
 
 -- ---- searching backwards
 
-last_of_all : (s : SessionState) (place stop : ℕ) → stop < place → stops s stop ≡ true → ((k : ℕ) → stop < k → k < place → stops s k ≡ false) → last_stop s place ≡ Some stop
+last_of_all : (s : SessionState) (place stop : ℕ) → stop < place → stops s stop ≡ true → ((k : ℕ) → stop < k → k < place → stops s k ≡ false)
+    → last_stop s place ≡ Some stop
 unfolding last_stop
 last_of_all s zero stop below is greatest = absurd (omega (arith, below))
 last_of_all s (suc place) stop below is greatest =
@@ -83,7 +85,8 @@ pub went_text : {X E : Type 0} (r : Result X E) (s : SessionState) (found : Resu
     → OnOk r (new ≡ old ++ place_text place) → OnOk r (new ≡ old ++ (went s found).text)
 went_text r s found place old new is h = subst (λ f. OnOk r (new ≡ old ++ (went s f).text)) (sym is) h
 
-pub went_next : {X E : Type 0} (r : Result X E) (s next : SessionState) (found : Result ℕ Refusal) → next ≡ (went s found).next → OnOk r (next ≡ (went s found).next)
+pub went_next : {X E : Type 0} (r : Result X E) (s next : SessionState) (found : Result ℕ Refusal) → next ≡ (went s found).next
+    → OnOk r (next ≡ (went s found).next)
 went_next (Ok x) s next found h = h
 went_next (Err e) s next found h = tt
 
@@ -97,7 +100,8 @@ not_memory OutOfMemory F known h = absurd (true≢false (sym known))
 
 -- a search that found nothing is refused so, unless memory ran out
 pub refused_text : {X E : Type 0} (r : Result X E) (refusal : Refusal) (F : Type 0) (s : SessionState) (found : Result ℕ Refusal) (old new : List ℕ)
-    → (F → found ≡ Err NoStop) → UnlessMemory refusal ((refusal ≡ NoStop) × F) → OnOk r (IsSome (number_of refusal)) → OnOk r (new ≡ old ++ refusal_text refusal)
+    → (F → found ≡ Err NoStop) → UnlessMemory refusal ((refusal ≡ NoStop) × F) → OnOk r (IsSome (number_of refusal))
+    → OnOk r (new ≡ old ++ refusal_text refusal)
     → OnOk r (new ≡ old ++ (went s found).text)
 refused_text (Err e) refusal F s found old new none err known h = tt
 refused_text (Ok x) refusal F s found old new none err known h =

@@ -1,5 +1,6 @@
 -- A talk goes on line by line.
-use Rattle.std.proofs.Common.{◌≡◌, ◌≢◌, ℕ, Bool, true, false, cond, List, [], ◌∷◌, ◌++◌, length, take, drop, refl, sym, ap, subst, ◌∙◌, append_assoc, take-append-drop, true≢false, inl, inr}
+use Rattle.std.proofs.Common.{◌≡◌, ◌≢◌, ℕ, Bool, true, false, cond, List, [], ◌∷◌, ◌++◌, length, take, drop, refl, sym, ap, subst, ◌∙◌, append_assoc}
+use Rattle.std.proofs.Common.{take-append-drop, true≢false, inl, inr}
 use Rattle.std.specs.Prelude.{Result, Ok, Err}
 use Rattle.std.specs.Result.{IsErrAnd}
 use Rattle.std.proofs.lemmas.List.{append-nil}
@@ -48,7 +49,8 @@ pub begins : (s : SessionState) (line bytes before : List ℕ) → IsLine line �
 begins s line bytes before is = record { answered = λ more. refl; lasts = λ more. refl; is_line = is }
 
 -- one more line that doesn't end the talk
-pub step_on : (old : SessionState) (line bytes : List ℕ) (s : SessionState) (left rest before middle found others : List ℕ) (next : SessionState) (after : List ℕ)
+pub step_on : (old : SessionState) (line bytes : List ℕ) (s : SessionState) (left rest before middle found others : List ℕ) (next : SessionState)
+    (after : List ℕ)
     → GoesOn old line bytes s left rest before middle → rest ≡ found ++ 10 ∷ others → HasNo 10 found
     → after ≡ middle ++ (answer s (left ++ found)).text → next ≡ (answer s (left ++ found)).next → false ≡ (answer s (left ++ found)).is_last
     → GoesOn old line bytes next [] others before after
@@ -60,7 +62,8 @@ step_on old line bytes s left rest before middle found others next after g split
     record {
       answered = λ more.
           g.answered more
-          ∙ ap (λ t. middle ++ t) (ap (talk s) (same more) ∙ talk_line s (left ++ found) (others ++ more) is_line ∙ goes_on a (λ n. talk n (others ++ more)) (sym last))
+          ∙ ap (λ t. middle ++ t) (ap (talk s) (same more) ∙ talk_line s (left ++ found) (others ++ more) is_line
+          ∙ goes_on a (λ n. talk n (others ++ more)) (sym last))
           ∙ sym (append_assoc middle a.text (talk a.next (others ++ more)))
           ∙ ap (λ t. t ++ talk a.next (others ++ more)) (sym said)
           ∙ ap (λ n. after ++ talk n (others ++ more)) (sym is_next);
@@ -83,7 +86,8 @@ step_over old line bytes s left rest before middle found others after g split cl
     record {
       answered = λ more.
           g.answered more
-          ∙ ap (λ t. middle ++ t) (ap (talk s) (same more) ∙ talk_line s (left ++ found) (others ++ more) is_line ∙ stops_here a (λ n. talk n (others ++ more)) (sym last))
+          ∙ ap (λ t. middle ++ t) (ap (talk s) (same more) ∙ talk_line s (left ++ found) (others ++ more) is_line
+          ∙ stops_here a (λ n. talk n (others ++ more)) (sym last))
           ∙ sym said;
       ended = λ more.
           g.lasts more ∙ ap (talk_ends s) (same more) ∙ ends_line s (left ++ found) (others ++ more) is_line
@@ -91,7 +95,8 @@ step_over old line bytes s left rest before middle found others after g split cl
     }
 
 -- bytes without a line feed are of a line that has not ended
-pub step_rest : (old : SessionState) (line bytes : List ℕ) (s : SessionState) (left rest before after : List ℕ) (new : List ℕ) → GoesOn old line bytes s left rest before after
+pub step_rest : (old : SessionState) (line bytes : List ℕ) (s : SessionState) (left rest before after : List ℕ) (new : List ℕ)
+    → GoesOn old line bytes s left rest before after
     → HasNo 10 rest → new ≡ left ++ rest → GoesOn old line bytes s new [] before after
 step_rest old line bytes s left rest before after new g clean is =
     subst (λ (l : List ℕ). GoesOn old line bytes s l [] before after) (sym is)
@@ -197,7 +202,8 @@ split_at : (n : ℕ) (text rest : List ℕ) → text ++ rest ≡ take n text ++ 
 split_at n text rest = ap (λ t. t ++ rest) (sym (take-append-drop n text)) ∙ append_assoc (take n text) (drop n text) rest
 
 -- a part of the answers to the piece was sent
-pub part_sent : (s now : SessionState) (gave gave' : List ℕ → Type 0) (ended : Type 0) (took took' : List ℕ → Type 0) (left piece text : List ℕ) → SoFar s gave took now left
+pub part_sent : (s now : SessionState) (gave gave' : List ℕ → Type 0) (ended : Type 0) (took took' : List ℕ → Type 0) (left piece text : List ℕ)
+    → SoFar s gave took now left
     → ((xs : List ℕ) → gave xs → gave' (xs ++ piece)) → ((n : ℕ) × ((xs : List ℕ) → took xs → took' (xs ++ take n text)))
     → ((more : List ℕ) → (rest : List ℕ) × (talk now (left ++ (piece ++ more)) ≡ text ++ rest))
     → BrokenTalk s gave' ended took'
@@ -214,7 +220,8 @@ part_sent s now gave gave' ended took took' left piece text so more_given part s
 }
 
 -- a part of the answer to a last line that no line feed ends
-pub end_part_sent : (s now : SessionState) (gave gave' : List ℕ → Type 0) (ended : Type 0) (took took' : List ℕ → Type 0) (left piece text : List ℕ) → SoFar s gave took now left
+pub end_part_sent : (s now : SessionState) (gave gave' : List ℕ → Type 0) (ended : Type 0) (took took' : List ℕ → Type 0) (left piece text : List ℕ)
+    → SoFar s gave took now left
     → ((xs : List ℕ) → gave xs → gave' (xs ++ piece)) → ((n : ℕ) × ((xs : List ℕ) → took xs → took' (xs ++ take n text)))
     → piece ≡ [] → ended → text ≡ talk now left
     → BrokenTalk s gave' ended took'
@@ -254,11 +261,13 @@ pub said_first : (b : Bool) (now next : SessionState) (left piece left' text : L
 said_first true now next left piece left' text over = λ more. ([], over.answered more ∙ sym (append-nil text))
 said_first false now next left piece left' text g = λ more. (talk next (left' ++ more), g.answered more)
 
-pub more_took : (b : Bool) (now next : SessionState) (left piece left' text : List ℕ) → b ≡ false → Took b now left piece next left' [] text → GoesOn now left piece next left' [] [] text
+pub more_took : (b : Bool) (now next : SessionState) (left piece left' text : List ℕ) → b ≡ false → Took b now left piece next left' [] text
+    → GoesOn now left piece next left' [] [] text
 more_took true now next left piece left' text e t = absurd (true≢false e)
 more_took false now next left piece left' text e t = t
 
-pub all_took : (b : Bool) (now next : SessionState) (left piece left' text : List ℕ) → b ≡ true → Took b now left piece next left' [] text → IsOver now left piece [] text
+pub all_took : (b : Bool) (now next : SessionState) (left piece left' text : List ℕ) → b ≡ true → Took b now left piece next left' [] text
+    → IsOver now left piece [] text
 all_took true now next left piece left' text e t = t
 all_took false now next left piece left' text e t = absurd (true≢false (sym e))
 
@@ -270,7 +279,8 @@ module _ (session : SessionState) (lines : Sources (List ℕ)) (lines_ended : Ty
       → HoldsTalk session lines lines_ended sink r
   broke_off r fault is p = held_not r (passed (TalkBroke session lines lines_ended sink) r fault is p)
     where
-      held_not : {X : Type 0} (result : Result X Fault) → IsErrAnd result (TalkBroke session lines lines_ended sink) → HoldsTalk session lines lines_ended sink result
+      held_not : {X : Type 0} (result : Result X Fault) → IsErrAnd result (TalkBroke session lines lines_ended sink)
+          → HoldsTalk session lines lines_ended sink result
       held_not (Ok x) q = absurd q
       held_not (Err f) q = q
 

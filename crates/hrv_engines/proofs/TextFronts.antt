@@ -1,5 +1,6 @@
 -- Fronts of texts: where a text begins with bytes, all but three of these at most are a text.
-use Rattle.std.proofs.Common.{◌≡◌, ◌∙◌, ◌<◌, ◌≤◌, ◌+◌, ◌⊎◌, ℕ, true, List, [], ◌∷◌, ◌++◌, length, take, drop, arith, refl, sym, ap, subst, inl, inr, append_assoc}
+use Rattle.std.proofs.Common.{◌≡◌, ◌∙◌, ◌<◌, ◌≤◌, ◌+◌, ◌⊎◌, ℕ, true, List, [], ◌∷◌, ◌++◌, length, take, drop, arith, refl, sym, ap, subst, inl, inr}
+use Rattle.std.proofs.Common.{append_assoc}
 use Rattle.std.specs.Prelude.{◌&&◌}
 use Rattle.std.specs.Str.{IsUtf8, encode_utf8_all, all_scalars}
 use Rattle.std.specs.Char.{encode_utf8}
@@ -27,8 +28,10 @@ by_chars (c ∷ cs) bytes rest ok e = elim (cases_lt (length bytes) (length (enc
   | inr whole ↦
       let parts = and_parts (scalar c) (all_scalars cs) ok in
       let count = length (encode_utf8 c) in
-      let first : take count bytes ≡ encode_utf8 c = sym (take-append-le count bytes rest whole) ∙ ap (take count) (sym e) ∙ take-append_seam (encode_utf8 c) (encode_utf8_all cs) in
-      let later : encode_utf8_all cs ≡ drop count bytes ++ rest = sym (drop-append_seam (encode_utf8 c) (encode_utf8_all cs)) ∙ ap (drop count) e ∙ drop-append-le count bytes rest whole in
+      let first : take count bytes ≡ encode_utf8 c = sym (take-append-le count bytes rest whole) ∙ ap (take count) (sym e)
+      ∙ take-append_seam (encode_utf8 c) (encode_utf8_all cs) in
+      let later : encode_utf8_all cs ≡ drop count bytes ++ rest = sym (drop-append_seam (encode_utf8 c) (encode_utf8_all cs)) ∙ ap (drop count) e
+      ∙ drop-append-le count bytes rest whole in
       let found = by_chars cs (drop count bytes) rest parts.1 later in
       let left = length-drop count bytes in
       record {
@@ -55,13 +58,15 @@ pub front_short : (most : ℕ) (bytes text : List ℕ) → IsFrontText most byte
 front_short most bytes text (inl same) = omega (arith, ap length same)
 front_short most bytes text (inr front) = omega (arith, ap length front.1.1, length-append text front.1.0)
 
-module _ {S : Type 0} (gave : S → List ℕ → S → Type 0) (ended : S → Type 0) (most : ℕ) (before after : S) (bytes : List ℕ) (given : gave before bytes after) where
-  pub front_given : (text : List ℕ) → IsUtf8 text → ended after ⊎ (most + 3 < length bytes) → IsFrontText most bytes text → GaveTextFront most gave ended before text after
-  front_given text is (inl end) (inl same) = (is, inl (subst (λ all. gave before all after) (sym same) given, end))
-  front_given text is (inr more) (inl same) =
-      (is, inr (omega (arith, more, ap length same), ([], subst (λ all. gave before all after) (sym (append-nil text ∙ same)) given)))
-  front_given text is end (inr front) = (is, inr (front.0, (front.1.0, subst (λ all. gave before all after) (sym front.1.1) given)))
+module _ {S : Type 0} (gave : S → List ℕ → S → Type 0) (ended : S → Type 0) (most : ℕ) (before after : S) (bytes : List ℕ) (given : gave before bytes after)
+  where
+    pub front_given : (text : List ℕ) → IsUtf8 text → ended after ⊎ (most + 3 < length bytes) → IsFrontText most bytes text
+        → GaveTextFront most gave ended before text after
+    front_given text is (inl end) (inl same) = (is, inl (subst (λ all. gave before all after) (sym same) given, end))
+    front_given text is (inr more) (inl same) =
+        (is, inr (omega (arith, more, ap length same), ([], subst (λ all. gave before all after) (sym (append-nil text ∙ same)) given)))
+    front_given text is end (inr front) = (is, inr (front.0, (front.1.0, subst (λ all. gave before all after) (sym front.1.1) given)))
 
-  pub none_given : ended after ⊎ (most + 3 < length bytes) → HasNoFrontText most bytes → GaveNoTextFront gave ended before after
-  none_given (inl end) none = (bytes, given, inl (end, none.0))
-  none_given (inr more) none = (bytes, given, inr (none.1 more))
+    pub none_given : ended after ⊎ (most + 3 < length bytes) → HasNoFrontText most bytes → GaveNoTextFront gave ended before after
+    none_given (inl end) none = (bytes, given, inl (end, none.0))
+    none_given (inr more) none = (bytes, given, inr (none.1 more))

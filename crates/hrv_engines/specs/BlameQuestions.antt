@@ -1,6 +1,7 @@
 -- What the words of a question ask about who wrote data: one word of data, or all pixels of the output.
 -- This project's own.
-use Rattle.std.specs.Prelude.{ℕ, ◌+◌, ◌%◌, ◌≤◌, ◌==◌, ◌&&◌, IsTrue, Bool, true, false, nat_le, nat_lt, if◌then◌else◌, List, length, Option, Some, None, option_map, Result, Ok, Err}
+use Rattle.std.specs.Prelude.{ℕ, ◌+◌, ◌%◌, ◌≤◌, ◌==◌, ◌&&◌, IsTrue, Bool, true, false, nat_le, nat_lt, if◌then◌else◌, List, length, Option, Some, None}
+use Rattle.std.specs.Prelude.{option_map, Result, Ok, Err}
 use Rattle.memory.specs.Access.{data_start, most_bytes}
 use Rattle.loader.specs.Image.{ImageContents, is_output}
 use Rattle.loader.specs.declared.outputs.Output.{Output}

@@ -40,7 +40,8 @@ one_line kind rest after line name start new all e f g h =
     ap (λ (names : List (List ℕ)). names ++ others) g
     ∙ (append_assoc start (and_names name []) others
     ∙ (ap (λ (names : List (List ℕ)). start ++ names)
-    (and_names-front name others ∙ (ap (λ (o : Option (List ℕ)). and_names o others) f ∙ (names_here kind line (lines_of after) ∙ ap (λ (ls : List (List ℕ)). names_in kind ls) (sym e)))) ∙ h))
+    (and_names-front name others ∙ (ap (λ (o : Option (List ℕ)). and_names o others) f ∙ (names_here kind line (lines_of after)
+    ∙ ap (λ (ls : List (List ℕ)). names_in kind ls) (sym e)))) ∙ h))
 
 -- no line is left
 pub all_lines : (kind : Kind) (rest : List ℕ) (names all : List (List ℕ)) → rest ≡ [] → names ++ names_in kind (lines_of rest) ≡ all → names ≡ all

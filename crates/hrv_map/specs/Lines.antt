@@ -94,7 +94,8 @@ module _ (names : List (List ℕ)) (schedule : Schedule) (boxes : Boxes) where
   abbrev pub copies_if : ℕ → LoopPlace → Option SourceBox → List ℕ
   copies_if place at None = []
   copies_if place at (Some own) =
-      copies_line (name_at names place) (name_at names at.func) (loop_name_in at.inside (slice_get schedule.funcs at.func)) (address_at boxes.layout.privates place) own
+      copies_line (name_at names place) (name_at names at.func) (loop_name_in at.inside (slice_get schedule.funcs at.func)) (address_at boxes.layout.privates
+      place) own
 
   -- by where it is computed, and the box of one iteration; nothing where it is inlined
   abbrev pub func_line_by : ℕ → Place → Option SourceBox → List ℕ

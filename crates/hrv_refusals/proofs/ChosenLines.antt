@@ -21,11 +21,13 @@ chosen_by : (b is_chosen : Bool) (family code text line rest : List ℕ) → lin
 unfolding chosen
 chosen_by b is_chosen family code text line rest split judged =
     ap (chosen is_chosen family code) split
-    ∙ ap (λ i. if i then line_if is_chosen line ++ chosen is_chosen family code (lines_of rest) else chosen (chooses family code line) family code (lines_of rest)) judged
+    ∙ ap (λ i. if i then line_if is_chosen line ++ chosen is_chosen family code (lines_of rest) else chosen (chooses family code line) family code
+    (lines_of rest)) judged
 
 -- a heading says which lines are chosen below it
 pub at_heading : (is_chosen next : Bool) (family code text line rest before after : List ℕ) → lines_of text ≡ line ∷ lines_of rest → is_indented line ≡ false
-    → next ≡ chooses family code line → after ≡ before ++ chosen next family code (lines_of rest) → after ≡ before ++ chosen is_chosen family code (lines_of text)
+    → next ≡ chooses family code line → after ≡ before ++ chosen next family code (lines_of rest)
+    → after ≡ before ++ chosen is_chosen family code (lines_of text)
 at_heading is_chosen next family code text line rest before after split plain chooses_next grown =
     grown ∙ ap (λ b. before ++ chosen b family code (lines_of rest)) chooses_next
     ∙ ap (λ more. before ++ more) (sym (chosen_by false is_chosen family code text line rest split plain))

@@ -1,5 +1,6 @@
 -- The bytes of a register, and its elements.
-use Rattle.std.proofs.Common.{◌≡◌, ℕ, zero, suc, ◌+◌, ◌*◌, ◌/◌, ◌<◌, ◌≤◌, List, [], ◌∷◌, ◌++◌, take, drop, length, get_or, refl, sym, ◌∙◌, ap, subst, arith, inl, inr}
+use Rattle.std.proofs.Common.{◌≡◌, ℕ, zero, suc, ◌+◌, ◌*◌, ◌/◌, ◌<◌, ◌≤◌, List, [], ◌∷◌, ◌++◌, take, drop, length, get_or, refl, sym, ◌∙◌, ap, subst, arith}
+use Rattle.std.proofs.Common.{inl, inr}
 use Rattle.std.proofs.Common.{append-nil, length-append, length-take}
 use Rattle.std.proofs.Math.Seq.{take-append_seam}
 use Rattle.std.proofs.lemmas.List.{take_more, take_all}
@@ -45,7 +46,8 @@ pub written_more : (w : ℕ) (bytes bytes' : List ℕ) (i n : ℕ) (xs : List �
     → take ((i + 1) * (w / 8)) bytes' ≡ register_of w (take (i + 1) xs)
 written_more w bytes bytes' i n xs p q e h so_far =
     let size : (i + 1) * (w / 8) ≡ i * (w / 8) + w / 8 = omega arith in
-    let front = seam (take (i * (w / 8)) bytes ++ lowest_bytes (w / 8) n) (drop (i * (w / 8) + w / 8) bytes) (i * (w / 8) + w / 8) (length_front (i * (w / 8)) (w / 8) n bytes p) in
+    let front = seam (take (i * (w / 8)) bytes ++ lowest_bytes (w / 8) n) (drop (i * (w / 8) + w / 8) bytes) (i * (w / 8) + w / 8) (length_front (i * (w / 8))
+    (w / 8) n bytes p) in
     let more = flat_more (lowest_bytes (w / 8)) xs i q in
     rw (size, h, front, so_far, e) (sym more)
 

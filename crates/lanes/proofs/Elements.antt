@@ -152,7 +152,8 @@ merged_true (suc n) (x ∷ xs) [] p q = absurd (omega (arith, q))
 merged_true (suc n) (x ∷ xs) (y ∷ ys) p q = ap (λ zs. x ∷ zs) (merged_true n xs ys (omega (arith, p)) (omega (arith, q)))
 
 -- where all elements are active, the new ones take the place of all
-pub merged_active : {A : Type 0} (first n vl : ℕ) (mask : List ℕ) (xs ys : List A) → first + n ≤ vl → length xs ≡ n → length ys ≡ n → merged (active first n vl true mask) xs ys ≡ xs
+pub merged_active : {A : Type 0} (first n vl : ℕ) (mask : List ℕ) (xs ys : List A) → first + n ≤ vl → length xs ≡ n → length ys ≡ n
+    → merged (active first n vl true mask) xs ys ≡ xs
 unfolding active
 merged_active first n vl mask xs ys l p q =
     ap (λ flags. merged flags xs ys) (all_from vl first mask 0 n (omega (arith, l))) ∙ merged_true n xs ys p q

@@ -32,9 +32,17 @@ wider : (w v : Width) (z : ℤ) → hbits v ≡ hbits w + bits w → FitsSigned 
 wider w v z e f = record { sfits = lt_of_lt_of_le f.sfits (pow_mono (omega arith)) }
 
 pub high_word : (w v : Width) (x y : ℤ) → hbits v ≡ hbits w + bits w → 2 ^ hbits w * 2 ^ hbits w < 2 ^ hbits v → FitsSigned w x → FitsSigned w y
-    → of_z w (to_z w (of_z w (to_z v (of_z v (shr_z (to_z v (of_z v (to_z v (of_z v x) *ℤ to_z v (of_z v y)))) (2 ^ bits w)))))) ≡ wrapped (bits w) (shr_z (x *ℤ y) (2 ^ bits w))
+    → of_z w (to_z w (of_z w (to_z v (of_z v (shr_z (to_z v (of_z v (to_z v (of_z v x) *ℤ to_z v (of_z v y)))) (2 ^ bits w))))))
+    ≡ wrapped (bits w) (shr_z (x *ℤ y) (2 ^ bits w))
 high_word w v x y e h f g =
     let product : FitsSigned v (x *ℤ y) = fits_signed_mul v x y (2 ^ hbits w) (2 ^ hbits w) (nat_abs-le x f.sfits) (nat_abs-le y g.sfits) h in
     let high : FitsSigned w (shr_z (x *ℤ y) (2 ^ bits w)) = shr_fits w v (x *ℤ y) e product in
-    rw (to_z-of_z v x (wider w v x e f), to_z-of_z v y (wider w v y e g), to_z-of_z v (x *ℤ y) product, to_z-of_z v (shr_z (x *ℤ y) (2 ^ bits w)) (wider w v _ e high), to_z-of_z w (shr_z (x *ℤ y) (2 ^ bits w)) high)
+    rw (
+      to_z-of_z v x (wider w v x e f),
+      to_z-of_z v y (wider w v y e g),
+      to_z-of_z v (x *ℤ y) product,
+      to_z-of_z v (shr_z (x *ℤ y) (2 ^ bits w))
+          (wider w v _ e high),
+      to_z-of_z w (shr_z (x *ℤ y) (2 ^ bits w)) high,
+    )
     (wrapped_is w (shr_z (x *ℤ y) (2 ^ bits w)) high)

@@ -1,11 +1,13 @@
 -- Bits of a mask register that are written one after the other, from a first one on.
-use Rattle.std.proofs.Common.{◌≡◌, ℕ, suc, ◌+◌, ◌<◌, Bool, true, false, if◌then◌else◌, List, drop, length, get_or, drop-cons, add-one, refl, sym, ◌∙◌, ap, arith}
+use Rattle.std.proofs.Common.{◌≡◌, ℕ, suc, ◌+◌, ◌<◌, Bool, true, false, if◌then◌else◌, List, drop, length, get_or, drop-cons, add-one, refl, sym, ◌∙◌, ap}
+use Rattle.std.proofs.Common.{arith}
 use Rattle.lanes.specs.Words.{with_mask_bit, with_mask_bits_from}
 
 -- the bit of one element
 front : (f i : ℕ) (active bits : List Bool) (bytes : List ℕ) (a b : Bool) → i < length active → i < length bits
     → with_mask_bits_from (f + i) (drop i active) (drop i bits) bytes
-    ≡ with_mask_bits_from (f + i + 1) (drop (suc i) active) (drop (suc i) bits) (if get_or active i a then with_mask_bit bytes (f + i) (get_or bits i b) else bytes)
+    ≡ with_mask_bits_from (f + i + 1) (drop (suc i) active) (drop (suc i) bits) (if get_or active i a then with_mask_bit bytes (f + i) (get_or bits i b)
+    else bytes)
 front f i active bits bytes a b p q = rw (drop-cons active i a, drop-cons bits i b) refl
 
 step : (f i : ℕ) (active bits : List Bool) (bytes bytes' : List ℕ) (a b : Bool) → i < length active → i < length bits

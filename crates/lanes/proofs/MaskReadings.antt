@@ -1,5 +1,6 @@
 -- Bits of a mask register that are written are read back, and the others stay.
-use Rattle.std.proofs.Common.{◌≡◌, ℕ, zero, suc, ◌+◌, ◌-◌, ◌/◌, ◌%◌, ◌^◌, ◌<◌, ◌≤◌, ◌≢◌, ◌==◌, Bool, true, false, if◌then◌else◌, List, [], ◌∷◌, length, get_or, refl, sym, ◌∙◌, ap, arith, inl, inr, get_or-set_same, get_or-set_other, eq-eqb}
+use Rattle.std.proofs.Common.{◌≡◌, ℕ, zero, suc, ◌+◌, ◌-◌, ◌/◌, ◌%◌, ◌^◌, ◌<◌, ◌≤◌, ◌≢◌, ◌==◌, Bool, true, false, if◌then◌else◌, List, [], ◌∷◌, length, get_or}
+use Rattle.std.proofs.Common.{refl, sym, ◌∙◌, ap, arith, inl, inr, get_or-set_same, get_or-set_other, eq-eqb}
 use Rattle.std.proofs.Math.ListN.{length-set}
 use Rattle.std.proofs.lemmas.Bool.{cases_eq, ne_eqb}
 use Rattle.std.proofs.lemmas.Nat.{pow_below}
@@ -58,7 +59,8 @@ length_after : (bytes : List ℕ) (j : ℕ) (a b : Bool) → length (if a then w
 length_after bytes j true b = length-set bytes (j / 8) _
 length_after bytes j false b = refl
 
-after_other : (bytes : List ℕ) (i j : ℕ) (a b : Bool) → j < 128 → i ≢ j → length bytes ≡ 16 → mask_bit (if a then with_mask_bit bytes j b else bytes) i ≡ mask_bit bytes i
+after_other : (bytes : List ℕ) (i j : ℕ) (a b : Bool) → j < 128 → i ≢ j → length bytes ≡ 16 → mask_bit (if a then with_mask_bit bytes j b else bytes) i
+    ≡ mask_bit bytes i
 after_other bytes i j true b h ne long = mask_bit_other bytes i j b h ne long
 after_other bytes i j false b h ne long = refl
 

@@ -1,14 +1,17 @@
 -- Words of a width as numbers modulo a power of two, and what quotients and remainders give.
-use Rattle.std.proofs.Common.{◌≡◌, ℕ, suc, ◌+◌, ◌-◌, ◌*◌, ◌/◌, ◌%◌, ◌^◌, ◌==◌, ◌<◌, if◌then◌else◌, refl, sym, ◌∙◌, ap, subst, arith, inl, inr, ℤ, pos, negsuc, ◌+ℤ◌, ◌*ℤ◌, to_z, of_z}
+use Rattle.std.proofs.Common.{◌≡◌, ℕ, suc, ◌+◌, ◌-◌, ◌*◌, ◌/◌, ◌%◌, ◌^◌, ◌==◌, ◌<◌, if◌then◌else◌, refl, sym, ◌∙◌, ap, subst, arith, inl, inr, ℤ, pos, negsuc}
+use Rattle.std.proofs.Common.{◌+ℤ◌, ◌*ℤ◌, to_z, of_z}
 use Rattle.std.specs.Int.{Width, w8, w16, w32, int_wrap, int_shr}
 use Rattle.std.specs.Int.RustNames.{int_div, int_rem}
 use Rattle.std.proofs.Math.Nat.{mod-lt, mod-eq_of_lt, zero-mod, mul-zero, zero-add, div-mul-le_self}
 use Rattle.std.proofs.Math.Facts.{sfits_to_z}
 use Rattle.std.proofs.lemmas.Bool.{cases_eq, ne_eqb}
 use Rattle.std.proofs.lemmas.Nat.{pow_pos, pow-add, mod-pow-add, div-add-mod'}
-use Rattle.std.proofs.lemmas.Int.{of_z-to_z, wrapping_add-bits, wrapping_mul-bits, int_wrap-add_left, int_wrap-add_right, int_wrap-mul_left, int_wrap-mul_right, int_wrap_fits, quot-rem}
+use Rattle.std.proofs.lemmas.Int.{of_z-to_z, wrapping_add-bits, wrapping_mul-bits, int_wrap-add_left, int_wrap-add_right, int_wrap-mul_left, int_wrap-mul_right}
+use Rattle.std.proofs.lemmas.Int.{int_wrap_fits, quot-rem}
 use mir.Val.{bits}
-use Rattle.lanes.specs.Words.{IsWidth, signed, wrapped, add, multiply, multiply_high_signed, multiply_high_signed_unsigned, multiply_high_unsigned, divide_unsigned, remainder_unsigned, divide_signed, remainder_signed}
+use Rattle.lanes.specs.Words.{IsWidth, signed, wrapped, add, multiply, multiply_high_signed, multiply_high_signed_unsigned, multiply_high_unsigned}
+use Rattle.lanes.specs.Words.{divide_unsigned, remainder_unsigned, divide_signed, remainder_signed}
 
 -- ---- words and whole numbers
 
@@ -129,12 +132,14 @@ SignedHalves w = (a b : ℕ) → a < 2 ^ w → b < 2 ^ w → multiply_high_signe
 abbrev MixedHalves : ℕ → Type 0
 MixedHalves w = (a b : ℕ) → a < 2 ^ w → b < 2 ^ w → multiply_high_signed_unsigned w a b * 2 ^ w + multiply w a b ≡ wrapped (w + w) (signed w a *ℤ pos b)
 
-pub signed_halves : (w a b : ℕ) → IsWidth w → a < 2 ^ w → b < 2 ^ w → multiply_high_signed w a b * 2 ^ w + multiply w a b ≡ wrapped (w + w) (signed w a *ℤ signed w b)
+pub signed_halves : (w a b : ℕ) → IsWidth w → a < 2 ^ w → b < 2 ^ w → multiply_high_signed w a b * 2 ^ w + multiply w a b
+    ≡ wrapped (w + w) (signed w a *ℤ signed w b)
 signed_halves w a b (inl e) = subst SignedHalves (sym e) (signed_halves_at w8) a b
 signed_halves w a b (inr (inl e)) = subst SignedHalves (sym e) (signed_halves_at w16) a b
 signed_halves w a b (inr (inr e)) = subst SignedHalves (sym e) (signed_halves_at w32) a b
 
-pub mixed_halves : (w a b : ℕ) → IsWidth w → a < 2 ^ w → b < 2 ^ w → multiply_high_signed_unsigned w a b * 2 ^ w + multiply w a b ≡ wrapped (w + w) (signed w a *ℤ pos b)
+pub mixed_halves : (w a b : ℕ) → IsWidth w → a < 2 ^ w → b < 2 ^ w → multiply_high_signed_unsigned w a b * 2 ^ w + multiply w a b
+    ≡ wrapped (w + w) (signed w a *ℤ pos b)
 mixed_halves w a b (inl e) = subst MixedHalves (sym e) (mixed_halves_at w8) a b
 mixed_halves w a b (inr (inl e)) = subst MixedHalves (sym e) (mixed_halves_at w16) a b
 mixed_halves w a b (inr (inr e)) = subst MixedHalves (sym e) (mixed_halves_at w32) a b

@@ -1,5 +1,6 @@
 -- Vectors of the processor, lane by lane.
-use Rattle.std.proofs.Common.{◌≡◌, ℕ, zero, suc, ◌+◌, ◌-◌, ◌/◌, ◌%◌, ◌^◌, ◌<◌, ◌≤◌, Bool, true, false, not, cond, nat_le, nat_lt, ◌==◌, List, [], ◌∷◌, if◌then◌else◌, map, take, length, get_or, replicate, refl, sym, ap, arith}
+use Rattle.std.proofs.Common.{◌≡◌, ℕ, zero, suc, ◌+◌, ◌-◌, ◌/◌, ◌%◌, ◌^◌, ◌<◌, ◌≤◌, Bool, true, false, not, cond, nat_le, nat_lt, ◌==◌, List, [], ◌∷◌}
+use Rattle.std.proofs.Common.{if◌then◌else◌, map, take, length, get_or, replicate, refl, sym, ap, arith}
 use Rattle.std.proofs.Math.Nat.{mod-eq_of_lt, mod-lt, div-le_self}
 use Rattle.std.proofs.Math.ListN.{set}
 use Rattle.std.proofs.lemmas.List.{take_all}
@@ -16,7 +17,8 @@ pub tests_from_lanes : (f g : ℕ → ℕ → Bool) (s : ℕ → ℕ) (most : �
     → (xs ys : List ℕ) → ((i : ℕ) → get_or xs i 0 < most) → ((i : ℕ) → get_or ys i 0 < most) → zip2 f (map s xs) (map s ys) ≡ zip_with g (map id xs) (map id ys)
 tests_from_lanes f g s most h [] ys p q = refl
 tests_from_lanes f g s most h (x ∷ xs) [] p q = refl
-tests_from_lanes f g s most h (x ∷ xs) (y ∷ ys) p q = let head = h x y (p 0) (q 0) in let tail = tests_from_lanes f g s most h xs ys (λ i. p (suc i)) (λ i. q (suc i)) in cc
+tests_from_lanes f g s most h (x ∷ xs) (y ∷ ys) p q = let head = h x y (p 0) (q 0) in let tail = tests_from_lanes f g s most h xs ys (λ i. p (suc i))
+    (λ i. q (suc i)) in cc
 
 pub seen_tests : (f : ℕ → ℕ → Bool) (xs ys : List ℕ) → zip2 f xs ys ≡ zip_with f (map id xs) (map id ys)
 seen_tests f [] ys = refl
@@ -24,7 +26,8 @@ seen_tests f (x ∷ xs) [] = refl
 seen_tests f (x ∷ xs) (y ∷ ys) = ap (λ zs. f x y ∷ zs) (seen_tests f xs ys)
 
 -- the one that a test chooses
-pub firsts_chosen : (p : ℕ → Bool) (m : ℕ → ℕ → ℕ) (t : ℕ → ℕ → Bool) → ((x y : ℕ) → p (m x y) ≡ t x y) → ((x y : ℕ) → (if t x y then x else y) ≡ (if t y x then y else x))
+pub firsts_chosen : (p : ℕ → Bool) (m : ℕ → ℕ → ℕ) (t : ℕ → ℕ → Bool) → ((x y : ℕ) → p (m x y) ≡ t x y)
+    → ((x y : ℕ) → (if t x y then x else y) ≡ (if t y x then y else x))
     → (xs ys : List ℕ) → map id (sel_l (map p (zip2 m xs ys)) xs ys) ≡ zip_with (λ x y. if t y x then y else x) (map id xs) (map id ys)
 firsts_chosen p m t h k [] ys = refl
 firsts_chosen p m t h k (x ∷ xs) [] = refl
@@ -40,21 +43,26 @@ seconds_chosen p m t h (x ∷ xs) [] = refl
 seconds_chosen p m t h (x ∷ xs) (y ∷ ys) = let head = h x y in let tail = seconds_chosen p m t h xs ys in cc
 
 pub greater_chosen : (p : ℕ → Bool) (m : ℕ → ℕ → ℕ) (t : ℕ → ℕ → Bool) (s : ℕ → ℕ) (most : ℕ) → ((x y : ℕ) → x < most → y < most → p (m (s x) (s y)) ≡ t x y)
-    → (xs ys : List ℕ) → ((i : ℕ) → get_or xs i 0 < most) → ((i : ℕ) → get_or ys i 0 < most) → map id (sel_l (map p (zip2 m (map s xs) (map s ys))) ys xs) ≡ zip_with (λ x y. if t x y then y else x) (map id xs) (map id ys)
+    → (xs ys : List ℕ) → ((i : ℕ) → get_or xs i 0 < most) → ((i : ℕ) → get_or ys i 0 < most) → map id (sel_l (map p (zip2 m (map s xs) (map s ys))) ys xs)
+    ≡ zip_with (λ x y. if t x y then y else x) (map id xs) (map id ys)
 greater_chosen p m t s most h [] ys a b = refl
 greater_chosen p m t s most h (x ∷ xs) [] a b = refl
-greater_chosen p m t s most h (x ∷ xs) (y ∷ ys) a b = let head = h x y (a 0) (b 0) in let tail = greater_chosen p m t s most h xs ys (λ i. a (suc i)) (λ i. b (suc i)) in cc
+greater_chosen p m t s most h (x ∷ xs) (y ∷ ys) a b = let head = h x y (a 0) (b 0) in let tail = greater_chosen p m t s most h xs ys (λ i. a (suc i))
+    (λ i. b (suc i)) in cc
 
 pub lesser_chosen : (p : ℕ → Bool) (m : ℕ → ℕ → ℕ) (t : ℕ → ℕ → Bool) (s : ℕ → ℕ) (most : ℕ) → ((x y : ℕ) → x < most → y < most → p (m (s x) (s y)) ≡ t x y)
-    → (xs ys : List ℕ) → ((i : ℕ) → get_or xs i 0 < most) → ((i : ℕ) → get_or ys i 0 < most) → map id (sel_l (map p (zip2 m (map s ys) (map s xs))) ys xs) ≡ zip_with (λ x y. if t y x then y else x) (map id xs) (map id ys)
+    → (xs ys : List ℕ) → ((i : ℕ) → get_or xs i 0 < most) → ((i : ℕ) → get_or ys i 0 < most) → map id (sel_l (map p (zip2 m (map s ys) (map s xs))) ys xs)
+    ≡ zip_with (λ x y. if t y x then y else x) (map id xs) (map id ys)
 lesser_chosen p m t s most h [] [] a b = refl
 lesser_chosen p m t s most h [] (y ∷ ys) a b = refl
 lesser_chosen p m t s most h (x ∷ xs) [] a b = refl
-lesser_chosen p m t s most h (x ∷ xs) (y ∷ ys) a b = let head = h y x (b 0) (a 0) in let tail = lesser_chosen p m t s most h xs ys (λ i. a (suc i)) (λ i. b (suc i)) in cc
+lesser_chosen p m t s most h (x ∷ xs) (y ∷ ys) a b = let head = h y x (b 0) (a 0) in let tail = lesser_chosen p m t s most h xs ys (λ i. a (suc i))
+    (λ i. b (suc i)) in cc
 
 -- ---- tests as lanes that are 1 or 0
 
-pub ones_more : {A : Type 0} (number : A → ℕ) (i : ℕ) (bs : List Bool) (xs : List A) (b : Bool) (x : A) → i < length bs → i < length xs → b ≡ (number (get_or xs i x) == 1)
+pub ones_more : {A : Type 0} (number : A → ℕ) (i : ℕ) (bs : List Bool) (xs : List A) (b : Bool) (x : A) → i < length bs → i < length xs
+    → b ≡ (number (get_or xs i x) == 1)
     → take i bs ≡ map (λ n. n == 1) (map number (take i xs)) → take (suc i) (set bs i b) ≡ map (λ n. n == 1) (map number (take (suc i) xs))
 ones_more number i [] xs b x p q e h = absurd (omega arith)
 ones_more number i (b' ∷ bs) [] b x p q e h = absurd (omega arith)
@@ -103,10 +111,12 @@ flags_merge (b ∷ bs) (x ∷ xs) [] = refl
 flags_merge (true ∷ bs) (x ∷ xs) (y ∷ ys) = ap (λ zs. x ∷ zs) (flags_merge bs xs ys)
 flags_merge (false ∷ bs) (x ∷ xs) (y ∷ ys) = ap (λ zs. y ∷ zs) (flags_merge bs xs ys)
 
-pub merged_flags : {A : Type 0} (fs : List ℕ) (bs : List Bool) (xs ys : List A) → fs ≡ map (λ b. if b then 1 else 0) bs → sel_l (map (λ n. n == 1) fs) xs ys ≡ merged bs xs ys
+pub merged_flags : {A : Type 0} (fs : List ℕ) (bs : List Bool) (xs ys : List A) → fs ≡ map (λ b. if b then 1 else 0) bs
+    → sel_l (map (λ n. n == 1) fs) xs ys ≡ merged bs xs ys
 merged_flags fs bs xs ys e = rw e (flags_merge bs xs ys)
 
-pub flags_more : {A : Type 0} (here elsewhere : A) (i : ℕ) (zs : List A) (bs : List Bool) (z : A) (b : Bool) → i < length zs → i < length bs → z ≡ (if get_or bs i b then here else elsewhere)
+pub flags_more : {A : Type 0} (here elsewhere : A) (i : ℕ) (zs : List A) (bs : List Bool) (z : A) (b : Bool) → i < length zs → i < length bs
+    → z ≡ (if get_or bs i b then here else elsewhere)
     → take i zs ≡ map (λ v. if v then here else elsewhere) (take i bs) → take (suc i) (set zs i z) ≡ map (λ v. if v then here else elsewhere) (take (suc i) bs)
 flags_more here elsewhere i [] bs z b p q e h = absurd (omega arith)
 flags_more here elsewhere i (z' ∷ zs) [] z b p q e h = absurd (omega arith)
@@ -116,11 +126,13 @@ flags_more here elsewhere (suc i) (z' ∷ zs) (b' ∷ bs) z b p q e h =
     let head : z' ≡ (if b' then here else elsewhere) = cc in
     let rest = flags_more here elsewhere i zs bs z b (omega arith) (omega arith) e tail in cc
 
-pub flags_more_here : {A : Type 0} (here elsewhere : A) (i : ℕ) (zs : List A) (bs : List Bool) (z : A) (b : Bool) → i < length zs → i < length bs → get_or bs i b ≡ true → z ≡ here
+pub flags_more_here : {A : Type 0} (here elsewhere : A) (i : ℕ) (zs : List A) (bs : List Bool) (z : A) (b : Bool) → i < length zs → i < length bs
+    → get_or bs i b ≡ true → z ≡ here
     → take i zs ≡ map (λ v. if v then here else elsewhere) (take i bs) → take (suc i) (set zs i z) ≡ map (λ v. if v then here else elsewhere) (take (suc i) bs)
 flags_more_here here elsewhere i zs bs z b p q t e h = flags_more here elsewhere i zs bs z b p q (rw t e) h
 
-pub flags_more_elsewhere : {A : Type 0} (here elsewhere : A) (i : ℕ) (zs : List A) (bs : List Bool) (z : A) (b : Bool) → i < length zs → i < length bs → get_or bs i b ≡ false → z ≡ elsewhere
+pub flags_more_elsewhere : {A : Type 0} (here elsewhere : A) (i : ℕ) (zs : List A) (bs : List Bool) (z : A) (b : Bool) → i < length zs → i < length bs
+    → get_or bs i b ≡ false → z ≡ elsewhere
     → take i zs ≡ map (λ v. if v then here else elsewhere) (take i bs) → take (suc i) (set zs i z) ≡ map (λ v. if v then here else elsewhere) (take (suc i) bs)
 flags_more_elsewhere here elsewhere i zs bs z b p q t e h = flags_more here elsewhere i zs bs z b p q (rw t e) h
 

@@ -5,7 +5,9 @@
 -- Subtract", 11.5 "Vector Bitwise Logical Instructions", 11.6 "Vector Single-Width Shift Instructions", 11.8
 -- "Vector Integer Compare Instructions", 11.9 "Vector Integer Min/Max Instructions", 11.10 "Vector Single-Width
 -- Integer Multiply Instructions", 11.11 "Vector Integer Divide Instructions".
-use Rattle.std.specs.Prelude.{◌≡◌, ◌⊎◌, ℕ, suc, ◌+◌, ◌-◌, ◌*◌, ◌/◌, ◌%◌, ◌^◌, ◌==◌, nat_lt, Bool, not, if◌then◌else◌, ℤ, pos, negsuc, ◌*ℤ◌, int_lt, int_div, int_rem, bit_and, bit_or, bit_xor, true, false, List, [], ◌∷◌, fold, zero, ◌++◌, map, take, drop, ◌&&◌, ◌||◌, slice_index, slice_set}
+use Rattle.std.specs.Prelude.{◌≡◌, ◌⊎◌, ℕ, suc, ◌+◌, ◌-◌, ◌*◌, ◌/◌, ◌%◌, ◌^◌, ◌==◌, nat_lt, Bool, not, if◌then◌else◌, ℤ, pos, negsuc, ◌*ℤ◌, int_lt, int_div}
+use Rattle.std.specs.Prelude.{int_rem, bit_and, bit_or, bit_xor, true, false, List, [], ◌∷◌, fold, zero, ◌++◌, map, take, drop, ◌&&◌, ◌||◌, slice_index}
+use Rattle.std.specs.Prelude.{slice_set}
 use Rattle.std.specs.Int.{int_shr, bit_at}
 use Rattle.std.specs.List.{flat_map, range_with_len}
 

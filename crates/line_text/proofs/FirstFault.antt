@@ -34,7 +34,8 @@ module _ {S F : Type 0} (takes : S → List ℕ → Result S F) where
         refused = is ∙ ap (λ (p : ℕ × F). Err p.1) same;
       }
 
-  pub first_fault : (first : ℕ) (state : S) (lines : List (List ℕ)) (number : ℕ) (fault : F) → taken_from takes first state lines ≡ Err (number, fault) → IsFirstFault takes first state lines number fault
+  pub first_fault : (first : ℕ) (state : S) (lines : List (List ℕ)) (number : ℕ) (fault : F) → taken_from takes first state lines ≡ Err (number, fault)
+      → IsFirstFault takes first state lines number fault
   unfolding taken_from
   first_fault first state [] number fault e = cc
   first_fault first state (line ∷ lines) number fault e =

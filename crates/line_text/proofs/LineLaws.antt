@@ -7,13 +7,15 @@ use Rattle.line_text.specs.Lines.{lines_of, joined, is_in_line, after_first, fir
 abbrev pub Splits : List ℕ → Type 0
 Splits text = lines_of text ≡ (first_line text).0 ∷ lines_of (first_line text).1
 
-longer : (byte : ℕ) (text : List ℕ) → (text ≢ [] → Splits text) → joined byte (lines_of text) ≡ (byte ∷ take (prefix_len is_in_line text) text) ∷ lines_of (after_first (drop (prefix_len is_in_line text) text))
+longer : (byte : ℕ) (text : List ℕ) → (text ≢ [] → Splits text) → joined byte (lines_of text) ≡ (byte ∷ take (prefix_len is_in_line text) text)
+    ∷ lines_of (after_first (drop (prefix_len is_in_line text) text))
 unfolding lines_of
 longer byte [] splits = refl
 longer byte (next ∷ text) splits = ap (λ (lines : List (List ℕ)). joined byte lines) (splits (λ e. cc))
 
 splits_at : (test : Bool) (byte : ℕ) (text : List ℕ) → (text ≢ [] → Splits text)
-    → cond test ([] ∷ lines_of text) (joined byte (lines_of text)) ≡ take (cond (not test) (1 + prefix_len is_in_line text) 0) (byte ∷ text) ∷ lines_of (after_first (drop (cond (not test) (1 + prefix_len is_in_line text) 0) (byte ∷ text)))
+    → cond test ([] ∷ lines_of text) (joined byte (lines_of text)) ≡ take (cond (not test) (1 + prefix_len is_in_line text) 0) (byte ∷ text)
+    ∷ lines_of (after_first (drop (cond (not test) (1 + prefix_len is_in_line text) 0) (byte ∷ text)))
 splits_at true byte text splits = refl
 splits_at false byte text splits =
     let e : 1 + prefix_len is_in_line text ≡ suc (prefix_len is_in_line text) = omega arith in

@@ -35,6 +35,7 @@ unfolding lines_of
 ended_back lines all =
     ap lines_of (sym (append-nil (text_of lines))) ∙ front_back lines [] all ∙ append-nil lines
 
-pub unended_back : (lines : List (List ℕ)) (last : List ℕ) → AllByRecursion IsLine lines → IsLine last → last ≢ [] → lines_of (text_of lines ++ last) ≡ lines ++ last ∷ []
+pub unended_back : (lines : List (List ℕ)) (last : List ℕ) → AllByRecursion IsLine lines → IsLine last → last ≢ [] → lines_of (text_of lines ++ last) ≡ lines
+    ++ last ∷ []
 unended_back lines last all is some =
     front_back lines last all ∙ ap (λ (ls : List (List ℕ)). lines ++ ls) (last_back last is some)

@@ -1,6 +1,7 @@
 -- Texts: bytes, numbers, lines and the first faulty line. A line feed ends a line; a final one opens none.
 -- This project's own.
-use Rattle.std.specs.Prelude.{◌≢◌, ℕ, Bool, not, ◌==◌, if◌then◌else◌, List, [], ◌∷◌, ◌++◌, take, drop, true, ◌||◌, ◌&&◌, nat_le, ◌≡◌, Result, Ok, Err, ◌+◌, length, ◌-◌, ◌*◌, fold}
+use Rattle.std.specs.Prelude.{◌≢◌, ℕ, Bool, not, ◌==◌, if◌then◌else◌, List, [], ◌∷◌, ◌++◌, take, drop, true, ◌||◌, ◌&&◌, nat_le, ◌≡◌, Result, Ok, Err, ◌+◌}
+use Rattle.std.specs.Prelude.{length, ◌-◌, ◌*◌, fold}
 use Rattle.std.specs.List.{AllByRecursion, flat_map, prefix_len}
 use Rattle.std.specs.Char.{is_ascii_alphabetic, is_ascii_digit}
 use Rattle.line_text.specs.declared.read_errors.ReadError.{ReadError}
@@ -141,7 +142,8 @@ pub record IsFirstFault {S F : Type 0} (takes : S → List ℕ → Result S F) (
 abbrev pub TakesInTurn : {S F : Type 0} → (S → List ℕ → Result S F) → Type 0
 TakesInTurn takes =
     (number : ℕ) (state : _) (lines others : List (List ℕ))
-    → taken_from takes number state (lines ++ others) ≡ (taken_from takes number state lines >>= λ reached. taken_from takes (number + length lines) reached others)
+    → taken_from takes number state (lines ++ others) ≡ (taken_from takes number state lines >>= λ reached. taken_from takes (number + length lines) reached
+    others)
 
 -- ---- The numbers that digits spell.
 

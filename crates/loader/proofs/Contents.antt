@@ -1,5 +1,6 @@
 -- The contents of an image, spelled and read again, behind which anything may stand.
-use Rattle.std.proofs.Common.{◌≡◌, ℕ, ◌+◌, ◌*◌, ◌%◌, ◌^◌, ◌<◌, ◌≤◌, true, false, List, [], ◌∷◌, ◌++◌, length, take, drop, Option, Some, None, refl, sym, ap, ◌∙◌, append_assoc, arith}
+use Rattle.std.proofs.Common.{◌≡◌, ℕ, ◌+◌, ◌*◌, ◌%◌, ◌^◌, ◌<◌, ◌≤◌, true, false, List, [], ◌∷◌, ◌++◌, length, take, drop, Option, Some, None, refl, sym, ap}
+use Rattle.std.proofs.Common.{◌∙◌, append_assoc, arith}
 use Rattle.std.specs.Prelude.{IfSome, IsTrue, nat_le, nat_lt, ◌&&◌, ◌==◌}
 use Rattle.std.specs.Int.{w32, to_le_bytes, from_le_bytes}
 use Rattle.std.proofs.lemmas.Bool.{and_parts, and_left, and_right, leb-true, ltb-true, ne_eqb, cond-false}
@@ -11,7 +12,8 @@ use Rattle.loader.specs.declared.formats.Format.{Format}
 use Rattle.loader.specs.declared.formats.Format.TheVariants.{Hrv1, Hrv2}
 use Rattle.loader.specs.declared.outputs.Output.{Output}
 use Rattle.loader.specs.Image.{ImageContents, IsImage, IsInWords, is_output_or_none, is_output, is_picture, end_of, most_pixels}
-use Rattle.loader.specs.Spelling.{header_length, stored, stored_field, spelled_numbers, output_fields, spelled_start, spelled_header, spelled, number_at, numbers_in, output_at, format_of, word_count, byte_count, stored_count, stored_in, contents_in}
+use Rattle.loader.specs.Spelling.{header_length, stored, stored_field, spelled_numbers, output_fields, spelled_start, spelled_header, spelled, number_at}
+use Rattle.loader.specs.Spelling.{numbers_in, output_at, format_of, word_count, byte_count, stored_count, stored_in, contents_in}
 use Rattle.loader.proofs.Numbers.{drop_twice, number_again, numbers_again, length-spelled_numbers}
 use Rattle.loader.proofs.Trims.{length-stored, stored_padded}
 
@@ -35,7 +37,8 @@ has_width bytes output e =
     let lies = and_parts (is_picture output && nat_le data_start output.address) (nat_le (end_of output) (data_start + bytes)) e in
     let picture = and_parts (is_picture output) (nat_le data_start output.address) lies.0 in
     let aligned = output.address % 4 == 0 && output.stride % 4 == 0 in
-    let strides = and_parts (aligned && nat_le 1 output.width && nat_le 1 output.height && nat_le (output.width * output.height) most_pixels) (nat_le (4 * output.width) output.stride) picture.0 in
+    let strides = and_parts (aligned && nat_le 1 output.width && nat_le 1 output.height && nat_le (output.width * output.height) most_pixels)
+    (nat_le (4 * output.width) output.stride) picture.0 in
     let pixels = and_parts (aligned && nat_le 1 output.width && nat_le 1 output.height) (nat_le (output.width * output.height) most_pixels) strides.0 in
     let height = and_parts (aligned && nat_le 1 output.width) (nat_le 1 output.height) pixels.0 in
     leb-true 1 output.width (and_parts aligned (nat_le 1 output.width) height.0).1
@@ -81,7 +84,8 @@ output_again bytes rest count (Some o) e lies fits =
     let wide = has_width count o lies in
     let no_width : (o.width == 0) ≡ false = ne_eqb o.width 0 (λ z. absurd (omega arith)) in
     let no_zeros : (o.address == 0 && o.width == 0 && o.height == 0 && o.stride == 0) ≡ false =
-    and_left (o.address == 0 && o.width == 0 && o.height == 0) (o.stride == 0) (and_left (o.address == 0 && o.width == 0) (o.height == 0) (and_right (o.address == 0) (o.width == 0) no_width)) in
+    and_left (o.address == 0 && o.width == 0 && o.height == 0) (o.stride == 0) (and_left (o.address == 0 && o.width == 0) (o.height == 0)
+    (and_right (o.address == 0) (o.width == 0) no_width)) in
     rw (
       number_behind bytes tail 16 0 16 e refl ∙ four.first,
       number_behind bytes tail 16 4 20 e refl ∙ four.second,
@@ -141,7 +145,16 @@ pub record ReadsHeader (format : Format) (image : ImageContents) (bytes rest : L
 with_field : (format : Format) (image : ImageContents) (bytes rest : List ℕ) → IsImage image
     → ReadsStart format image bytes (stored_field format (length (stored format image.bytes)) ++ rest) → ReadsHeader format image bytes rest
 with_field Hrv1 image bytes rest rules start =
-    record { begins = start.begins; entry = start.entry; words = start.words; data_bytes = start.data_bytes; output = start.output; stored_bytes = start.data_bytes; behind = start.behind }
+    record {
+      begins = start.begins;
+      entry = start.entry;
+      words = start.words;
+      data_bytes = start.data_bytes;
+      output = start.output;
+      stored_bytes =
+          start.data_bytes;
+      behind = start.behind;
+    }
 with_field Hrv2 image bytes rest rules start =
     let sized = sizes_of image rules in
     let count = length (stored Hrv2 image.bytes) in
@@ -156,7 +169,8 @@ with_field Hrv2 image bytes rest rules start =
       behind = sym (drop_twice 32 4 36 bytes refl) ∙ ap (λ (xs : List ℕ). drop 4 xs) start.behind;
     }
 
-pub header_again : (format : Format) (image : ImageContents) (rest : List ℕ) → IsImage image → ReadsHeader format image (spelled_header format image ++ rest) rest
+pub header_again : (format : Format) (image : ImageContents) (rest : List ℕ) → IsImage image
+    → ReadsHeader format image (spelled_header format image ++ rest) rest
 unfolding spelled_header
 header_again format image rest rules =
     let field = stored_field format (length (stored format image.bytes)) in
@@ -178,7 +192,8 @@ spelled_again format image rest rules =
     rw (regrouped format image rest) (header_again format image (spelled_numbers image.words ++ (stored format image.bytes ++ rest)) rules)
 
 -- what is stored is read from the front, whatever follows
-pub stored_again : (format : Format) (image : ImageContents) (rest : List ℕ) → IsImage image → stored_in format (spelled format image ++ rest) ≡ stored format image.bytes
+pub stored_again : (format : Format) (image : ImageContents) (rest : List ℕ) → IsImage image → stored_in format (spelled format image ++ rest)
+    ≡ stored format image.bytes
 stored_again format image rest rules =
     let read = spelled_again format image rest rules in
     let front = stored format image.bytes in

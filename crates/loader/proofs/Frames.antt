@@ -1,5 +1,6 @@
 -- The tests of a header and a length, one by one.
-use Rattle.std.proofs.Common.{◌≡◌, ℕ, ◌+◌, ◌-◌, ◌*◌, ◌≤◌, Bool, true, false, cond, List, length, take, drop, Option, Some, None, Result, Ok, Err, refl, sym, ap, ◌∙◌, arith}
+use Rattle.std.proofs.Common.{◌≡◌, ℕ, ◌+◌, ◌-◌, ◌*◌, ◌≤◌, Bool, true, false, cond, List, length, take, drop, Option, Some, None, Result, Ok, Err, refl, sym, ap}
+use Rattle.std.proofs.Common.{◌∙◌, arith}
 use Rattle.std.specs.Prelude.{nat_lt, nat_eq, not, ◌||◌}
 use Rattle.std.specs.List.{starts_with}
 use Rattle.std.specs.Cmp.Lexicographic.{bytes_decides}
@@ -12,7 +13,8 @@ use Rattle.loader.specs.declared.faults.LoadFault.{LoadFault}
 use Rattle.loader.specs.declared.faults.LoadFault.TheVariants.{Truncated, TrailingBytes, OverLimit, Entry, OutputRange}
 use Rattle.loader.specs.declared.outputs.Output.{Output}
 use Rattle.loader.specs.Image.{ImageContents, judged, is_within_limits, is_entry, is_output_or_none}
-use Rattle.loader.specs.Spelling.{magic, header_length, number_at, numbers_in, output_at, format_of, word_count, byte_count, stored_count, stored_place, stored_in, whole_length, padded, contents_in, stores_zero, unless_zero, judged_in, image_in, image_by, image_of}
+use Rattle.loader.specs.Spelling.{magic, header_length, number_at, numbers_in, output_at, format_of, word_count, byte_count, stored_count, stored_place}
+use Rattle.loader.specs.Spelling.{stored_in, whole_length, padded, contents_in, stores_zero, unless_zero, judged_in, image_in, image_by, image_of}
 
 -- a header and a length with no fault
 pub record IsFramed (format : Format) (bytes : List ℕ) : Type 0 where
@@ -46,7 +48,8 @@ image_of_framed format bytes framed =
     ) refl
 
 -- a test that did not fail
-passed : (b : Bool) (fault : LoadFault) (rest : Result ImageContents LoadFault) (image : ImageContents) → cond b (Err fault) rest ≡ Ok image → (b ≡ false) × (rest ≡ Ok image)
+passed : (b : Bool) (fault : LoadFault) (rest : Result ImageContents LoadFault) (image : ImageContents) → cond b (Err fault) rest ≡ Ok image
+    → (b ≡ false) × (rest ≡ Ok image)
 passed true fault rest image e = absurd cc
 passed false fault rest image e = (refl, e)
 
@@ -79,7 +82,8 @@ framed_in format bytes image begins e =
     let counts = passed counts_fail OverLimit _ image header.1 in
     let enough = passed (nat_lt (length bytes) (whole_length format bytes)) Truncated _ image counts.1 in
     let all = passed (nat_lt (whole_length format bytes) (length bytes)) TrailingBytes (judged_in format bytes) image enough.1 in
-    let three = or_parts (nat_lt most_words (word_count bytes) || nat_lt most_bytes (byte_count bytes)) (nat_lt (byte_count bytes) (stored_count format bytes)) counts.0 in
+    let three = or_parts (nat_lt most_words (word_count bytes) || nat_lt most_bytes (byte_count bytes)) (nat_lt (byte_count bytes) (stored_count format bytes))
+    counts.0 in
     let both = or_parts (nat_lt most_words (word_count bytes)) (nat_lt most_bytes (byte_count bytes)) three.0 in
     let at_least = ltb-false (length bytes) (whole_length format bytes) enough.0 in
     let at_most = ltb-false (whole_length format bytes) (length bytes) all.0 in
@@ -124,33 +128,45 @@ magic_is format bytes e = by_tests (starts_with nat_eq bytes (magic Hrv1)) (star
     by_tests false false is_first is_second format found = absurd cc
 
 -- what is stored at the end of the whole is all that stands there
-pub stored_at_end : (format : Format) (bytes : List ℕ) → length bytes ≡ whole_length format bytes → stored_in format bytes ≡ drop (stored_place format bytes) bytes
+pub stored_at_end : (format : Format) (bytes : List ℕ) → length bytes ≡ whole_length format bytes
+    → stored_in format bytes ≡ drop (stored_place format bytes) bytes
 stored_at_end format bytes whole =
     take_all (stored_count format bytes) (drop (stored_place format bytes) bytes) (omega (arith, length-drop (stored_place format bytes) bytes))
 
-pub length-stored_in : (format : Format) (bytes : List ℕ) → length bytes ≡ whole_length format bytes → length (stored_in format bytes) ≡ stored_count format bytes
+pub length-stored_in : (format : Format) (bytes : List ℕ) → length bytes ≡ whole_length format bytes
+    → length (stored_in format bytes) ≡ stored_count format bytes
 length-stored_in format bytes whole = ap length (stored_at_end format bytes whole) ∙ length-drop (stored_place format bytes) bytes ∙ omega (arith, whole)
 
 -- contents that are read part by part, each from a place to the end
 pub judged_parts : (format : Format) (bytes : List ℕ) (count header entry : ℕ) (words front data_bytes : List ℕ) (output : Option Output)
     → length bytes ≡ whole_length format bytes → count ≡ word_count bytes → header ≡ header_length format
     → entry ≡ number_at bytes 4 → words ≡ numbers_in count (take (length bytes - header) (drop header bytes))
-    → front ≡ take (length bytes - (header + 4 * count)) (drop (header + 4 * count) bytes) → data_bytes ≡ padded (byte_count bytes) front → output ≡ output_at bytes
-    → (front ≡ stored_in format bytes) × (judged (contents_in format bytes) ≡ judged (record { entry = entry; words = words; bytes = data_bytes; output = output }))
+    → front ≡ take (length bytes - (header + 4 * count)) (drop (header + 4 * count) bytes) → data_bytes ≡ padded (byte_count bytes) front
+    → output ≡ output_at bytes
+    → (front ≡ stored_in format bytes) × (judged (contents_in format bytes) ≡ judged (record {
+      entry = entry;
+      words = words;
+      bytes = data_bytes;
+      output =
+          output;
+    }))
 judged_parts format bytes count header entry words front data_bytes output whole counted headed e w f d o =
     let make : ℕ → List ℕ → List ℕ → Option Output → ImageContents = λ e w d o. record { entry = e; words = w; bytes = d; output = o } in
     let w' : words ≡ numbers_in (word_count bytes) (drop (header_length format) bytes) = w ∙ rw (take_rest bytes header, counted, headed) refl in
     let f' : front ≡ stored_in format bytes = f ∙ rw (take_rest bytes (header + 4 * count), counted, headed) (sym (stored_at_end format bytes whole)) in
     let d' : data_bytes ≡ padded (byte_count bytes) (stored_in format bytes) = d ∙ ap (padded (byte_count bytes)) f' in
-    let same : make (number_at bytes 4) (numbers_in (word_count bytes) (drop (header_length format) bytes)) (padded (byte_count bytes) (stored_in format bytes)) (output_at bytes) ≡ make entry words data_bytes output =
+    let same : make (number_at bytes 4) (numbers_in (word_count bytes) (drop (header_length format) bytes)) (padded (byte_count bytes) (stored_in format bytes))
+    (output_at bytes) ≡ make entry words data_bytes output =
     rw (e, w', d', o) refl in
     (f', ap judged same)
 
 -- an answer to these contents, unless a zero was stored
-pub judged_answer : (format : Format) (bytes : List ℕ) (count header entry : ℕ) (words front data_bytes : List ℕ) (output : Option Output) (has_zero : Bool) (answer : Result ImageContents LoadFault)
+pub judged_answer : (format : Format) (bytes : List ℕ) (count header entry : ℕ) (words front data_bytes : List ℕ) (output : Option Output) (has_zero : Bool)
+    (answer : Result ImageContents LoadFault)
     → image_of bytes ≡ judged_in format bytes → length bytes ≡ whole_length format bytes → count ≡ word_count bytes → header ≡ header_length format
     → entry ≡ number_at bytes 4 → words ≡ numbers_in count (take (length bytes - header) (drop header bytes))
-    → front ≡ take (length bytes - (header + 4 * count)) (drop (header + 4 * count) bytes) → data_bytes ≡ padded (byte_count bytes) front → output ≡ output_at bytes
+    → front ≡ take (length bytes - (header + 4 * count)) (drop (header + 4 * count) bytes) → data_bytes ≡ padded (byte_count bytes) front
+    → output ≡ output_at bytes
     → answer ≡ judged (record { entry = entry; words = words; bytes = data_bytes; output = output }) → has_zero ≡ stores_zero format front
     → image_of bytes ≡ unless_zero has_zero answer
 judged_answer format bytes count header entry words front data_bytes output has_zero answer read whole counted headed e w f d o judged_so zero_so =

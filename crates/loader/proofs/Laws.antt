@@ -1,6 +1,7 @@
 -- What a call answers, and the laws of the format: what is read is spelled so, what is spelled so is read, and
 -- no two images share a spelling.
-use Rattle.std.proofs.Common.{◌≡◌, ℕ, ◌*◌, ◌≤◌, cond, Bool, false, List, [], ◌∷◌, ◌++◌, length, take, drop, Some, None, Result, Ok, Err, refl, sym, ap, subst, ◌∙◌, append_assoc, arith, inl, inr}
+use Rattle.std.proofs.Common.{◌≡◌, ℕ, ◌*◌, ◌≤◌, cond, Bool, false, List, [], ◌∷◌, ◌++◌, length, take, drop, Some, None, Result, Ok, Err, refl, sym, ap, subst}
+use Rattle.std.proofs.Common.{◌∙◌, append_assoc, arith, inl, inr}
 use Rattle.std.specs.Prelude.{IfOk, IsErrAnd, ◌==◌, ◌&&◌}
 use Rattle.std.specs.Int.{w32, to_le_bytes}
 use Rattle.std.proofs.lemmas.Bool.{cases_Bool, and_parts, eqb-true, cond-true, cond-false}
@@ -8,9 +9,12 @@ use Rattle.std.proofs.lemmas.List.{append-nil, append_cancel_left, take-append-d
 use Rattle.loader.specs.declared.formats.Format.{Format}
 use Rattle.loader.specs.declared.formats.Format.TheVariants.{Hrv1, Hrv2}
 use Rattle.loader.specs.declared.faults.LoadFault.{LoadFault}
-use Rattle.loader.specs.declared.faults.LoadFault.TheVariants.{Magic, Truncated, TrailingBytes, OverLimit, Entry, OutputRange, HartCount, StoredZero, OutOfMemory}
+use Rattle.loader.specs.declared.faults.LoadFault.TheVariants.{Magic, Truncated, TrailingBytes, OverLimit, Entry, OutputRange, HartCount, StoredZero}
+use Rattle.loader.specs.declared.faults.LoadFault.TheVariants.{OutOfMemory}
 use Rattle.loader.specs.Image.{ImageContents, IsImage, judged}
-use Rattle.loader.specs.Spelling.{magic, header_length, stored, stored_field, spelled_numbers, output_fields, spelled_start, spelled_header, spelled, Spells, number_at, numbers_in, output_at, format_of, word_count, byte_count, stored_count, stored_place, stored_in, padded, contents_in, stores_zero, unless_zero, image_of, Refuses, Answers}
+use Rattle.loader.specs.Spelling.{magic, header_length, stored, stored_field, spelled_numbers, output_fields, spelled_start, spelled_header, spelled, Spells}
+use Rattle.loader.specs.Spelling.{number_at, numbers_in, output_at, format_of, word_count, byte_count, stored_count, stored_place, stored_in, padded}
+use Rattle.loader.specs.Spelling.{contents_in, stores_zero, unless_zero, image_of, Refuses, Answers}
 use Rattle.loader.proofs.Numbers.{IsBytes, IsBytes-drop, drop_twice, number_cut, numbers_cut, length-numbers_in}
 use Rattle.loader.proofs.Trims.{length-stored, length-padded, padded_stored, stored_ends}
 use Rattle.loader.proofs.Frames.{IsFramed, image_of_framed, framed_since, least_header, magic_is, stored_at_end, length-stored_in}
@@ -35,7 +39,8 @@ answers_from (Ok image) wanted e = e
 answers_from (Err fault) wanted e = refuses_from fault wanted e
 
 -- an error that is passed on
-pub answers_err : (answer : Result ImageContents LoadFault) (fault : LoadFault) (wanted : Result ImageContents LoadFault) → IsErrAnd answer (λ f. f ≡ fault) → wanted ≡ Err fault
+pub answers_err : (answer : Result ImageContents LoadFault) (fault : LoadFault) (wanted : Result ImageContents LoadFault) → IsErrAnd answer (λ f. f ≡ fault)
+    → wanted ≡ Err fault
     → Answers answer wanted
 answers_err (Ok image) fault wanted is e = absurd is
 answers_err (Err f) fault wanted is e = refuses_from f wanted (e ∙ ap Err (sym is))
@@ -44,7 +49,8 @@ answers_err (Err f) fault wanted is e = refuses_from f wanted (e ∙ ap Err (sym
 
 fields_are : (bytes : List ℕ) → output_fields (output_at bytes) ≡ number_at bytes 16 ∷ number_at bytes 20 ∷ number_at bytes 24 ∷ number_at bytes 28 ∷ []
 fields_are bytes = by_test (number_at bytes 16) (number_at bytes 20) (number_at bytes 24) (number_at bytes 28) where
-  by_test : (a w h s : ℕ) → output_fields (cond (a == 0 && w == 0 && h == 0 && s == 0) None (Some (record { address = a; width = w; height = h; stride = s }))) ≡ a ∷ w ∷ h ∷ s ∷ []
+  by_test : (a w h s : ℕ) → output_fields (cond (a == 0 && w == 0 && h == 0 && s == 0) None (Some (record { address = a; width = w; height = h; stride = s })))
+      ≡ a ∷ w ∷ h ∷ s ∷ []
   by_test a w h s =
       let test = a == 0 && w == 0 && h == 0 && s == 0 in
       elim (cases_Bool test) [
@@ -61,13 +67,15 @@ fields_are bytes = by_test (number_at bytes 16) (number_at bytes 20) (number_at 
         | inr not_all ↦ ap output_fields (cond-false test None (Some (record { address = a; width = w; height = h; stride = s })) not_all)
       ]
 
-assembled : (m e t d a w h s rest : List ℕ) → m ++ (e ++ (t ++ (d ++ (a ++ (w ++ (h ++ (s ++ rest))))))) ≡ (m ++ e ++ t ++ d ++ (a ++ (w ++ (h ++ (s ++ []))))) ++ rest
+assembled : (m e t d a w h s rest : List ℕ) → m ++ (e ++ (t ++ (d ++ (a ++ (w ++ (h ++ (s ++ rest))))))) ≡ (m ++ e ++ t ++ d ++ (a ++ (w ++ (h ++ (s ++ [])))))
+    ++ rest
 assembled m e t d a w h s rest = simp append_assoc
 
 -- the part of the header that both formats have, with the counts that it names
 start_of : Format → List ℕ → ℕ → ℕ → List ℕ
 start_of format bytes words data_bytes =
-    magic format ++ to_le_bytes w32 (number_at bytes 4) ++ to_le_bytes w32 words ++ to_le_bytes w32 data_bytes ++ spelled_numbers (output_fields (output_at bytes))
+    magic format ++ to_le_bytes w32 (number_at bytes 4) ++ to_le_bytes w32 words ++ to_le_bytes w32 data_bytes
+    ++ spelled_numbers (output_fields (output_at bytes))
 
 start_cut : (format : Format) (bytes : List ℕ) → IsBytes bytes → 32 ≤ length bytes → take 4 bytes ≡ magic format
     → bytes ≡ start_of format bytes (word_count bytes) (byte_count bytes) ++ drop 32 bytes
@@ -75,8 +83,10 @@ unfolding start_of
 start_cut format bytes fits long begins =
     let at : ℕ → List ℕ = λ place. to_le_bytes w32 (number_at bytes place) in
     let from28 : drop 28 bytes ≡ at 28 ++ drop 32 bytes = number_cut bytes 28 32 fits refl long in
-    let from24 : drop 24 bytes ≡ at 24 ++ (at 28 ++ drop 32 bytes) = number_cut bytes 24 28 fits refl (omega arith) ∙ ap (λ (xs : List ℕ). at 24 ++ xs) from28 in
-    let from20 : drop 20 bytes ≡ at 20 ++ (at 24 ++ (at 28 ++ drop 32 bytes)) = number_cut bytes 20 24 fits refl (omega arith) ∙ ap (λ (xs : List ℕ). at 20 ++ xs) from24 in
+    let from24 : drop 24 bytes ≡ at 24 ++ (at 28 ++ drop 32 bytes) = number_cut bytes 24 28 fits refl (omega arith)
+    ∙ ap (λ (xs : List ℕ). at 24 ++ xs) from28 in
+    let from20 : drop 20 bytes ≡ at 20 ++ (at 24 ++ (at 28 ++ drop 32 bytes)) = number_cut bytes 20 24 fits refl (omega arith)
+    ∙ ap (λ (xs : List ℕ). at 20 ++ xs) from24 in
     let from16 = number_cut bytes 16 20 fits refl (omega arith) ∙ ap (λ (xs : List ℕ). at 16 ++ xs) from20 in
     let from12 = number_cut bytes 12 16 fits refl (omega arith) ∙ ap (λ (xs : List ℕ). at 12 ++ xs) from16 in
     let from8 = number_cut bytes 8 12 fits refl (omega arith) ∙ ap (λ (xs : List ℕ). at 8 ++ xs) from12 in
@@ -134,7 +144,8 @@ spelled_contents format bytes fits framed ends =
     ∙ ap (λ (n : ℕ). header_of format bytes n (byte_count bytes) (stored_count format bytes) ++ spelled_numbers words ++ front) (sym word_len)
     ∙ ap (λ (n : ℕ). header_of format bytes (length words) n (stored_count format bytes) ++ spelled_numbers words ++ front) (sym byte_len)
     ∙ ap (λ (n : ℕ). header_of format bytes (length words) (length (padded (byte_count bytes) front)) n ++ spelled_numbers words ++ front) (sym front_len)
-    ∙ ap (λ (xs : List ℕ). header_of format bytes (length words) (length (padded (byte_count bytes) front)) (length xs) ++ spelled_numbers words ++ xs) (sym kept)
+    ∙ ap (λ (xs : List ℕ). header_of format bytes (length words) (length (padded (byte_count bytes) front)) (length xs) ++ spelled_numbers words ++ xs)
+    (sym kept)
 
 pub spelled_from_image_of : (bytes : List ℕ) (image : ImageContents) → IsBytes bytes → image_of bytes ≡ Ok image → Spells bytes image
 spelled_from_image_of bytes image fits e =
@@ -183,6 +194,7 @@ pub IfOk-found : (bytes : List ℕ) (answer : Result ImageContents LoadFault) �
 IfOk-found bytes (Ok image) fits e = spelled_from_image_of bytes image fits e
 IfOk-found bytes (Err fault) fits e = tt
 
-pub answers_again : (bytes : List ℕ) (answer : Result ImageContents LoadFault) (image : ImageContents) → Answers answer (image_of bytes) → IsImage image → Spells bytes image → Answers answer (Ok image)
+pub answers_again : (bytes : List ℕ) (answer : Result ImageContents LoadFault) (image : ImageContents) → Answers answer (image_of bytes) → IsImage image
+    → Spells bytes image → Answers answer (Ok image)
 answers_again bytes answer image e rules spells =
     subst (λ (wanted : Result ImageContents LoadFault). Answers answer wanted) (ap image_of spells.bytes_are ∙ image_of-spelled spells.format image rules) e

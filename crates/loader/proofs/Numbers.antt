@@ -1,5 +1,6 @@
 -- Numbers that are read one after the other, and their bytes.
-use Rattle.std.proofs.Common.{◌≡◌, ℕ, zero, suc, ◌+◌, ◌*◌, ◌^◌, ◌<◌, ◌≤◌, List, [], ◌∷◌, ◌++◌, length, get_or, take, drop, refl, sym, ap, ◌∙◌, append_assoc, arith, inl, inr}
+use Rattle.std.proofs.Common.{◌≡◌, ℕ, zero, suc, ◌+◌, ◌*◌, ◌^◌, ◌<◌, ◌≤◌, List, [], ◌∷◌, ◌++◌, length, get_or, take, drop, refl, sym, ap, ◌∙◌, append_assoc}
+use Rattle.std.proofs.Common.{arith, inl, inr}
 use Rattle.std.specs.List.{AllByRecursion}
 use Rattle.std.specs.Int.{w32, to_le_bytes, from_le_bytes}
 use Rattle.std.proofs.lemmas.Bool.{cases_lt}
@@ -46,23 +47,28 @@ length-numbers_in zero bytes = refl
 length-numbers_in (suc count) bytes = ap suc (length-numbers_in count (drop 4 bytes))
 
 -- a number that is read is spelled by the bytes at its place
-pub number_cut : (bytes : List ℕ) (place next : ℕ) → IsBytes bytes → place + 4 ≡ next → next ≤ length bytes → drop place bytes ≡ to_le_bytes w32 (number_at bytes place) ++ drop next bytes
+pub number_cut : (bytes : List ℕ) (place next : ℕ) → IsBytes bytes → place + 4 ≡ next → next ≤ length bytes
+    → drop place bytes ≡ to_le_bytes w32 (number_at bytes place) ++ drop next bytes
 unfolding number_at
 number_cut bytes place next fits e le =
     let front = take 4 (drop place bytes) in
     let len : length front ≡ 4 = omega (arith, length-take 4 (drop place bytes), length-drop place bytes) in
-    let is_spelled : to_le_bytes w32 (number_at bytes place) ≡ front = le_bytes_4 front (number_at bytes place) len (IsBytes-take 4 (drop place bytes) (IsBytes-drop place bytes fits)) refl in
-    sym (take-append-drop 4 (drop place bytes)) ∙ ap (λ (xs : List ℕ). xs ++ drop 4 (drop place bytes)) (sym is_spelled) ∙ ap (λ (xs : List ℕ). to_le_bytes w32 (number_at bytes place) ++ xs) (drop_twice place 4 next bytes e)
+    let is_spelled : to_le_bytes w32 (number_at bytes place) ≡ front = le_bytes_4 front (number_at bytes place) len (IsBytes-take 4 (drop place bytes)
+    (IsBytes-drop place bytes fits)) refl in
+    sym (take-append-drop 4 (drop place bytes)) ∙ ap (λ (xs : List ℕ). xs ++ drop 4 (drop place bytes)) (sym is_spelled)
+    ∙ ap (λ (xs : List ℕ). to_le_bytes w32 (number_at bytes place) ++ xs) (drop_twice place 4 next bytes e)
 
 -- and so are numbers
-pub numbers_cut : (count : ℕ) (bytes : List ℕ) → IsBytes bytes → 4 * count ≤ length bytes → bytes ≡ spelled_numbers (numbers_in count bytes) ++ drop (4 * count) bytes
+pub numbers_cut : (count : ℕ) (bytes : List ℕ) → IsBytes bytes → 4 * count ≤ length bytes → bytes ≡ spelled_numbers (numbers_in count bytes)
+    ++ drop (4 * count) bytes
 numbers_cut zero bytes fits le = refl
 numbers_cut (suc count) bytes fits le =
     let first : bytes ≡ to_le_bytes w32 (number_at bytes 0) ++ drop 4 bytes = number_cut bytes 0 4 fits refl (omega arith) in
     let others = numbers_cut count (drop 4 bytes) (IsBytes-drop 4 bytes fits) (omega (arith, length-drop 4 bytes)) in
     let rest : drop (4 * count) (drop 4 bytes) ≡ drop (4 * suc count) bytes = drop_twice 4 (4 * count) (4 * suc count) bytes (omega arith) in
     first
-    ∙ ap (λ (xs : List ℕ). to_le_bytes w32 (number_at bytes 0) ++ xs) (others ∙ ap (λ (xs : List ℕ). spelled_numbers (numbers_in count (drop 4 bytes)) ++ xs) rest)
+    ∙ ap (λ (xs : List ℕ). to_le_bytes w32 (number_at bytes 0) ++ xs) (others ∙ ap (λ (xs : List ℕ). spelled_numbers (numbers_in count (drop 4 bytes)) ++ xs)
+    rest)
     ∙ sym (append_assoc (to_le_bytes w32 (number_at bytes 0)) (spelled_numbers (numbers_in count (drop 4 bytes))) (drop (4 * suc count) bytes))
 
 -- ---- what is spelled is read again

@@ -1,5 +1,6 @@
 -- Bytes without the zeros at their end, and with them again.
-use Rattle.std.proofs.Common.{◌≡◌, ℕ, zero, suc, ◌+◌, ◌-◌, ◌<◌, ◌≤◌, Bool, true, false, cond, List, [], ◌∷◌, ◌++◌, length, take, get_or, refl, sym, ap, ◌∙◌, arith, inl, inr}
+use Rattle.std.proofs.Common.{◌≡◌, ℕ, zero, suc, ◌+◌, ◌-◌, ◌<◌, ◌≤◌, Bool, true, false, cond, List, [], ◌∷◌, ◌++◌, length, take, get_or, refl, sym, ap, ◌∙◌}
+use Rattle.std.proofs.Common.{arith, inl, inr}
 use Rattle.std.specs.Prelude.{◌==◌, replicate, slice_get}
 use Rattle.std.proofs.lemmas.Bool.{cases_Bool, ne_eqb, eqb-true, cond-true, cond-false}
 use Rattle.std.proofs.lemmas.List.{append-nil, take_more, length-append, length-replicate}
@@ -131,18 +132,21 @@ zero_passed bytes count lt is_zero =
     ap trimmed (take_more bytes count 0 lt) ∙ ap (λ (byte : ℕ). trimmed (take count bytes ++ byte ∷ [])) is_zero ∙ trimmed_more (take count bytes)
 
 -- the same, counted from behind the zero
-pub zero_before : (bytes : List ℕ) (count : ℕ) → 0 < count → count ≤ length bytes → get_or bytes (count - 1) 0 ≡ 0 → trimmed (take (count - 1) bytes) ≡ trimmed (take count bytes)
+pub zero_before : (bytes : List ℕ) (count : ℕ) → 0 < count → count ≤ length bytes → get_or bytes (count - 1) 0 ≡ 0
+    → trimmed (take (count - 1) bytes) ≡ trimmed (take count bytes)
 zero_before bytes count some within is =
     let next : count - 1 + 1 ≡ count = omega arith in
     sym (zero_passed bytes (count - 1) (omega arith) is) ∙ ap (λ (n : ℕ). trimmed (take n bytes)) next
 
 -- another byte is the last one that is kept
-pub other_kept : (bytes : List ℕ) (count : ℕ) → count < length bytes → (get_or bytes count 0 ≡ 0 → ⊥) → trimmed (take (count + 1) bytes) ≡ take (count + 1) bytes
+pub other_kept : (bytes : List ℕ) (count : ℕ) → count < length bytes → (get_or bytes count 0 ≡ 0 → ⊥)
+    → trimmed (take (count + 1) bytes) ≡ take (count + 1) bytes
 other_kept bytes count lt other =
     let next = take_more bytes count 0 lt in
     ap trimmed next ∙ kept_whole (take count bytes) (get_or bytes count 0) other ∙ sym next
 
-pub other_before : (bytes : List ℕ) (count : ℕ) → 0 < count → count ≤ length bytes → (get_or bytes (count - 1) 0 ≡ 0 → ⊥) → trimmed (take count bytes) ≡ take count bytes
+pub other_before : (bytes : List ℕ) (count : ℕ) → 0 < count → count ≤ length bytes → (get_or bytes (count - 1) 0 ≡ 0 → ⊥)
+    → trimmed (take count bytes) ≡ take count bytes
 other_before bytes count some within other =
     let next : count - 1 + 1 ≡ count = omega arith in
     rw next at (other_kept bytes (count - 1) (omega arith) other)

@@ -1,7 +1,8 @@
 -- The numbers of the faults, which are this project's own.
 use Rattle.std.specs.Prelude.{ℕ, Option, Some, None}
 use Rattle.loader.specs.declared.faults.LoadFault.{LoadFault}
-use Rattle.loader.specs.declared.faults.LoadFault.TheVariants.{Magic, Truncated, TrailingBytes, OverLimit, Entry, OutputRange, HartCount, StoredZero, OutOfMemory}
+use Rattle.loader.specs.declared.faults.LoadFault.TheVariants.{Magic, Truncated, TrailingBytes, OverLimit, Entry, OutputRange, HartCount, StoredZero}
+use Rattle.loader.specs.declared.faults.LoadFault.TheVariants.{OutOfMemory}
 
 abbrev pub number_of : LoadFault → Option ℕ
 number_of Magic = Some 1

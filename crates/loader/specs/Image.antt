@@ -1,6 +1,7 @@
 -- What an image holds, and the rules that it keeps: where a machine starts, its text and data, and which
 -- part of the data, if any, is a picture. The rules are this project's own.
-use Rattle.std.specs.Prelude.{ℕ, ◌+◌, ◌-◌, ◌*◌, ◌%◌, ◌^◌, ◌<◌, ◌==◌, ◌&&◌, Bool, true, not, nat_le, if◌then◌else◌, IsTrue, List, length, Option, Some, None, IfSome, Result, Ok, Err}
+use Rattle.std.specs.Prelude.{ℕ, ◌+◌, ◌-◌, ◌*◌, ◌%◌, ◌^◌, ◌<◌, ◌==◌, ◌&&◌, Bool, true, not, nat_le, if◌then◌else◌, IsTrue, List, length, Option, Some, None}
+use Rattle.std.specs.Prelude.{IfSome, Result, Ok, Err}
 use Rattle.std.specs.List.{All}
 use Rattle.memory.specs.Access.{is_text_word, data_start, most_words, most_bytes}
 use Rattle.loader.specs.declared.outputs.Output.{Output}

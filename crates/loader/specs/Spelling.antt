@@ -8,7 +8,8 @@
 --   bytes 32 to 35  of HRV2 alone: how many data bytes are stored
 --   then            the words, then the data bytes that are stored
 -- HRV1 stores all data bytes, and HRV2 all but the zeros at their end.
-use Rattle.std.specs.Prelude.{◌≡◌, ℕ, zero, suc, ◌+◌, ◌-◌, ◌*◌, ◌==◌, ◌&&◌, ◌||◌, Bool, true, false, nat_eq, nat_lt, if◌then◌else◌, List, [], ◌∷◌, ◌++◌, length, take, drop, replicate, slice_get, codes, Option, Some, None, Result, Ok, Err}
+use Rattle.std.specs.Prelude.{◌≡◌, ℕ, zero, suc, ◌+◌, ◌-◌, ◌*◌, ◌==◌, ◌&&◌, ◌||◌, Bool, true, false, nat_eq, nat_lt, if◌then◌else◌, List, [], ◌∷◌, ◌++◌, length}
+use Rattle.std.specs.Prelude.{take, drop, replicate, slice_get, codes, Option, Some, None, Result, Ok, Err}
 use Rattle.std.specs.List.{flat_map, starts_with}
 use Rattle.std.specs.Int.{w32, to_le_bytes, from_le_bytes}
 use Rattle.memory.specs.Access.{most_words, most_bytes}

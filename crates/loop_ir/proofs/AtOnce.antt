@@ -1,5 +1,6 @@
 -- Rounds of which none loads what an earlier one stores leave at once what they leave in turn.
-use Rattle.std.proofs.Common.{◌≡◌, ℕ, zero, suc, ◌<◌, Bool, true, false, cond, ap, sym, subst, ◌∙◌, refl, List, [], ◌∷◌, ◌++◌, Option, Some, None, arith, true≢false}
+use Rattle.std.proofs.Common.{◌≡◌, ℕ, zero, suc, ◌<◌, Bool, true, false, cond, ap, sym, subst, ◌∙◌, refl, List, [], ◌∷◌, ◌++◌, Option, Some, None, arith}
+use Rattle.std.proofs.Common.{true≢false}
 use Rattle.std.specs.Prelude.{◌&&◌, ◌==◌, not, nat_lt}
 use Rattle.std.specs.List.{list_all, AllByRecursion}
 use Rattle.std.proofs.lemmas.Bool.{and_parts, ltb-true, ltb-false}
@@ -61,7 +62,8 @@ module _ (reads : Reads) where
       ap (λ statement. of statement values) (sym (rolls-Sequence first second))
       ∙ ap (λ (own : Values → Option Effect). own values) (fold-roll-Stmt (Values → Option Effect) (effect_at reads) (layer.Sequence first second))
 
-  pub effect_for : (counter : Counter) (count : ℕ) (kind : LoopKind) (body : Stmt) (values : Values) → effect reads (s.For counter count kind body) values ≡ None
+  pub effect_for : (counter : Counter) (count : ℕ) (kind : LoopKind) (body : Stmt) (values : Values) → effect reads (s.For counter count kind body) values
+      ≡ None
   unfolding effect
   effect_for counter count kind body values =
       ap (λ statement. of statement values) (sym (rolls-For counter count kind body))
@@ -80,7 +82,8 @@ module _ (reads : Reads) where
 module _ (points : Points) (inputs : Planes) (reads : Reads) where
   abbrev Does : Stmt → Type 0
   Does statement = (rounds reads statement).is_one_store ≡ true
-      → (values : Values) (funcs : Planes) → run points inputs statement values funcs ≡ put_effect points (effect (reads_of inputs funcs) statement values) funcs
+      → (values : Values) (funcs : Planes) → run points inputs statement values funcs ≡ put_effect points (effect (reads_of inputs funcs) statement values)
+      funcs
 
   store_does : (store : Store) → Does (s.Store store)
   store_does store is values funcs =
@@ -94,7 +97,8 @@ module _ (points : Points) (inputs : Planes) (reads : Reads) where
     where
       by_test : (test : Bool) → cond test (run points inputs body (with counter (whole_value whole values) values) funcs) funcs
           ≡ put_effect points (cond test (effect (reads_of inputs funcs) body (with counter (whole_value whole values) values)) None) funcs
-      by_test true = does (sym (ap (λ (own : Rounds). own.is_one_store) (rounds_bind reads counter whole extent body)) ∙ is) (with counter (whole_value whole values) values) funcs
+      by_test true = does (sym (ap (λ (own : Rounds). own.is_one_store) (rounds_bind reads counter whole extent body))
+          ∙ is) (with counter (whole_value whole values) values) funcs
       by_test false = refl
 
   does_by_layer : (X : Type 0) (part : X → Stmt) → ((x : X) → Does (part x)) → (y : Stmt-F X) → Does (roll-Stmt (map-Stmt X Stmt part y))
@@ -103,7 +107,8 @@ module _ (points : Points) (inputs : Planes) (reads : Reads) where
       (λ is. absurd (true≢false (sym is ∙ ap (λ (own : Rounds). own.is_one_store) (rounds_sequence reads (part a) (part b)))))
   does_by_layer X part holds (layer.For counter count kind a) = subst Does (sym (rolls-For counter count kind (part a)))
       (λ is. absurd (true≢false (sym is ∙ ap (λ (own : Rounds). own.is_one_store) (rounds_for reads counter count kind (part a)))))
-  does_by_layer X part holds (layer.Bind counter whole extent a) = subst Does (sym (rolls-Bind counter whole extent (part a))) (bind_does counter whole extent (part a) (holds a))
+  does_by_layer X part holds (layer.Bind counter whole extent a) = subst Does (sym (rolls-Bind counter whole extent (part a))) (bind_does counter whole extent
+      (part a) (holds a))
 
   pub one_does : (statement : Stmt) → Does statement
   one_does = ind-Stmt Does (λ x y is. subst (λ (l : Stmt-F Stmt). Does (roll-Stmt l)) is (does_by_layer _ (λ e. e.0) (λ e. e.1) y))
@@ -124,7 +129,8 @@ pass_all n tests P gives (point ∷ points) pass = (
 
 module _ (reads other : Reads) (n : ℕ) (tests : ℕ → Point → Bool) (agree : (point : Point) → Pass n tests point → AgreeAt reads other point) where
   abbrev Same : Stmt → Type 0
-  Same statement = (values : Values) → ((k : ℕ) → k < n → is_sound reads everywhere (tests k) statement values ≡ true) → effect other statement values ≡ effect reads statement values
+  Same statement = (values : Values) → ((k : ℕ) → k < n → is_sound reads everywhere (tests k) statement values ≡ true)
+      → effect other statement values ≡ effect reads statement values
 
   store_same : (store : Store) → Same (s.Store store)
   store_same store values sound =
@@ -134,31 +140,40 @@ module _ (reads other : Reads) (n : ℕ) (tests : ℕ → Point → Bool) (agree
       let seen_y = loads reads values store.y in
       let seen_value = loads reads values store.value in
       let all = pass_all n tests (AgreeAt reads other) agree (store_loads reads values store)
-      (λ k below. (and_parts true (list_all (tests k) (store_loads reads values store)) (sym (sound_store reads everywhere (tests k) store values) ∙ sound k below)).1) in
+      (λ k below. (and_parts true (list_all (tests k) (store_loads reads values store)) (sym (sound_store reads everywhere (tests k) store values)
+      ∙ sound k below)).1) in
       let one = all_parts (AgreeAt reads other) seen (seen_y ++ seen_value) all in
       let two = all_parts (AgreeAt reads other) seen_y seen_value one.1 in
       effect_store other store values
-      ∙ ap (λ (a : ℕ). Some (record { func = store.func; x = a; y = value other values store.y; pixel = value other values store.value })) (values_depend_on_loads reads other values store.x one.0)
-      ∙ ap (λ (a : ℕ). Some (record { func = store.func; x = x; y = a; pixel = value other values store.value })) (values_depend_on_loads reads other values store.y two.0)
+      ∙ ap (λ (a : ℕ). Some (record { func = store.func; x = a; y = value other values store.y; pixel = value other values store.value }))
+      (values_depend_on_loads reads other values store.x one.0)
+      ∙ ap (λ (a : ℕ). Some (record { func = store.func; x = x; y = a; pixel = value other values store.value })) (values_depend_on_loads reads other values
+      store.y two.0)
       ∙ ap (λ (a : ℕ). Some (record { func = store.func; x = x; y = y; pixel = a })) (values_depend_on_loads reads other values store.value two.1)
       ∙ sym (effect_store reads store values)
 
   bind_same : (counter : Counter) (whole : Whole) (extent : ℕ) (body : Stmt) → Same body → Same (s.Bind counter whole extent body)
   bind_same counter whole extent body same values sound =
       effect_bind other counter whole extent body values
-      ∙ by_test (nat_lt (whole_value whole values) extent) (λ k below. sym (sound_bind reads everywhere (tests k) counter whole extent body values) ∙ sound k below)
+      ∙ by_test (nat_lt (whole_value whole values) extent) (λ k below. sym (sound_bind reads everywhere (tests k) counter whole extent body values)
+      ∙ sound k below)
       ∙ sym (effect_bind reads counter whole extent body values)
     where
-      by_test : (test : Bool) → ((k : ℕ) → k < n → cond test (is_sound reads everywhere (tests k) body (with counter (whole_value whole values) values)) true ≡ true)
-          → cond test (effect other body (with counter (whole_value whole values) values)) None ≡ cond test (effect reads body (with counter (whole_value whole values) values)) None
+      by_test : (test : Bool) → ((k : ℕ) → k < n → cond test (is_sound reads everywhere (tests k) body (with counter (whole_value whole values) values)) true
+          ≡ true)
+          → cond test (effect other body (with counter (whole_value whole values) values)) None
+          ≡ cond test (effect reads body (with counter (whole_value whole values) values)) None
       by_test true is = same (with counter (whole_value whole values) values) is
       by_test false is = refl
 
   same_by_layer : (X : Type 0) (part : X → Stmt) → ((x : X) → Same (part x)) → (y : Stmt-F X) → Same (roll-Stmt (map-Stmt X Stmt part y))
   same_by_layer X part holds (layer.Store store) = subst Same (sym (rolls-Store store)) (store_same store)
-  same_by_layer X part holds (layer.Sequence a b) = subst Same (sym (rolls-Sequence (part a) (part b))) (λ values sound. effect_sequence other (part a) (part b) values ∙ sym (effect_sequence reads (part a) (part b) values))
-  same_by_layer X part holds (layer.For counter count kind a) = subst Same (sym (rolls-For counter count kind (part a))) (λ values sound. effect_for other counter count kind (part a) values ∙ sym (effect_for reads counter count kind (part a) values))
-  same_by_layer X part holds (layer.Bind counter whole extent a) = subst Same (sym (rolls-Bind counter whole extent (part a))) (bind_same counter whole extent (part a) (holds a))
+  same_by_layer X part holds (layer.Sequence a b) = subst Same (sym (rolls-Sequence (part a) (part b))) (λ values sound. effect_sequence other (part a) (part b)
+      values ∙ sym (effect_sequence reads (part a) (part b) values))
+  same_by_layer X part holds (layer.For counter count kind a) = subst Same (sym (rolls-For counter count kind (part a))) (λ values sound. effect_for other
+      counter count kind (part a) values ∙ sym (effect_for reads counter count kind (part a) values))
+  same_by_layer X part holds (layer.Bind counter whole extent a) = subst Same (sym (rolls-Bind counter whole extent (part a))) (bind_same counter whole extent
+      (part a) (holds a))
 
   pub same_effect : (statement : Stmt) → Same statement
   same_effect = ind-Stmt Same (λ x y is. subst (λ (l : Stmt-F Stmt). Same (roll-Stmt l)) is (same_by_layer _ (λ e. e.0) (λ e. e.1) y))
@@ -182,7 +197,8 @@ put_misses points inputs func x y pixel funcs point missed = by_source point.sou
 module _ (points : Points) (inputs : Planes) (reads : Reads) (point : Point) where
   abbrev Stays : Stmt → Type 0
   Stays statement = (values : Values) → is_sound reads (all_but point) all_points statement values ≡ true → (funcs : Planes)
-      → reads_of inputs (put_effect points (effect reads statement values) funcs) point.source point.x point.y ≡ reads_of inputs funcs point.source point.x point.y
+      → reads_of inputs (put_effect points (effect reads statement values) funcs) point.source point.x point.y ≡ reads_of inputs funcs point.source point.x
+      point.y
 
   abbrev left : Option Effect → Planes → ℕ
   left own funcs = reads_of inputs (put_effect points own funcs) point.source point.x point.y
@@ -193,7 +209,8 @@ module _ (points : Points) (inputs : Planes) (reads : Reads) (point : Point) whe
       let y = value reads values store.y in
       ap (λ e. left e funcs) (effect_store reads store values)
       ∙ put_misses points inputs store.func x y (value reads values store.value) funcs point
-      (and_parts (all_but point store.func x y) (list_all all_points (store_loads reads values store)) (sym (sound_store reads (all_but point) all_points store values) ∙ sound)).0
+      (and_parts (all_but point store.func x y) (list_all all_points (store_loads reads values store)) (sym (sound_store reads (all_but point) all_points store
+      values) ∙ sound)).0
 
   bind_stays : (counter : Counter) (whole : Whole) (extent : ℕ) (body : Stmt) → Stays body → Stays (s.Bind counter whole extent body)
   bind_stays counter whole extent body stays values sound funcs =
@@ -201,15 +218,19 @@ module _ (points : Points) (inputs : Planes) (reads : Reads) (point : Point) whe
       ∙ by_test (nat_lt (whole_value whole values) extent) (sym (sound_bind reads (all_but point) all_points counter whole extent body values) ∙ sound)
     where
       by_test : (test : Bool) → cond test (is_sound reads (all_but point) all_points body (with counter (whole_value whole values) values)) true ≡ true
-          → left (cond test (effect reads body (with counter (whole_value whole values) values)) None) funcs ≡ reads_of inputs funcs point.source point.x point.y
+          → left (cond test (effect reads body (with counter (whole_value whole values) values)) None) funcs ≡ reads_of inputs funcs point.source point.x
+          point.y
       by_test true is = stays (with counter (whole_value whole values) values) is funcs
       by_test false is = refl
 
   stays_by_layer : (X : Type 0) (part : X → Stmt) → ((x : X) → Stays (part x)) → (y : Stmt-F X) → Stays (roll-Stmt (map-Stmt X Stmt part y))
   stays_by_layer X part holds (layer.Store store) = subst Stays (sym (rolls-Store store)) (store_stays store)
-  stays_by_layer X part holds (layer.Sequence a b) = subst Stays (sym (rolls-Sequence (part a) (part b))) (λ values sound funcs. ap (λ e. left e funcs) (effect_sequence reads (part a) (part b) values))
-  stays_by_layer X part holds (layer.For counter count kind a) = subst Stays (sym (rolls-For counter count kind (part a))) (λ values sound funcs. ap (λ e. left e funcs) (effect_for reads counter count kind (part a) values))
-  stays_by_layer X part holds (layer.Bind counter whole extent a) = subst Stays (sym (rolls-Bind counter whole extent (part a))) (bind_stays counter whole extent (part a) (holds a))
+  stays_by_layer X part holds (layer.Sequence a b) = subst Stays (sym (rolls-Sequence (part a) (part b))) (λ values sound funcs. ap (λ e. left e funcs)
+      (effect_sequence reads (part a) (part b) values))
+  stays_by_layer X part holds (layer.For counter count kind a) = subst Stays (sym (rolls-For counter count kind (part a))) (λ values sound funcs. ap
+      (λ e. left e funcs) (effect_for reads counter count kind (part a) values))
+  stays_by_layer X part holds (layer.Bind counter whole extent a) = subst Stays (sym (rolls-Bind counter whole extent (part a))) (bind_stays counter whole
+      extent (part a) (holds a))
 
   pub missed_stays : (statement : Stmt) → Stays statement
   missed_stays = ind-Stmt Stays (λ x y is. subst (λ (l : Stmt-F Stmt). Stays (roll-Stmt l)) is (stays_by_layer _ (λ e. e.0) (λ e. e.1) y))
@@ -231,7 +252,8 @@ module _ (points : Points) (inputs : Planes) (body : Stmt) (at : ℕ → Values)
   unfolding turns
   answered zero point pass = refl
   answered (suc n) point pass =
-      missed_stays points inputs before point body (at n) (sym (ap (λ (test : Values → Bool). test (at n)) (touches_are before (all_but point) all_points body)) ∙ pass n (omega arith)) (stores n)
+      missed_stays points inputs before point body (at n) (sym (ap (λ (test : Values → Bool). test (at n)) (touches_are before (all_but point) all_points body))
+      ∙ pass n (omega arith)) (stores n)
       ∙ answered n point (λ k below. pass k (omega (arith, below)))
 
   -- so a round stores what it stores from what was there before the first
@@ -240,7 +262,8 @@ module _ (points : Points) (inputs : Planes) (body : Stmt) (at : ℕ → Values)
   same_round n apart =
       let parts = and_parts (are_apart own at n) (every n (λ earlier. own.touches everywhere (misses own (at earlier)) (at n))) apart in
       same_effect before (reads_of inputs (stores n)) n (λ k. misses own (at k)) (answered n) body (at n)
-      (λ k below. sym (ap (λ (test : Values → Bool). test (at n)) (touches_are before everywhere (misses own (at k)) body)) ∙ each n (λ earlier. own.touches everywhere (misses own (at earlier)) (at n)) parts.1 k below)
+      (λ k below. sym (ap (λ (test : Values → Bool). test (at n)) (touches_are before everywhere (misses own (at k)) body))
+      ∙ each n (λ earlier. own.touches everywhere (misses own (at earlier)) (at n)) parts.1 k below)
 
   pub fewer_apart : (n : ℕ) → are_apart own at (suc n) ≡ true → are_apart own at n ≡ true
   unfolding every

@@ -5,7 +5,8 @@ use Rattle.halide_pipeline.specs.declared.expressions.Source.{Source}
 use Rattle.loop_ir.specs.declared.expressions.Expr.{Expr, fold-Expr, ind-Expr, fold-roll-Expr, roll-Expr, map-Expr}
 use Rattle.loop_ir.specs.declared.expressions.Expr.TheOpen.{Expr-F}
 use Rattle.loop_ir.specs.declared.expressions.Expr.TheOpen as layer
-use Rattle.loop_ir.specs.declared.expressions.Expr.TheVariants.{rolls-Number, rolls-Linear, rolls-Binary, rolls-Divide, rolls-Remainder, rolls-Select, rolls-Load}
+use Rattle.loop_ir.specs.declared.expressions.Expr.TheVariants.{rolls-Number, rolls-Linear, rolls-Binary, rolls-Divide, rolls-Remainder, rolls-Select}
+use Rattle.loop_ir.specs.declared.expressions.Expr.TheVariants.{rolls-Load}
 use Rattle.loop_ir.specs.declared.expressions.Expr.TheVariants as e
 use Rattle.loop_ir.specs.declared.expressions.Linear.{Linear}
 
@@ -56,7 +57,8 @@ module _ {A B : Type 0} (R : A → B → Type 0) where
     of_g e = fold-Expr B g e
 
     -- one level
-    level : (y : Expr-F Expr) (pairs : Expr-F (Both R)) → of_f (roll-Expr y) ≡ f (left_of R pairs) → of_g (roll-Expr y) ≡ g (right_of R pairs) → R (f (left_of R pairs)) (g (right_of R pairs)) → R (of_f (roll-Expr y)) (of_g (roll-Expr y))
+    level : (y : Expr-F Expr) (pairs : Expr-F (Both R)) → of_f (roll-Expr y) ≡ f (left_of R pairs) → of_g (roll-Expr y) ≡ g (right_of R pairs)
+        → R (f (left_of R pairs)) (g (right_of R pairs)) → R (of_f (roll-Expr y)) (of_g (roll-Expr y))
     level y pairs ea eb r = subst (λ (x : A). R x (of_g (roll-Expr y))) (sym ea) (subst (λ (x : B). R (f (left_of R pairs)) x) (sym eb) r)
 
     abbrev both : (e : Expr) → R (of_f e) (of_g e) → Both R

@@ -22,7 +22,8 @@ module _ (reads : Reads) (values : Values) where
   same_at (layer.Divide a n) = ap (λ (x : ℕ). word.divide x n) a.is
   same_at (layer.Remainder a n) = ap (λ (x : ℕ). word.remainder x n) a.is
   same_at (layer.Select c a b) =
-      ap (λ (x : ℕ). cond (x == 0) b.left.value a.left.value) c.is ∙ ap (λ (x : ℕ). cond (c.right == 0) b.left.value x) a.is ∙ ap (λ (x : ℕ). cond (c.right == 0) x a.right) b.is
+      ap (λ (x : ℕ). cond (x == 0) b.left.value a.left.value) c.is ∙ ap (λ (x : ℕ). cond (c.right == 0) b.left.value x) a.is
+      ∙ ap (λ (x : ℕ). cond (c.right == 0) x a.right) b.is
   same_at (layer.Load s a b) = ap (λ (x : ℕ). reads s x b.left.value) a.is ∙ ap (λ (x : ℕ). reads s a.right x) b.is
 
   module _ (other : Reads) where
@@ -40,7 +41,8 @@ module _ (reads : Reads) (values : Values) where
     matches_at (layer.Select c a b) agree =
         let k = all_parts (AgreeAt reads other) c.left.points (a.left.points ++ b.left.points) agree in
         let m = all_parts (AgreeAt reads other) a.left.points b.left.points k.1 in
-        ap (λ (x : ℕ). cond (x == 0) b.right a.right) (c.is k.0) ∙ ap (λ (x : ℕ). cond (c.left.value == 0) b.right x) (a.is m.0) ∙ ap (λ (x : ℕ). cond (c.left.value == 0) x a.left.value) (b.is m.1)
+        ap (λ (x : ℕ). cond (x == 0) b.right a.right) (c.is k.0) ∙ ap (λ (x : ℕ). cond (c.left.value == 0) b.right x) (a.is m.0)
+        ∙ ap (λ (x : ℕ). cond (c.left.value == 0) x a.left.value) (b.is m.1)
     matches_at (layer.Load s a b) agree =
         let k = all_parts (AgreeAt reads other) (a.left.points ++ b.left.points) (record { source = s; x = a.left.value; y = b.left.value } ∷ []) agree in
         let m = all_parts (AgreeAt reads other) a.left.points b.left.points k.0 in

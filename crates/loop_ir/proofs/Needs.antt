@@ -59,8 +59,10 @@ greatest_sequence first second = ap greatest_need (sym (rolls-Sequence first sec
 
 pub greatest_for : (counter : Counter) (count : ℕ) (kind : LoopKind) (body : Stmt) → greatest_need (s.For counter count kind body) ≡ greatest_need body
 unfolding greatest_need
-greatest_for counter count kind body = ap greatest_need (sym (rolls-For counter count kind body)) ∙ fold-roll-Stmt ℕ greatest_at (layer.For counter count kind body)
+greatest_for counter count kind body = ap greatest_need (sym (rolls-For counter count kind body))
+    ∙ fold-roll-Stmt ℕ greatest_at (layer.For counter count kind body)
 
 pub greatest_bind : (counter : Counter) (whole : Whole) (extent : ℕ) (body : Stmt) → greatest_need (s.Bind counter whole extent body) ≡ greatest_need body
 unfolding greatest_need
-greatest_bind counter whole extent body = ap greatest_need (sym (rolls-Bind counter whole extent body)) ∙ fold-roll-Stmt ℕ greatest_at (layer.Bind counter whole extent body)
+greatest_bind counter whole extent body = ap greatest_need (sym (rolls-Bind counter whole extent body))
+    ∙ fold-roll-Stmt ℕ greatest_at (layer.Bind counter whole extent body)

@@ -1,5 +1,6 @@
 -- A point of a buffer that is written.
-use Rattle.std.proofs.Common.{◌≡◌, ◌≢◌, ℕ, suc, ◌+◌, ◌*◌, ◌/◌, ◌<◌, ◌≤◌, true, false, List, length, set, get_or, refl, sym, ap, ◌∙◌, arith, Some, inl, inr, get_or-set_same, get_or-set_other, length-set}
+use Rattle.std.proofs.Common.{◌≡◌, ◌≢◌, ℕ, suc, ◌+◌, ◌*◌, ◌/◌, ◌<◌, ◌≤◌, true, false, List, length, set, get_or, refl, sym, ap, ◌∙◌, arith, Some, inl, inr}
+use Rattle.std.proofs.Common.{get_or-set_same, get_or-set_other, length-set}
 use Rattle.std.specs.Prelude.{if◌then◌else◌, ◌==◌, ◌&&◌, nat_lt, slice_get, slice_index, slice_set}
 use mathlib.Core.Path.{fun_ext}
 use Rattle.std.proofs.lemmas.Bool.{cases_lt, cases_eq}
@@ -43,7 +44,8 @@ inside width height x y pixel i j pixels below_x below_y below_i full = elim (ca
 
 at_point : (width height x y pixel i j : ℕ) (pixels : List ℕ) → x < width → y < height → length pixels ≡ width * height
     → (if nat_lt i width && nat_lt j height then slice_index (slice_set pixels (y * width + x) pixel) (j * width + i) else 0)
-    ≡ (if (nat_lt x width && nat_lt y height) && (i == x && j == y) then pixel else (if nat_lt i width && nat_lt j height then slice_index pixels (j * width + i) else 0))
+    ≡ (if (nat_lt x width && nat_lt y height) && (i == x && j == y) then pixel else (if nat_lt i width && nat_lt j height then slice_index pixels
+    (j * width + i) else 0))
 at_point width height x y pixel i j pixels below_x below_y full =
     let has_x : nat_lt x width ≡ true = grind (arith, nat_tests) in
     let has_y : nat_lt y height ≡ true = grind (arith, nat_tests) in
@@ -72,22 +74,27 @@ written width height x y pixel pixels below_x below_y full =
 
 -- ---- a list of buffers, one of which is changed
 
-get_changed : (buffers : List BufferContents) (place : ℕ) (own default : BufferContents) → place < length buffers → slice_get (set buffers place own) place ≡ Some own
+get_changed : (buffers : List BufferContents) (place : ℕ) (own default : BufferContents) → place < length buffers → slice_get (set buffers place own) place
+    ≡ Some own
 get_changed buffers place own default below =
     let still : place < length (set buffers place own) = omega (arith, length-set buffers place own) in
     slice_get-get_or (set buffers place own) place default still ∙ ap Some (get_or-set_same buffers place own default below)
 
-get_other : (buffers : List BufferContents) (place other : ℕ) (own : BufferContents) → other ≢ place → slice_get (set buffers place own) other ≡ slice_get buffers other
+get_other : (buffers : List BufferContents) (place other : ℕ) (own : BufferContents) → other ≢ place → slice_get (set buffers place own) other
+    ≡ slice_get buffers other
 get_other buffers place other own apart = elim (cases_lt other (length buffers)) [
   | inl below ↦
       let still : other < length (set buffers place own) = omega (arith, length-set buffers place own) in
-      slice_get-get_or (set buffers place own) other own still ∙ ap Some (get_or-set_other buffers place other own own apart) ∙ sym (slice_get-get_or buffers other own below)
+      slice_get-get_or (set buffers place own) other own still ∙ ap Some (get_or-set_other buffers place other own own apart)
+      ∙ sym (slice_get-get_or buffers other own below)
   | inr above ↦ slice_get_past (set buffers place own) other (omega (arith, length-set buffers place own)) ∙ sym (slice_get_past buffers other above)
 ]
 
-elsewhere : (points : Points) (own x y pixel : ℕ) (all : Planes) (place i j : ℕ) → (place == own) ≡ false → all place i j ≡ put points own x y pixel all place i j
+elsewhere : (points : Points) (own x y pixel : ℕ) (all : Planes) (place i j : ℕ) → (place == own) ≡ false
+    → all place i j ≡ put points own x y pixel all place i j
 elsewhere points own x y pixel all place i j apart =
-    elim (points own x y) as (λ there. all place i j ≡ (if there && (place == own && (i == x && j == y)) then pixel else all place i j)) [ true ↦ rw apart refl | false ↦ refl ]
+    elim (points own x y) as (λ there. all place i j ≡ (if there && (place == own && (i == x && j == y)) then pixel else all place i j))
+    [ true ↦ rw apart refl | false ↦ refl ]
 
 put_at : (buffers : List BufferContents) (own x y pixel : ℕ) (new default : BufferContents) → own < length buffers
     → plane_of new ≡ (λ i j. if has_point (get_or buffers own default) x y && (i == x && j == y) then pixel else plane_of (get_or buffers own default) i j)
@@ -115,12 +122,14 @@ pub put_one : (buffers : List BufferContents) (own x y pixel : ℕ) (new default
 put_one buffers own x y pixel new default below changed =
     fun_ext (λ place. fun_ext (λ i. fun_ext (λ j. put_at buffers own x y pixel new default below changed place i j)))
 
-pub put_none : (buffers : List BufferContents) (own x y pixel : ℕ) → length buffers ≤ own → planes buffers ≡ put (points_of buffers) own x y pixel (planes buffers)
+pub put_none : (buffers : List BufferContents) (own x y pixel : ℕ) → length buffers ≤ own
+    → planes buffers ≡ put (points_of buffers) own x y pixel (planes buffers)
 put_none buffers own x y pixel above =
     let missing : points_of buffers own x y ≡ false = ap (λ o. has_point_of_any o x y) (slice_get_past buffers own above) in
     fun_ext (λ place. fun_ext (λ i. fun_ext (λ j. rw missing refl)))
 
-pub points_stay : (buffers : List BufferContents) (own : ℕ) (new default : BufferContents) → own < length buffers → has_point new ≡ has_point (get_or buffers own default)
+pub points_stay : (buffers : List BufferContents) (own : ℕ) (new default : BufferContents) → own < length buffers
+    → has_point new ≡ has_point (get_or buffers own default)
     → points_of (slice_set buffers own new) ≡ points_of buffers
 points_stay buffers own new default below same = fun_ext (λ place. elim (cases_eq place own) [
   | inl e ↦

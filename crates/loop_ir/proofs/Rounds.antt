@@ -24,17 +24,22 @@ module _ (reads : Reads) where
   unfolding rounds
   rounds_store store = ap of (sym (rolls-Store store)) ∙ fold-roll-Stmt Rounds (rounds_at reads) (layer.Store store)
 
-  pub rounds_sequence : (first second : Stmt) → rounds reads (s.Sequence first second) ≡ rounds_at reads (layer.Sequence (rounds reads first) (rounds reads second))
+  pub rounds_sequence : (first second : Stmt) → rounds reads (s.Sequence first second) ≡ rounds_at reads (layer.Sequence (rounds reads first)
+      (rounds reads second))
   unfolding rounds
   rounds_sequence first second = ap of (sym (rolls-Sequence first second)) ∙ fold-roll-Stmt Rounds (rounds_at reads) (layer.Sequence first second)
 
-  pub rounds_for : (counter : Counter) (count : ℕ) (kind : LoopKind) (body : Stmt) → rounds reads (s.For counter count kind body) ≡ rounds_at reads (layer.For counter count kind (rounds reads body))
+  pub rounds_for : (counter : Counter) (count : ℕ) (kind : LoopKind) (body : Stmt) → rounds reads (s.For counter count kind body)
+      ≡ rounds_at reads (layer.For counter count kind (rounds reads body))
   unfolding rounds
-  rounds_for counter count kind body = ap of (sym (rolls-For counter count kind body)) ∙ fold-roll-Stmt Rounds (rounds_at reads) (layer.For counter count kind body)
+  rounds_for counter count kind body = ap of (sym (rolls-For counter count kind body))
+      ∙ fold-roll-Stmt Rounds (rounds_at reads) (layer.For counter count kind body)
 
-  pub rounds_bind : (counter : Counter) (whole : Whole) (extent : ℕ) (body : Stmt) → rounds reads (s.Bind counter whole extent body) ≡ rounds_at reads (layer.Bind counter whole extent (rounds reads body))
+  pub rounds_bind : (counter : Counter) (whole : Whole) (extent : ℕ) (body : Stmt) → rounds reads (s.Bind counter whole extent body)
+      ≡ rounds_at reads (layer.Bind counter whole extent (rounds reads body))
   unfolding rounds
-  rounds_bind counter whole extent body = ap of (sym (rolls-Bind counter whole extent body)) ∙ fold-roll-Stmt Rounds (rounds_at reads) (layer.Bind counter whole extent body)
+  rounds_bind counter whole extent body = ap of (sym (rolls-Bind counter whole extent body))
+      ∙ fold-roll-Stmt Rounds (rounds_at reads) (layer.Bind counter whole extent body)
 
   -- ---- what they touch
 
@@ -77,8 +82,10 @@ module _ (reads : Reads) where
     by_layer : (X : Type 0) (part : X → Stmt) → ((x : X) → Holds (part x)) → (y : Stmt-F X) → Holds (roll-Stmt (map-Stmt X Stmt part y))
     by_layer X part holds (layer.Store store) = subst Holds (sym (rolls-Store store)) (at_store store)
     by_layer X part holds (layer.Sequence a b) = subst Holds (sym (rolls-Sequence (part a) (part b))) (at_sequence (part a) (part b) (holds a) (holds b))
-    by_layer X part holds (layer.For counter count kind a) = subst Holds (sym (rolls-For counter count kind (part a))) (at_for counter count kind (part a) (holds a))
-    by_layer X part holds (layer.Bind counter whole extent a) = subst Holds (sym (rolls-Bind counter whole extent (part a))) (at_bind counter whole extent (part a) (holds a))
+    by_layer X part holds (layer.For counter count kind a) = subst Holds (sym (rolls-For counter count kind (part a))) (at_for counter count kind (part a)
+        (holds a))
+    by_layer X part holds (layer.Bind counter whole extent a) = subst Holds (sym (rolls-Bind counter whole extent (part a))) (at_bind counter whole extent
+        (part a) (holds a))
 
     pub touches_are : (statement : Stmt) → Holds statement
     touches_are = ind-Stmt Holds (λ x y is. subst (λ (l : Stmt-F Stmt). Holds (roll-Stmt l)) is (by_layer _ (λ e. e.0) (λ e. e.1) y))

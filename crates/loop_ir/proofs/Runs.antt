@@ -32,13 +32,16 @@ module _ (place : ℕ) where
   unfolding is_about
   about_sequence first second = ap about (sym (rolls-Sequence first second)) ∙ fold-roll-Stmt Bool (is_about_at place) (layer.Sequence first second)
 
-  pub about_for : (counter : Counter) (count : ℕ) (kind : LoopKind) (body : Stmt) → is_about place (s.For counter count kind body) ≡ (counter.func == place && is_about place body)
+  pub about_for : (counter : Counter) (count : ℕ) (kind : LoopKind) (body : Stmt) → is_about place (s.For counter count kind body) ≡ (counter.func == place
+      && is_about place body)
   unfolding is_about
-  about_for counter count kind body = ap about (sym (rolls-For counter count kind body)) ∙ fold-roll-Stmt Bool (is_about_at place) (layer.For counter count kind body)
+  about_for counter count kind body = ap about (sym (rolls-For counter count kind body))
+      ∙ fold-roll-Stmt Bool (is_about_at place) (layer.For counter count kind body)
 
   pub about_bind : (counter : Counter) (whole : Whole) (extent : ℕ) (body : Stmt) → is_about place (s.Bind counter whole extent body) ≡ is_about place body
   unfolding is_about
-  about_bind counter whole extent body = ap about (sym (rolls-Bind counter whole extent body)) ∙ fold-roll-Stmt Bool (is_about_at place) (layer.Bind counter whole extent body)
+  about_bind counter whole extent body = ap about (sym (rolls-Bind counter whole extent body))
+      ∙ fold-roll-Stmt Bool (is_about_at place) (layer.Bind counter whole extent body)
 
 -- ---- runs
 
@@ -50,19 +53,24 @@ module _ (reads : Reads) (func x y : ℕ) (expected : Values → Bool) where
   unfolding runs
   runs_store store = ap of (sym (rolls-Store store)) ∙ fold-roll-Stmt Runs (runs_at reads func x y expected) (layer.Store store)
 
-  pub runs_sequence : (first second : Stmt) → runs reads func x y expected (s.Sequence first second) ≡ runs_at reads func x y expected (layer.Sequence (runs reads func x y expected first) (runs reads func x y expected second))
+  pub runs_sequence : (first second : Stmt) → runs reads func x y expected (s.Sequence first second) ≡ runs_at reads func x y expected
+      (layer.Sequence (runs reads func x y expected first) (runs reads func x y expected second))
   unfolding runs
   runs_sequence first second = ap of (sym (rolls-Sequence first second)) ∙ fold-roll-Stmt Runs (runs_at reads func x y expected) (layer.Sequence first second)
 
   pub runs_for : (counter : Counter) (count : ℕ) (kind : LoopKind) (body : Stmt)
-      → runs reads func x y expected (s.For counter count kind body) ≡ runs_at reads func x y expected (layer.For counter count kind (runs reads func x y expected body))
+      → runs reads func x y expected (s.For counter count kind body) ≡ runs_at reads func x y expected (layer.For counter count kind
+      (runs reads func x y expected body))
   unfolding runs
-  runs_for counter count kind body = ap of (sym (rolls-For counter count kind body)) ∙ fold-roll-Stmt Runs (runs_at reads func x y expected) (layer.For counter count kind body)
+  runs_for counter count kind body = ap of (sym (rolls-For counter count kind body))
+      ∙ fold-roll-Stmt Runs (runs_at reads func x y expected) (layer.For counter count kind body)
 
   pub runs_bind : (counter : Counter) (whole : Whole) (extent : ℕ) (body : Stmt)
-      → runs reads func x y expected (s.Bind counter whole extent body) ≡ runs_at reads func x y expected (layer.Bind counter whole extent (runs reads func x y expected body))
+      → runs reads func x y expected (s.Bind counter whole extent body) ≡ runs_at reads func x y expected (layer.Bind counter whole extent
+      (runs reads func x y expected body))
   unfolding runs
-  runs_bind counter whole extent body = ap of (sym (rolls-Bind counter whole extent body)) ∙ fold-roll-Stmt Runs (runs_at reads func x y expected) (layer.Bind counter whole extent body)
+  runs_bind counter whole extent body = ap of (sym (rolls-Bind counter whole extent body))
+      ∙ fold-roll-Stmt Runs (runs_at reads func x y expected) (layer.Bind counter whole extent body)
 
   -- ---- what they miss
 
@@ -75,7 +83,8 @@ module _ (reads : Reads) (func x y : ℕ) (expected : Values → Bool) where
   abbrev Holds : Stmt → Type 0
   Holds statement = Misses (runs reads func x y expected statement) ≡ Sound statement
 
-  by_fold : (level : Stmt-F Stmt) → Sound (roll-Stmt level) ≡ is_sound_at reads (all_but (point_of func x y)) all_points (map-Stmt Stmt (Values → Bool) Sound level)
+  by_fold : (level : Stmt-F Stmt) → Sound (roll-Stmt level) ≡ is_sound_at reads (all_but (point_of func x y)) all_points (map-Stmt Stmt (Values
+      → Bool) Sound level)
   unfolding is_sound
   by_fold level = fold-roll-Stmt (Values → Bool) (is_sound_at reads (all_but (point_of func x y)) all_points) level
 
@@ -85,27 +94,32 @@ module _ (reads : Reads) (func x y : ℕ) (expected : Values → Bool) where
   at_sequence : (first second : Stmt) → Holds first → Holds second → Holds (s.Sequence first second)
   at_sequence first second one two =
       ap Misses (runs_sequence first second)
-      ∙ ap {A = Values → Bool} {B = Values → Bool} (λ test. is_sound_at reads (all_but (point_of func x y)) all_points (layer.Sequence test (Misses (runs reads func x y expected second)))) one
+      ∙ ap {A = Values → Bool} {B = Values → Bool} (λ test. is_sound_at reads (all_but (point_of func x y)) all_points
+      (layer.Sequence test (Misses (runs reads func x y expected second)))) one
       ∙ ap {A = Values → Bool} {B = Values → Bool} (λ test. is_sound_at reads (all_but (point_of func x y)) all_points (layer.Sequence (Sound first) test)) two
       ∙ sym (by_fold (layer.Sequence first second)) ∙ ap Sound (rolls-Sequence first second)
 
   at_for : (counter : Counter) (count : ℕ) (kind : LoopKind) (body : Stmt) → Holds body → Holds (s.For counter count kind body)
   at_for counter count kind body holds =
       ap Misses (runs_for counter count kind body)
-      ∙ ap {A = Values → Bool} {B = Values → Bool} (λ test. is_sound_at reads (all_but (point_of func x y)) all_points (layer.For counter count kind test)) holds
+      ∙ ap {A = Values → Bool} {B = Values → Bool} (λ test. is_sound_at reads (all_but (point_of func x y)) all_points (layer.For counter count kind test))
+      holds
       ∙ sym (by_fold (layer.For counter count kind body)) ∙ ap Sound (rolls-For counter count kind body)
 
   at_bind : (counter : Counter) (whole : Whole) (extent : ℕ) (body : Stmt) → Holds body → Holds (s.Bind counter whole extent body)
   at_bind counter whole extent body holds =
       ap Misses (runs_bind counter whole extent body)
-      ∙ ap {A = Values → Bool} {B = Values → Bool} (λ test. is_sound_at reads (all_but (point_of func x y)) all_points (layer.Bind counter whole extent test)) holds
+      ∙ ap {A = Values → Bool} {B = Values → Bool} (λ test. is_sound_at reads (all_but (point_of func x y)) all_points (layer.Bind counter whole extent test))
+      holds
       ∙ sym (by_fold (layer.Bind counter whole extent body)) ∙ ap Sound (rolls-Bind counter whole extent body)
 
   by_layer : (X : Type 0) (part : X → Stmt) → ((a : X) → Holds (part a)) → (own : Stmt-F X) → Holds (roll-Stmt (map-Stmt X Stmt part own))
   by_layer X part holds (layer.Store store) = subst Holds (sym (rolls-Store store)) (at_store store)
   by_layer X part holds (layer.Sequence a b) = subst Holds (sym (rolls-Sequence (part a) (part b))) (at_sequence (part a) (part b) (holds a) (holds b))
-  by_layer X part holds (layer.For counter count kind a) = subst Holds (sym (rolls-For counter count kind (part a))) (at_for counter count kind (part a) (holds a))
-  by_layer X part holds (layer.Bind counter whole extent a) = subst Holds (sym (rolls-Bind counter whole extent (part a))) (at_bind counter whole extent (part a) (holds a))
+  by_layer X part holds (layer.For counter count kind a) = subst Holds (sym (rolls-For counter count kind (part a))) (at_for counter count kind (part a)
+      (holds a))
+  by_layer X part holds (layer.Bind counter whole extent a) = subst Holds (sym (rolls-Bind counter whole extent (part a))) (at_bind counter whole extent
+      (part a) (holds a))
 
   pub misses_are : (statement : Stmt) → Holds statement
   misses_are = ind-Stmt Holds (λ a b is. subst (λ (l : Stmt-F Stmt). Holds (roll-Stmt l)) is (by_layer _ (λ e. e.0) (λ e. e.1) b))
@@ -131,7 +145,8 @@ module _ (reads : Reads) (func x y : ℕ) (expected : Values → Bool) where
     sequence_avoids first second one two is values =
         let parts = and_parts (is_about place first) (is_about place second) (sym (about_sequence place first second) ∙ is) in
         ap (λ (own : Runs). own.are_runs values) (runs_sequence first second)
-        ∙ and_from (stores_in_runs reads func x y expected first values) (stores_in_runs reads func x y expected second values) (one parts.0 values) (two parts.1 values)
+        ∙ and_from (stores_in_runs reads func x y expected first values) (stores_in_runs reads func x y expected second values) (one parts.0 values)
+        (two parts.1 values)
 
     plain : (b : Bool) (a c : Bool) → cond (b && false) a c ≡ c
     plain true a c = refl
@@ -141,17 +156,21 @@ module _ (reads : Reads) (func x y : ℕ) (expected : Values → Bool) where
     for_avoids counter count kind body avoids is values =
         let parts = and_parts (counter.func == place) (is_about place body) (sym (about_for place counter count kind body) ∙ is) in
         ap (λ (own : Runs). own.are_runs values) (runs_for counter count kind body)
-        ∙ ap (λ (b : Bool). cond (is_vectorized kind && b) (are_same_run counter count body values) (every count (λ turn. stores_in_runs reads func x y expected body (with counter turn values)))) (other counter.func parts.0)
-        ∙ plain (is_vectorized kind) (are_same_run counter count body values) (every count (λ turn. stores_in_runs reads func x y expected body (with counter turn values)))
+        ∙ ap (λ (b : Bool). cond (is_vectorized kind && b) (are_same_run counter count body values) (every count (λ turn. stores_in_runs reads func x y expected
+        body (with counter turn values)))) (other counter.func parts.0)
+        ∙ plain (is_vectorized kind) (are_same_run counter count body values) (every count (λ turn. stores_in_runs reads func x y expected body
+        (with counter turn values)))
         ∙ every_true count (λ turn. stores_in_runs reads func x y expected body (with counter turn values)) (λ turn. avoids parts.1 (with counter turn values))
       where
         are_same_run : Counter → ℕ → Stmt → Values → Bool
-        are_same_run counter count body values = cond (every count (λ round. (runs reads func x y expected body).misses (with counter round values))) (not (expected values)) (not (not (expected values)))
+        are_same_run counter count body values = cond (every count (λ round. (runs reads func x y expected body).misses (with counter round values)))
+            (not (expected values)) (not (not (expected values)))
 
     bind_avoids : (counter : Counter) (whole : Whole) (extent : ℕ) (body : Stmt) → Avoids body → Avoids (s.Bind counter whole extent body)
     bind_avoids counter whole extent body avoids is values =
         ap (λ (own : Runs). own.are_runs values) (runs_bind counter whole extent body)
-        ∙ by_test (nat_lt (whole_value whole values) extent) (avoids (sym (about_bind place counter whole extent body) ∙ is) (with counter (whole_value whole values) values))
+        ∙ by_test (nat_lt (whole_value whole values) extent) (avoids (sym (about_bind place counter whole extent body)
+        ∙ is) (with counter (whole_value whole values) values))
       where
         by_test : (test : Bool) {b : Bool} → b ≡ true → cond test b true ≡ true
         by_test true e = e
@@ -159,9 +178,12 @@ module _ (reads : Reads) (func x y : ℕ) (expected : Values → Bool) where
 
     avoids_by_layer : (X : Type 0) (part : X → Stmt) → ((a : X) → Avoids (part a)) → (own : Stmt-F X) → Avoids (roll-Stmt (map-Stmt X Stmt part own))
     avoids_by_layer X part holds (layer.Store store) = subst Avoids (sym (rolls-Store store)) (store_avoids store)
-    avoids_by_layer X part holds (layer.Sequence a b) = subst Avoids (sym (rolls-Sequence (part a) (part b))) (sequence_avoids (part a) (part b) (holds a) (holds b))
-    avoids_by_layer X part holds (layer.For counter count kind a) = subst Avoids (sym (rolls-For counter count kind (part a))) (for_avoids counter count kind (part a) (holds a))
-    avoids_by_layer X part holds (layer.Bind counter whole extent a) = subst Avoids (sym (rolls-Bind counter whole extent (part a))) (bind_avoids counter whole extent (part a) (holds a))
+    avoids_by_layer X part holds (layer.Sequence a b) = subst Avoids (sym (rolls-Sequence (part a) (part b))) (sequence_avoids (part a) (part b) (holds a)
+        (holds b))
+    avoids_by_layer X part holds (layer.For counter count kind a) = subst Avoids (sym (rolls-For counter count kind (part a))) (for_avoids counter count kind
+        (part a) (holds a))
+    avoids_by_layer X part holds (layer.Bind counter whole extent a) = subst Avoids (sym (rolls-Bind counter whole extent (part a))) (bind_avoids counter whole
+        extent (part a) (holds a))
 
     pub all_avoid : (statement : Stmt) → Avoids statement
     all_avoid = ind-Stmt Avoids (λ a b is. subst (λ (l : Stmt-F Stmt). Avoids (roll-Stmt l)) is (avoids_by_layer _ (λ e. e.0) (λ e. e.1) b))

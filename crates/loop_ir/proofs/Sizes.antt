@@ -56,10 +56,12 @@ pub whole_sequence : (first second : Stmt) → whole_size (s.Sequence first seco
 unfolding whole_size
 whole_sequence first second = ap whole_size (sym (rolls-Sequence first second)) ∙ fold-roll-Stmt ℕ whole_at (layer.Sequence first second)
 
-pub whole_for : (counter : Counter) (count : ℕ) (kind : LoopKind) (body : Stmt) → whole_size (s.For counter count kind body) ≡ loop_room (is_laid_out kind) count (whole_size body)
+pub whole_for : (counter : Counter) (count : ℕ) (kind : LoopKind) (body : Stmt) → whole_size (s.For counter count kind body) ≡ loop_room (is_laid_out kind)
+    count (whole_size body)
 unfolding whole_size
 whole_for counter count kind body = ap whole_size (sym (rolls-For counter count kind body)) ∙ fold-roll-Stmt ℕ whole_at (layer.For counter count kind body)
 
 pub whole_bind : (counter : Counter) (whole : Whole) (extent : ℕ) (body : Stmt) → whole_size (s.Bind counter whole extent body) ≡ whole_size body + 25
 unfolding whole_size
-whole_bind counter whole extent body = ap whole_size (sym (rolls-Bind counter whole extent body)) ∙ fold-roll-Stmt ℕ whole_at (layer.Bind counter whole extent body)
+whole_bind counter whole extent body = ap whole_size (sym (rolls-Bind counter whole extent body))
+    ∙ fold-roll-Stmt ℕ whole_at (layer.Bind counter whole extent body)

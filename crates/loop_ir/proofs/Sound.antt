@@ -26,14 +26,16 @@ module _ (reads : Reads) (written : Points) (loaded : Point → Bool) where
       ap (λ statement. of statement values) (sym (rolls-Store store))
       ∙ ap (λ (sound : Values → Bool). sound values) (fold-roll-Stmt (Values → Bool) (is_sound_at reads written loaded) (layer.Store store))
 
-  pub sound_sequence : (first second : Stmt) (values : Values) → is_sound reads written loaded (s.Sequence first second) values ≡ (is_sound reads written loaded first values && is_sound reads written loaded second values)
+  pub sound_sequence : (first second : Stmt) (values : Values) → is_sound reads written loaded (s.Sequence first second) values
+      ≡ (is_sound reads written loaded first values && is_sound reads written loaded second values)
   unfolding is_sound
   sound_sequence first second values =
       ap (λ statement. of statement values) (sym (rolls-Sequence first second))
       ∙ ap (λ (sound : Values → Bool). sound values) (fold-roll-Stmt (Values → Bool) (is_sound_at reads written loaded) (layer.Sequence first second))
 
   pub sound_for : (counter : Counter) (count : ℕ) (kind : LoopKind) (body : Stmt) (values : Values)
-      → is_sound reads written loaded (s.For counter count kind body) values ≡ every count (λ turn. is_sound reads written loaded body (with counter turn values))
+      → is_sound reads written loaded (s.For counter count kind body) values ≡ every count (λ turn. is_sound reads written loaded body
+      (with counter turn values))
   unfolding is_sound
   sound_for counter count kind body values =
       ap (λ statement. of statement values) (sym (rolls-For counter count kind body))

@@ -53,7 +53,8 @@ get_none : (place : ℕ) → slice_get {X = Term} [] place ≡ None
 get_none zero = refl
 get_none (suc place) = refl
 
-pub sum_set : (values : Values) (terms : List Term) (place s n : ℕ) (counter : Counter) → slice_get terms place ≡ Some (record { counter = counter; stride = s })
+pub sum_set : (values : Values) (terms : List Term) (place s n : ℕ) (counter : Counter)
+    → slice_get terms place ≡ Some (record { counter = counter; stride = s })
     → sum_of values (slice_set terms place (record { counter = counter; stride = word.add s n })) % 2 ^ 32 ≡ (sum_of values terms + values counter * n) % 2 ^ 32
 sum_set values [] place s n counter is = let none = get_none place in absurd (no_some none is)
   where
@@ -71,11 +72,13 @@ sum_set values (first ∷ terms) (suc place) s n counter is =
     let back : more + own ≡ (own + sum_of values terms) + values counter * n = omega arith in
     ap (λ (k : ℕ). k % 2 ^ 32) swap ∙ in_sum rest more own (sum_set values terms place s n counter is) ∙ ap (λ (k : ℕ). k % 2 ^ 32) back
 
-pub sum_push : (values : Values) (terms : List Term) (term : Term) → sum_of values (terms ++ term ∷ []) ≡ sum_of values terms + values term.counter * term.stride
+pub sum_push : (values : Values) (terms : List Term) (term : Term) → sum_of values (terms ++ term ∷ []) ≡ sum_of values terms + values term.counter
+    * term.stride
 sum_push values [] term = let z : values term.counter * term.stride + 0 ≡ 0 + values term.counter * term.stride = omega arith in z
 sum_push values (first ∷ terms) term =
     let rest = sum_push values terms term in
-    let e : values first.counter * first.stride + (sum_of values terms + values term.counter * term.stride) ≡ (values first.counter * first.stride + sum_of values terms) + values term.counter * term.stride = omega arith in
+    let e : values first.counter * first.stride + (sum_of values terms + values term.counter * term.stride)
+    ≡ (values first.counter * first.stride + sum_of values terms) + values term.counter * term.stride = omega arith in
     ap (λ (k : ℕ). values first.counter * first.stride + k) rest ∙ e
 
 -- ---- terms less
@@ -88,7 +91,8 @@ cancelled : (v s : ℕ) → s < 2 ^ 32 → (v * word.subtract 0 s + v * s) % 2 ^
 cancelled v s l =
     let parts : v * word.subtract 0 s + v * s ≡ v * (word.subtract 0 s + s) = sym (mul-add v (word.subtract 0 s) s) in
     let none : v * 0 ≡ 0 = omega arith in
-    ap (λ (k : ℕ). k % 2 ^ 32) parts ∙ sym (mul-mod_second v (word.subtract 0 s + s) (2 ^ 32)) ∙ ap (λ (k : ℕ). (v * k) % 2 ^ 32) (opposite s l) ∙ ap (λ (k : ℕ). k % 2 ^ 32) none
+    ap (λ (k : ℕ). k % 2 ^ 32) parts ∙ sym (mul-mod_second v (word.subtract 0 s + s) (2 ^ 32)) ∙ ap (λ (k : ℕ). (v * k) % 2 ^ 32) (opposite s l)
+    ∙ ap (λ (k : ℕ). k % 2 ^ 32) none
 
 taken : (v s old middle new rest : ℕ) → s < 2 ^ 32 → middle % 2 ^ 32 ≡ (old + v * word.subtract 0 s) % 2 ^ 32 → (new + rest) % 2 ^ 32 ≡ middle % 2 ^ 32
     → (new + (v * s + rest)) % 2 ^ 32 ≡ old % 2 ^ 32
@@ -101,7 +105,8 @@ taken v s old middle new rest l one others =
     ap (λ (k : ℕ). k % 2 ^ 32) a ∙ in_sum (new + rest) (old + o) p (others ∙ one) ∙ ap (λ (k : ℕ). k % 2 ^ 32) b
     ∙ in_sum (o + p) 0 old (cancelled v s l) ∙ ap (λ (k : ℕ). k % 2 ^ 32) zero_more
 
-pub first_taken : (values : Values) (others : List Term) (other : Term) (turned : ℕ) (old middle new : List Term) → 1 ≤ length others → (get_or others 0 other).stride < 2 ^ 32
+pub first_taken : (values : Values) (others : List Term) (other : Term) (turned : ℕ) (old middle new : List Term) → 1 ≤ length others
+    → (get_or others 0 other).stride < 2 ^ 32
     → turned ≡ word.subtract 0 (get_or others 0 other).stride
     → sum_of values middle % 2 ^ 32 ≡ (sum_of values old + values (get_or others 0 other).counter * turned) % 2 ^ 32
     → (sum_of values new + sum_of values (take (length others - 1) (drop 1 others))) % 2 ^ 32 ≡ sum_of values middle % 2 ^ 32

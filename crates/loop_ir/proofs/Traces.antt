@@ -19,24 +19,29 @@ module _ (points : Points) (inputs : Planes) (func x y : ℕ) where
   abbrev pub traced : Stmt → Values → Trace → Trace
   traced = trace points inputs func x y
 
-  pub trace_store : (store : Store) (values : Values) (so_far : Trace) → traced (s.Store store) values so_far ≡ trace_at points inputs func x y (layer.Store store) values so_far
+  pub trace_store : (store : Store) (values : Values) (so_far : Trace) → traced (s.Store store) values so_far ≡ trace_at points inputs func x y
+      (layer.Store store) values so_far
   unfolding trace
   trace_store store values so_far =
       ap (λ statement. traced statement values so_far) (sym (rolls-Store store))
-      ∙ ap (λ (effect : Values → Trace → Trace). effect values so_far) (fold-roll-Stmt (Values → Trace → Trace) (trace_at points inputs func x y) (layer.Store store))
+      ∙ ap (λ (effect : Values → Trace → Trace). effect values so_far) (fold-roll-Stmt (Values → Trace
+      → Trace) (trace_at points inputs func x y) (layer.Store store))
 
-  pub trace_sequence : (first second : Stmt) (values : Values) (so_far : Trace) → traced (s.Sequence first second) values so_far ≡ traced second values (traced first values so_far)
+  pub trace_sequence : (first second : Stmt) (values : Values) (so_far : Trace) → traced (s.Sequence first second) values so_far
+      ≡ traced second values (traced first values so_far)
   unfolding trace
   trace_sequence first second values so_far =
       ap (λ statement. traced statement values so_far) (sym (rolls-Sequence first second))
-      ∙ ap (λ (effect : Values → Trace → Trace). effect values so_far) (fold-roll-Stmt (Values → Trace → Trace) (trace_at points inputs func x y) (layer.Sequence first second))
+      ∙ ap (λ (effect : Values → Trace → Trace). effect values so_far) (fold-roll-Stmt (Values → Trace
+      → Trace) (trace_at points inputs func x y) (layer.Sequence first second))
 
   pub trace_for : (counter : Counter) (count : ℕ) (kind : LoopKind) (body : Stmt) (values : Values) (so_far : Trace)
       → traced (s.For counter count kind body) values so_far ≡ turns count (λ turn. traced body (with counter turn values)) so_far
   unfolding trace
   trace_for counter count kind body values so_far =
       ap (λ statement. traced statement values so_far) (sym (rolls-For counter count kind body))
-      ∙ ap (λ (effect : Values → Trace → Trace). effect values so_far) (fold-roll-Stmt (Values → Trace → Trace) (trace_at points inputs func x y) (layer.For counter count kind body))
+      ∙ ap (λ (effect : Values → Trace → Trace). effect values so_far) (fold-roll-Stmt (Values → Trace
+      → Trace) (trace_at points inputs func x y) (layer.For counter count kind body))
 
   pub trace_bind : (counter : Counter) (whole : Whole) (extent : ℕ) (body : Stmt) (values : Values) (so_far : Trace)
       → traced (s.Bind counter whole extent body) values so_far
@@ -44,4 +49,5 @@ module _ (points : Points) (inputs : Planes) (func x y : ℕ) where
   unfolding trace
   trace_bind counter whole extent body values so_far =
       ap (λ statement. traced statement values so_far) (sym (rolls-Bind counter whole extent body))
-      ∙ ap (λ (effect : Values → Trace → Trace). effect values so_far) (fold-roll-Stmt (Values → Trace → Trace) (trace_at points inputs func x y) (layer.Bind counter whole extent body))
+      ∙ ap (λ (effect : Values → Trace → Trace). effect values so_far) (fold-roll-Stmt (Values → Trace
+      → Trace) (trace_at points inputs func x y) (layer.Bind counter whole extent body))

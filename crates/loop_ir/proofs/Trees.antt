@@ -15,24 +15,28 @@ use Rattle.loop_ir.specs.Counters.{Values, with}
 use Rattle.loop_ir.specs.Running.{run, run_at, stored, turns, whole_value}
 
 module _ (points : Points) (inputs : Planes) where
-  pub run_store : (store : Store) (values : Values) (funcs : Planes) → run points inputs (s.Store store) values funcs ≡ stored points (reads_of inputs funcs) store values funcs
+  pub run_store : (store : Store) (values : Values) (funcs : Planes) → run points inputs (s.Store store) values funcs ≡ stored points (reads_of inputs funcs)
+      store values funcs
   unfolding run
   run_store store values funcs =
       ap (λ statement. run points inputs statement values funcs) (sym (rolls-Store store))
       ∙ ap (λ (effect : Values → Planes → Planes). effect values funcs) (fold-roll-Stmt (Values → Planes → Planes) (run_at points inputs) (layer.Store store))
 
-  pub run_sequence : (first second : Stmt) (values : Values) (funcs : Planes) → run points inputs (s.Sequence first second) values funcs ≡ run points inputs second values (run points inputs first values funcs)
+  pub run_sequence : (first second : Stmt) (values : Values) (funcs : Planes) → run points inputs (s.Sequence first second) values funcs
+      ≡ run points inputs second values (run points inputs first values funcs)
   unfolding run
   run_sequence first second values funcs =
       ap (λ statement. run points inputs statement values funcs) (sym (rolls-Sequence first second))
-      ∙ ap (λ (effect : Values → Planes → Planes). effect values funcs) (fold-roll-Stmt (Values → Planes → Planes) (run_at points inputs) (layer.Sequence first second))
+      ∙ ap (λ (effect : Values → Planes → Planes). effect values funcs) (fold-roll-Stmt (Values → Planes
+      → Planes) (run_at points inputs) (layer.Sequence first second))
 
   pub run_for : (counter : Counter) (count : ℕ) (kind : LoopKind) (body : Stmt) (values : Values) (funcs : Planes)
       → run points inputs (s.For counter count kind body) values funcs ≡ turns count (λ turn. run points inputs body (with counter turn values)) funcs
   unfolding run
   run_for counter count kind body values funcs =
       ap (λ statement. run points inputs statement values funcs) (sym (rolls-For counter count kind body))
-      ∙ ap (λ (effect : Values → Planes → Planes). effect values funcs) (fold-roll-Stmt (Values → Planes → Planes) (run_at points inputs) (layer.For counter count kind body))
+      ∙ ap (λ (effect : Values → Planes → Planes). effect values funcs) (fold-roll-Stmt (Values → Planes
+      → Planes) (run_at points inputs) (layer.For counter count kind body))
 
   pub run_bind : (counter : Counter) (whole : Whole) (extent : ℕ) (body : Stmt) (values : Values) (funcs : Planes)
       → run points inputs (s.Bind counter whole extent body) values funcs
@@ -40,4 +44,5 @@ module _ (points : Points) (inputs : Planes) where
   unfolding run
   run_bind counter whole extent body values funcs =
       ap (λ statement. run points inputs statement values funcs) (sym (rolls-Bind counter whole extent body))
-      ∙ ap (λ (effect : Values → Planes → Planes). effect values funcs) (fold-roll-Stmt (Values → Planes → Planes) (run_at points inputs) (layer.Bind counter whole extent body))
+      ∙ ap (λ (effect : Values → Planes → Planes). effect values funcs) (fold-roll-Stmt (Values → Planes
+      → Planes) (run_at points inputs) (layer.Bind counter whole extent body))

@@ -44,7 +44,8 @@ both_made statement first second points now inputs values start middle end is sa
     ∙ sym (run_sequence points inputs first second values start)
     ∙ ap (λ own. run points inputs own values start) (sym is)
 
-pub loop_left : (statement body : Stmt) (counter : Counter) (count : ℕ) (kind : LoopKind) (points : Points) (inputs : Planes) (before : Values) (n : ℕ) (start end : Planes)
+pub loop_left : (statement body : Stmt) (counter : Counter) (count : ℕ) (kind : LoopKind) (points : Points) (inputs : Planes) (before : Values) (n : ℕ)
+    (start end : Planes)
     → statement ≡ s.For counter count kind body → n ≡ count
     → end ≡ turns n (λ turn. run points inputs body (with counter turn before)) start
     → end ≡ run points inputs statement before start
@@ -61,13 +62,15 @@ task_made points now inputs phase n start old new same so_far made =
     ∙ ap (run_task points inputs phase n) so_far
     ∙ sym (turns_more n (run_task points inputs phase) start)
 
-pub test_passed : (statement body own : Stmt) (counter : Counter) (whole : Whole) (extent value : ℕ) (points : Points) (inputs : Planes) (before entered : Values) (start end : Planes)
+pub test_passed : (statement body own : Stmt) (counter : Counter) (whole : Whole) (extent value : ℕ) (points : Points) (inputs : Planes)
+    (before entered : Values) (start end : Planes)
     → statement ≡ s.Bind counter whole extent body → own ≡ body → value ≡ whole_value whole before → value < extent → entered ≡ with counter value before
     → end ≡ run points inputs own entered start → end ≡ run points inputs statement before start
 test_passed statement body own counter whole extent value points inputs before entered start end is body_is value_is below enters made =
     made ∙ ap (λ one. run points inputs one entered start) body_is
     ∙ ap (λ values. run points inputs body values start) (enters ∙ ap (λ n. with counter n before) value_is)
-    ∙ sym (run_bind points inputs counter whole extent body before start ∙ rw (lt-ltb (whole_value whole before) extent (subst (λ n. n < extent) value_is below)) refl)
+    ∙ sym (run_bind points inputs counter whole extent body before start
+    ∙ rw (lt-ltb (whole_value whole before) extent (subst (λ n. n < extent) value_is below)) refl)
     ∙ ap (λ one. run points inputs one before start) (sym is)
 
 pub task_done : (points : Points) (inputs : Planes) (phase : Phase) (task : ℕ) (entered : Values) (start end : Planes)

@@ -86,7 +86,8 @@ abbrev pub at_once_at : Stmt-F Rounds → Values → Bool
 at_once_at (layer.Store store) values = true
 at_once_at (layer.Sequence first second) values = first.may_be_at_once values && second.may_be_at_once values
 at_once_at (layer.For counter count kind body) values =
-    (not (is_vectorized kind) || (is_round_count count && (body.is_one_store && (are_apart body (λ turn. with counter turn values) count && all_step_up body (λ turn. with counter turn values) count))))
+    (not (is_vectorized kind) || (is_round_count count && (body.is_one_store && (are_apart body (λ turn. with counter turn values) count
+    && all_step_up body (λ turn. with counter turn values) count))))
     && every count (λ turn. body.may_be_at_once (with counter turn values))
 at_once_at (layer.Bind counter whole extent body) values =
     if nat_lt (whole_value whole values) extent then body.may_be_at_once (with counter (whole_value whole values) values) else true

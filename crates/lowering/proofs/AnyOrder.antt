@@ -62,7 +62,8 @@ module _ (points : Points) (is_private : ℕ → Bool) (own : ℕ) (start result
   abbrev Ready : List ℕ → Planes → Type 0
   Ready order funcs = Hold points is_private own (owned_by order) start funcs
 
-  differs : (first second : ℕ) (others : List ℕ) → first < count → times first (second ∷ others) ≡ 0 → AreApart count (second ∷ others) → (x y : ℕ) → owned_by (second ∷ others) x y ≡ true
+  differs : (first second : ℕ) (others : List ℕ) → first < count → times first (second ∷ others) ≡ 0 → AreApart count (second ∷ others) → (x y : ℕ)
+      → owned_by (second ∷ others) x y ≡ true
       → (owned_by others x y ≡ true → owns first x y ≡ false) → (b : Bool) → owns second x y ≡ b → (a : Bool) → owns first x y ≡ a → owns first x y ≡ false
   unfolding owned_by
   differs first second others below none are x y e later b second_is false first_is = first_is
@@ -74,18 +75,21 @@ module _ (points : Points) (is_private : ℕ → Bool) (own : ℕ) (start result
       absurd (omega (arith, one, zero_times))
 
   -- another task owns none of these points
-  others_differ : (first : ℕ) (others : List ℕ) → first < count → times first others ≡ 0 → AreApart count others → (x y : ℕ) → owned_by others x y ≡ true → owns first x y ≡ false
+  others_differ : (first : ℕ) (others : List ℕ) → first < count → times first others ≡ 0 → AreApart count others → (x y : ℕ) → owned_by others x y ≡ true
+      → owns first x y ≡ false
   unfolding owned_by
   others_differ first [] below none are x y e = absurd cc
   others_differ first (second ∷ others) below none are x y e =
-      differs first second others below none are x y e (λ rest. others_differ first others below (omega (arith, none, more_counts first second others)) are.1.1 x y rest) (owns second x y) refl (owns first x y) refl
+      differs first second others below none are x y e (λ rest. others_differ first others below (omega (arith, none, more_counts first second others)) are.1.1
+      x y rest) (owns second x y) refl (owns first x y) refl
 
   abbrev Leaves : List ℕ → Planes → Planes → Type 0
   Leaves order funcs after =
       ((x y : ℕ) → owned_by order x y ≡ true → after own x y ≡ result own x y)
       × ((place x y : ℕ) → is_private place ≡ false → (place ≡ own → owned_by order x y ≡ false) → after place x y ≡ funcs place x y)
 
-  step : (first : ℕ) (others : List ℕ) (funcs before after : Planes) → AreApart count (first ∷ others) → ((place x y : ℕ) → is_private place ≡ false → before place x y ≡ funcs place x y)
+  step : (first : ℕ) (others : List ℕ) (funcs before after : Planes) → AreApart count (first ∷ others) → ((place x y : ℕ) → is_private place ≡ false
+      → before place x y ≡ funcs place x y)
       → Ready (first ∷ others) funcs → (Ready others (tasks first before) → Leaves others (tasks first before) after) → Leaves (first ∷ others) funcs after
   unfolding owned_by
   step first others funcs before after are same ready next = (does, keeps)
@@ -94,12 +98,14 @@ module _ (points : Points) (is_private : ℕ → Bool) (own : ℕ) (start result
       task = phase.each first are.0
 
       found : Hold points is_private own (owns first) start before
-      found place x y public_so at passes = same place x y public_so ∙ ready place x y public_so at (λ e. or_left (owns first x y) (owned_by others x y) (passes e))
+      found place x y public_so at passes = same place x y public_so
+          ∙ ready place x y public_so at (λ e. or_left (owns first x y) (owned_by others x y) (passes e))
 
       ready_next : Ready others (tasks first before)
       ready_next place x y public_so at passes =
           let free : place ≡ own → owns first x y ≡ false = λ e. others_differ first others are.0 are.1.0 are.1.1 x y (passes e) in
-          task.keeps before found place x y public_so free ∙ same place x y public_so ∙ ready place x y public_so at (λ e. or_right (owns first x y) (owned_by others x y) (passes e))
+          task.keeps before found place x y public_so free ∙ same place x y public_so
+          ∙ ready place x y public_so at (λ e. or_right (owns first x y) (owned_by others x y) (passes e))
 
       left : Leaves others (tasks first before) after
       left = next ready_next
@@ -122,7 +128,8 @@ module _ (points : Points) (is_private : ℕ → Bool) (own : ℕ) (start result
           let parts : place ≡ own → (owns first x y ≡ false) × (owned_by others x y ≡ false) = λ e. or_parts (owns first x y) (owned_by others x y) (free e) in
           left.1 place x y public_so (λ e. (parts e).1) ∙ task.keeps before found place x y public_so (λ e. (parts e).0) ∙ same place x y public_so
 
-  leaves : (order : List ℕ) (funcs after : Planes) → AreApart count order → Ready order funcs → Done is_private tasks order funcs after → Leaves order funcs after
+  leaves : (order : List ℕ) (funcs after : Planes) → AreApart count order → Ready order funcs → Done is_private tasks order funcs after
+      → Leaves order funcs after
   unfolding owned_by
   leaves _ funcs _ are ready (Nothing _) = (λ x y e. absurd cc, λ place x y public_so free. refl)
   leaves _ funcs after are ready (Task first others _ before _ same done) =
@@ -135,11 +142,13 @@ module _ (points : Points) (is_private : ℕ → Bool) (own : ℕ) (start result
   owned_in (first ∷ others) number x y there e = elim (cases_eq first number) [
     | inl same ↦ or_left (owns first x y) (owned_by others x y) (subst (λ (n : ℕ). owns n x y ≡ true) (sym same) e)
     | inr other ↦
-        let count_is : times number (first ∷ others) ≡ 0 + times number others = ap (λ (b : Bool). cond b 1 0 + times number others) (ne_eqb first number other) in
+        let count_is : times number (first ∷ others) ≡ 0 + times number others = ap (λ (b : Bool). cond b 1 0 + times number others) (ne_eqb first number other)
+        in
         or_right (owns first x y) (owned_by others x y) (owned_in others number x y (omega (arith, there, count_is)) e)
   ]
 
-  module _ (order : List ℕ) (is : IsOrder count order) (funcs after : Planes) (holds : (place x y : ℕ) → is_private place ≡ false → points place x y ≡ true → funcs place x y ≡ start place x y)
+  module _ (order : List ℕ) (is : IsOrder count order) (funcs after : Planes) (holds : (place x y : ℕ) → is_private place ≡ false → points place x y ≡ true
+      → funcs place x y ≡ start place x y)
       (done : Done is_private tasks order funcs after) where
     left : Leaves order funcs after
     left = leaves order funcs after (of_order count order is) (λ p a b public_there there passes. holds p a b public_there there) done

@@ -82,7 +82,8 @@ module _ (pipeline : Pipeline) (schedule : Schedule) (boxes : Boxes) (rules : Is
   abbrev row_in : ℕ → ℕ
   row_in j = in_place (is_second_in_place update) j
 
-  module _ (inner : loops.Values) (v : IsVisitOf func (Some update) extents (visit_of extents inner)) (reduced : inner (ids.Whole variables.FirstReduction) < update.first.extent) where
+  module _ (inner : loops.Values) (v : IsVisitOf func (Some update) extents (visit_of extents inner)) (reduced : inner (ids.Whole variables.FirstReduction)
+      < update.first.extent) where
     abbrev visit : Visit
     visit = visit_of extents inner
 
@@ -97,28 +98,34 @@ module _ (pipeline : Pipeline) (schedule : Schedule) (boxes : Boxes) (rules : Is
 
     -- ---- the visit
 
-    parts : (nat_lt visit.x (extent_in func (Some update) extents variables.FirstArgument) ≡ true) × (nat_lt visit.y (extent_in func (Some update) extents variables.SecondArgument) ≡ true)
-    parts = and_parts (nat_lt visit.x (extent_in func (Some update) extents variables.FirstArgument)) (nat_lt visit.y (extent_in func (Some update) extents variables.SecondArgument)) v.slice
+    parts : (nat_lt visit.x (extent_in func (Some update) extents variables.FirstArgument) ≡ true)
+        × (nat_lt visit.y (extent_in func (Some update) extents variables.SecondArgument) ≡ true)
+    parts = and_parts (nat_lt visit.x (extent_in func (Some update) extents variables.FirstArgument)) (nat_lt visit.y (extent_in func (Some update) extents
+        variables.SecondArgument)) v.slice
 
     below_by : (has : Bool) (n far : ℕ) → 1 ≤ n → nat_lt far (cond has n 1) ≡ true → far < n
     below_by true n far some e = ltb-true far n e
     below_by false n far some e = omega (arith, ltb-true far 1 e, some)
 
     across : visit.x < extent own.x
-    across = below_by (has_variable variables.FirstArgument (first_loops func (Some update))) (extent own.x) visit.x (omega (arith, produced.box.x.ordered)) parts.0
+    across = below_by (has_variable variables.FirstArgument (first_loops func (Some update))) (extent own.x) visit.x (omega (arith, produced.box.x.ordered))
+        parts.0
 
     down : visit.y < extent own.y
-    down = below_by (has_variable variables.SecondArgument (first_loops func (Some update))) (extent own.y) visit.y (omega (arith, produced.box.y.ordered)) parts.1
+    down = below_by (has_variable variables.SecondArgument (first_loops func (Some update))) (extent own.y) visit.y (omega (arith, produced.box.y.ordered))
+        parts.1
 
     -- what isn't in place stays 0
     no_column : is_first_in_place update ≡ false → visit.x ≡ 0
     no_column e =
-        let l : nat_lt visit.x (cond false (extent own.x) 1) ≡ true = ap (λ (b : Bool). nat_lt visit.x (cond b (extent own.x) 1)) (sym (has_first func update ∙ e)) ∙ parts.0 in
+        let l : nat_lt visit.x (cond false (extent own.x) 1) ≡ true = ap (λ (b : Bool). nat_lt visit.x (cond b (extent own.x) 1)) (sym (has_first func update
+        ∙ e)) ∙ parts.0 in
         omega (arith, ltb-true visit.x 1 l)
 
     no_row : is_second_in_place update ≡ false → visit.y ≡ 0
     no_row e =
-        let l : nat_lt visit.y (cond false (extent own.y) 1) ≡ true = ap (λ (b : Bool). nat_lt visit.y (cond b (extent own.y) 1)) (sym (no_second func update e)) ∙ parts.1 in
+        let l : nat_lt visit.y (cond false (extent own.y) 1) ≡ true = ap (λ (b : Bool). nat_lt visit.y (cond b (extent own.y) 1))
+        (sym (no_second func update e)) ∙ parts.1 in
         omega (arith, ltb-true visit.y 1 l)
 
     pub wide : extent own.x ≤ 2 ^ 32
@@ -153,31 +160,38 @@ module _ (pipeline : Pipeline) (schedule : Schedule) (boxes : Boxes) (rules : Is
     second_most = second_few update box_rule
 
     second_whole : inner (ids.Whole variables.SecondReduction) < 2 ^ 32
-    second_whole = whole_small (inner (ids.Whole variables.SecondReduction)) update.first.extent (inner (ids.Whole variables.FirstReduction)) (second_extent update.second) first_few.0 first_few.1 second_most.1 few_points
+    second_whole = whole_small (inner (ids.Whole variables.SecondReduction)) update.first.extent (inner (ids.Whole variables.FirstReduction))
+        (second_extent update.second) first_few.0 first_few.1 second_most.1 few_points
 
     second_is : (second : Option Reduction) → second_reduced now place second ≡ second_value second (visit.number / update.first.extent)
     second_is None = refl
     second_is (Some reduction) =
         add_turned (whole_at now place variables.SecondReduction) reduction.minimum
         ∙ ap (word.add reduction.minimum)
-        (stands_now variables.SecondReduction second_whole ∙ sym (quotient_is update box_rule (inner (ids.Whole variables.FirstReduction)) (inner (ids.Whole variables.SecondReduction)) reduced))
+        (stands_now variables.SecondReduction second_whole
+        ∙ sym (quotient_is update box_rule (inner (ids.Whole variables.FirstReduction)) (inner (ids.Whole variables.SecondReduction)) reduced))
 
     pub point_is : visited_point now place corner update ≡ at_reduction update visit.number x y
     point_is =
-        same_point (word.add (whole_at now place variables.FirstArgument) (linear_value now corner.x)) (word.add (whole_at now place variables.SecondArgument) (linear_value now corner.y))
+        same_point (word.add (whole_at now place variables.FirstArgument) (linear_value now corner.x)) (word.add (whole_at now place variables.SecondArgument)
+        (linear_value now corner.y))
         (word.add (whole_at now place variables.FirstReduction) update.first.minimum) (second_reduced now place update.second)
         x y (word.add update.first.minimum (visit.number % update.first.extent)) (second_value update.second (visit.number / update.first.extent))
-        (ap (λ (n : ℕ). word.add n (linear_value now corner.x)) (stands_now variables.FirstArgument (omega (arith, across, wide))) ∙ ap (word.add visit.x) (corner_is inner).0)
-        (ap (λ (n : ℕ). word.add n (linear_value now corner.y)) (stands_now variables.SecondArgument (omega (arith, down, high))) ∙ ap (word.add visit.y) (corner_is inner).1)
+        (ap (λ (n : ℕ). word.add n (linear_value now corner.x)) (stands_now variables.FirstArgument (omega (arith, across, wide)))
+        ∙ ap (word.add visit.x) (corner_is inner).0)
+        (ap (λ (n : ℕ). word.add n (linear_value now corner.y)) (stands_now variables.SecondArgument (omega (arith, down, high)))
+        ∙ ap (word.add visit.y) (corner_is inner).1)
         (add_turned (whole_at now place variables.FirstReduction) update.first.minimum
         ∙ ap (word.add update.first.minimum)
-        (stands_now variables.FirstReduction (omega (arith, reduced, first_few.1)) ∙ sym (remainder_is update box_rule (inner (ids.Whole variables.FirstReduction)) (inner (ids.Whole variables.SecondReduction)) reduced)))
+        (stands_now variables.FirstReduction (omega (arith, reduced, first_few.1))
+        ∙ sym (remainder_is update box_rule (inner (ids.Whole variables.FirstReduction)) (inner (ids.Whole variables.SecondReduction)) reduced)))
         (second_is update.second)
 
     -- ---- its slice
 
     -- a point of the slice, counted from the corner
-    in_slice : (test : Bool) (argument n c far : ℕ) → (test ≡ true → n ≡ argument) → argument ≡ word.add far c → (test ≡ false → far ≡ 0) → far < 2 ^ 32 → c < 2 ^ 32 → in_place test (word.subtract n c) ≡ far
+    in_slice : (test : Bool) (argument n c far : ℕ) → (test ≡ true → n ≡ argument) → argument ≡ word.add far c → (test ≡ false → far ≡ 0) → far < 2 ^ 32
+        → c < 2 ^ 32 → in_place test (word.subtract n c) ≡ far
     in_slice true argument n c far same is zero_so few small =
         ap (λ (m : ℕ). word.subtract m c) (same refl ∙ is ∙ add_turned far c) ∙ on_back c far few small
     in_slice false argument n c far same is zero_so few small = sym (zero_so refl)
@@ -188,10 +202,12 @@ module _ (pipeline : Pipeline) (schedule : Schedule) (boxes : Boxes) (rules : Is
     row_of : (b : ℕ) → (is_second_in_place update ≡ true → b ≡ y) → row_in (word.subtract b begin.y) ≡ visit.y
     row_of b same = in_slice (is_second_in_place update) y b begin.y visit.y same refl no_row (omega (arith, down, high)) begins.y.word
 
-    pub on_slice : (a b : ℕ) → IsInPlace update x y (record { source = sources.Func place; x = a; y = b }) → is_visited update (word.subtract a begin.x) (word.subtract b begin.y) visit ≡ true
+    pub on_slice : (a b : ℕ) → IsInPlace update x y (record { source = sources.Func place; x = a; y = b })
+        → is_visited update (word.subtract a begin.x) (word.subtract b begin.y) visit ≡ true
     on_slice a b stays =
         and_from (visit.x == column_in (word.subtract a begin.x)) (visit.y == row_in (word.subtract b begin.y))
-        (eq-eqb visit.x (column_in (word.subtract a begin.x)) (sym (column_of a stays.first))) (eq-eqb visit.y (row_in (word.subtract b begin.y)) (sym (row_of b stays.second)))
+        (eq-eqb visit.x (column_in (word.subtract a begin.x)) (sym (column_of a stays.first))) (eq-eqb visit.y (row_in (word.subtract b begin.y))
+        (sym (row_of b stays.second)))
 
     pub boxed_at : (a b : ℕ) → LiesIn values own a b → has_point (Some own) (word.subtract a begin.x) (word.subtract b begin.y) ≡ true
     boxed_at a b inside_it =

@@ -19,7 +19,8 @@ stride_is more less = omega arith
 
 -- ---- sums
 
-sum_last : (values : Values) (terms : List Term) (counter : Counter) (stride : ℕ) → sum_of values (terms ++ record { counter = counter; stride = stride } ∷ []) ≡ sum_of values terms + values counter * stride
+sum_last : (values : Values) (terms : List Term) (counter : Counter) (stride : ℕ) → sum_of values (terms ++ record { counter = counter; stride = stride } ∷ [])
+    ≡ sum_of values terms + values counter * stride
 sum_last values [] counter stride = omega arith
 sum_last values (first ∷ terms) counter stride = omega (arith, sum_last values terms counter stride)
 
@@ -30,14 +31,16 @@ times_turned : (a b : ℕ) → a * b ≡ b * a
 times_turned a b = mul_comm a b
 
 pub term_more : (values : Values) (terms : List Term) (counter : Counter) (stride more less : ℕ) → (stride + less) % 2 ^ 32 ≡ more % 2 ^ 32
-    → (sum_of values (terms ++ record { counter = counter; stride = stride } ∷ []) + less * values counter) % 2 ^ 32 ≡ (sum_of values terms + more * values counter) % 2 ^ 32
+    → (sum_of values (terms ++ record { counter = counter; stride = stride } ∷ []) + less * values counter) % 2 ^ 32
+    ≡ (sum_of values terms + more * values counter) % 2 ^ 32
 term_more values terms counter stride more less e =
     let v = values counter in
     let same = times_same v (stride + less) more e in
     let parts : v * (stride + less) ≡ v * stride + v * less = mul-add v stride less in
     omega (arith, same, parts, sum_last values terms counter stride, times_turned less v, times_turned more v)
 
-pub sums_follow : (old mid new more less more_rest less_rest : ℕ) → (mid + less) % 2 ^ 32 ≡ (old + more) % 2 ^ 32 → (new + less_rest) % 2 ^ 32 ≡ (mid + more_rest) % 2 ^ 32
+pub sums_follow : (old mid new more less more_rest less_rest : ℕ) → (mid + less) % 2 ^ 32 ≡ (old + more) % 2 ^ 32
+    → (new + less_rest) % 2 ^ 32 ≡ (mid + more_rest) % 2 ^ 32
     → (new + (less + less_rest)) % 2 ^ 32 ≡ (old + (more + more_rest)) % 2 ^ 32
 sums_follow old mid new more less more_rest less_rest e f = omega (arith, e, f)
 
@@ -47,6 +50,7 @@ pub begins_at : (values : Values) (terms : List Term) (range : Range) (turns : L
 unfolding linear_value word.add word.subtract
 begins_at values terms range turns number n e = omega (arith, n, e)
 
-pub added_is : (values : Values) (a : ℕ) (second : Linear) → word.subtract a (word.subtract 0 (linear_value values second)) ≡ word.add a (linear_value values second)
+pub added_is : (values : Values) (a : ℕ) (second : Linear) → word.subtract a (word.subtract 0 (linear_value values second))
+    ≡ word.add a (linear_value values second)
 unfolding linear_value word.add word.subtract
 added_is values a second = omega arith

@@ -2,7 +2,8 @@
 --
 -- In each turn the Funcs that are computed at a loop, or at one outside of it, have their pixels in their buffers, each from the corner of its box
 -- in these turns on.
-use Rattle.std.proofs.Common.{◌≡◌, ℕ, zero, suc, ◌+◌, ◌<◌, ◌≤◌, Bool, true, false, cond, List, [], ◌∷◌, ◌++◌, length, take, drop, Option, Some, None, refl, sym, ap, subst, ◌∙◌, arith, inl, inr, true≢false, length-append, append_assoc}
+use Rattle.std.proofs.Common.{◌≡◌, ℕ, zero, suc, ◌+◌, ◌<◌, ◌≤◌, Bool, true, false, cond, List, [], ◌∷◌, ◌++◌, length, take, drop, Option, Some, None, refl, sym}
+use Rattle.std.proofs.Common.{ap, subst, ◌∙◌, arith, inl, inr, true≢false, length-append, append_assoc}
 use Rattle.std.specs.Prelude.{◌==◌, ◌&&◌, ◌||◌, slice_get, nat_lt, Contains, Ok}
 use Rattle.std.specs.List.{AllByRecursion, list_any}
 use Rattle.std.proofs.lemmas.Bool.{and_parts, or_parts, cases_eq, eqb-true, ltb-true}
@@ -59,7 +60,8 @@ use Rattle.loop_ir.specs.Running.{run, turns}
 use Rattle.lowering_nests.specs.Nests.{put_loops, all, AreSmall, Repeats}
 use Rattle.lowering_expressions.specs.Lowering.{placed}
 use Rattle.lowering.specs.Corners.{first_of, turns_for, turns_at}
-use Rattle.lowering.specs.Consuming.{consuming, Holds, Keeps, Leaves, IsAnswered, AreUpdatesAnswered, DoesNests, IsNestAt, HasNests, None_left, One_more, HasLoops, No_loops, One_outside}
+use Rattle.lowering.specs.Consuming.{consuming, Holds, Keeps, Leaves, IsAnswered, AreUpdatesAnswered, DoesNests, IsNestAt, HasNests, None_left, One_more}
+use Rattle.lowering.specs.Consuming.{HasLoops, No_loops, One_outside}
 use Rattle.lowering.specs.Planes.{box_points}
 use Rattle.lowering.specs.PurePhases.{IsStoreOf}
 use Rattle.bounds.specs.Stages.{IsComputedAt, IsAtRoot}
@@ -68,7 +70,8 @@ use Rattle.lowering_nests.proofs.Few.{few_turns}
 use Rattle.schedule_loops.proofs.Ids.{with_same}
 use Rattle.lowering.proofs.Filling.{loops_consuming}
 use Rattle.lowering.proofs.Lists.{all_upto}
-use Rattle.lowering.proofs.LoopTurns.{count_at, counted_is, count_found, count_first, drop_front, turns_drop, turns_take, turns_with, none_outside, turns_stay, consuming_with, small_with, nest_takes, all_contained}
+use Rattle.lowering.proofs.LoopTurns.{count_at, counted_is, count_found, count_first, drop_front, turns_drop, turns_take, turns_with, none_outside, turns_stay}
+use Rattle.lowering.proofs.LoopTurns.{consuming_with, small_with, nest_takes, all_contained}
 use Rattle.lowering.proofs.Painting.{Writes, Paints, paints}
 use Rattle.lowering.proofs.Offsets.{more_none, less_none}
 use Rattle.lowering.proofs.SplitsApart.{loops_put, turns_kept}
@@ -93,7 +96,8 @@ one_loop a b p e f = cc
 not_root : (p : Place) (loop : LoopPlace) → p ≡ places.At loop → p ≡ places.Root → ⊥
 not_root p loop e f = cc
 
-module _ (pipeline : Pipeline) (schedule : Schedule) (boxes : Boxes) (rules : IsWellFormed pipeline) (accepted : IsAccepted pipeline schedule) (is : inferred pipeline schedule ≡ Ok boxes)
+module _ (pipeline : Pipeline) (schedule : Schedule) (boxes : Boxes) (rules : IsWellFormed pipeline) (accepted : IsAccepted pipeline schedule)
+    (is : inferred pipeline schedule ≡ Ok boxes)
     (consumer : ℕ) (func : Func) (plan : FuncPlan) (own : SourceBox) (at : IsAtRoot pipeline schedule boxes consumer func plan own)
     (inputs : Planes) (begun : AnswerWords pipeline.inputs (reads_of inputs (pixels pipeline.funcs inputs 0))) where
   abbrev extents : Extents
@@ -131,7 +135,8 @@ module _ (pipeline : Pipeline) (schedule : Schedule) (boxes : Boxes) (rules : Is
   produced_loop : (k : ℕ) (loop other : LoopPlace) → IsProduced k loop → IsProduced k other → loop ≡ other
   produced_loop k loop other h g = one_loop loop other h.standing.place h.placed_is (one_place k h.standing g.standing h.there g.there ∙ g.placed_is)
 
-  pub root_not_produced : (k : ℕ) (standing : Standing) → IsReached schedule.standings k standing → standing.place ≡ places.Root → (loop : LoopPlace) → IsProduced k loop → ⊥
+  pub root_not_produced : (k : ℕ) (standing : Standing) → IsReached schedule.standings k standing → standing.place ≡ places.Root → (loop : LoopPlace)
+      → IsProduced k loop → ⊥
   root_not_produced k standing there root loop h = not_root standing.place loop (one_place k standing h.standing there h.there ∙ h.placed_is) root
 
   pub before_consumer : (k : ℕ) (loop : LoopPlace) → IsProduced k loop → k < consumer
@@ -140,7 +145,8 @@ module _ (pipeline : Pipeline) (schedule : Schedule) (boxes : Boxes) (rules : Is
   consumer_of : (k : ℕ) (loop : LoopPlace) → IsProduced k loop → IsConsumer pipeline schedule.funcs k loop
   consumer_of k loop h =
       let here : 0 + k ≡ k = omega arith in
-      subst (λ (n : ℕ). IsConsumer pipeline schedule.funcs n loop) here (numbered_at (HasConsumer pipeline schedule.funcs) 0 schedule.standings accepted.consumers k h.standing h.there.standing loop h.placed_is)
+      subst (λ (n : ℕ). IsConsumer pipeline schedule.funcs n loop) here (numbered_at (HasConsumer pipeline schedule.funcs) 0 schedule.standings
+      accepted.consumers k h.standing h.there.standing loop h.placed_is)
 
   same_plan : (a b : FuncPlan) → Some a ≡ Some b → a ≡ b
   same_plan a b e = cc
@@ -175,13 +181,16 @@ module _ (pipeline : Pipeline) (schedule : Schedule) (boxes : Boxes) (rules : Is
   abbrev KeepsOuter : ℕ → Planes → Planes → Type 0
   KeepsOuter inner funcs after = (k x y : ℕ) → IsOuter inner k → after k x y ≡ funcs k x y
 
-  shared_kept : (funcs after : Planes) → ((k standing_at : ℕ) → Unit {0}) → ((k x y : ℕ) (standing : Standing) → k < consumer → IsReached schedule.standings k standing → standing.place ≡ places.Root → after k x y ≡ funcs k x y)
+  shared_kept : (funcs after : Planes) → ((k standing_at : ℕ) → Unit {0}) → ((k x y : ℕ) (standing : Standing) → k < consumer
+      → IsReached schedule.standings k standing → standing.place ≡ places.Root → after k x y ≡ funcs k x y)
       → Shared funcs → Shared after
-  shared_kept funcs after u keeps shared k standing below there root box box_is x y lx ly = keeps k x y standing below there root ∙ shared k standing below there root box box_is x y lx ly
+  shared_kept funcs after u keeps shared k standing below there root box box_is x y lx ly = keeps k x y standing below there root
+      ∙ shared k standing below there root box box_is x y lx ly
 
   -- ---- a Func that is computed at a loop
 
-  module _ (inside : List Loop) (mid : Loop) (outside : List Loop) (loops_are : loops_in ≡ inside ++ mid ∷ outside) (turned : loops.Values) (are : AreTurns counts (mid ∷ outside) turned) where
+  module _ (inside : List Loop) (mid : Loop) (outside : List Loop) (loops_are : loops_in ≡ inside ++ mid ∷ outside) (turned : loops.Values)
+      (are : AreTurns counts (mid ∷ outside) turned) where
     unique_here : Unique (inside ++ mid ∷ outside)
     unique_here = subst Unique loops_are unique
 
@@ -207,7 +216,8 @@ module _ (pipeline : Pipeline) (schedule : Schedule) (boxes : Boxes) (rules : Is
         (turns_below extents plan.pure.splits turned inside (mid ∷ outside) loops_in loops_are are)
 
     pub turns_are : turns_for schedule.funcs (places.At loop_here) (consuming consumer turned) ≡ values_in plan mid.id turned
-    turns_are = ap (λ (p : Option FuncPlan). turns_at loop_here p (consuming consumer turned)) at.plan_is ∙ ap (values_in plan mid.id) (loops_consuming consumer turned)
+    turns_are = ap (λ (p : Option FuncPlan). turns_at loop_here p (consuming consumer turned)) at.plan_is
+        ∙ ap (values_in plan mid.id) (loops_consuming consumer turned)
 
     -- the Funcs at this loop that stand before one have their pixels
     abbrev HeldBefore : ℕ → Planes → Type 0
@@ -221,7 +231,8 @@ module _ (pipeline : Pipeline) (schedule : Schedule) (boxes : Boxes) (rules : Is
     unfolding consumer_loop_in
     lasts_in_consumer id = refl
 
-    module _ (g : ℕ) (nested : Func) (nested_plan : FuncPlan) (box : SourceBox) (parts : IsComputedAt pipeline schedule boxes (places.At loop_here) g nested nested_plan box) where
+    module _ (g : ℕ) (nested : Func) (nested_plan : FuncPlan) (box : SourceBox) (parts : IsComputedAt pipeline schedule boxes (places.At loop_here) g nested
+        nested_plan box) where
       pub produced_here : IsProduced g loop_here
       produced_here = record { standing = parts.standing; there = parts.there; placed_is = parts.placed_is; same = refl }
 
@@ -232,21 +243,26 @@ module _ (pipeline : Pipeline) (schedule : Schedule) (boxes : Boxes) (rules : Is
       below =
           subst (λ (l : List ℕ). Below (values_in plan mid.id turned) l)
           (sym (lasts_are pipeline schedule boxes g nested nested_plan box accepted is (places.At loop_here) g_before parts
-          ∙ ap lasts_of (consumer_is schedule boxes.funcs (places.At loop_here) loop_here consumer plan own refl refl at.plan_is at.box_is) ∙ lasts_in_consumer mid.id))
+          ∙ ap lasts_of (consumer_is schedule boxes.funcs (places.At loop_here) loop_here consumer plan own refl refl at.plan_is at.box_is)
+          ∙ lasts_in_consumer mid.id))
           below_lasts
 
-      pub stands_inside : (k : ℕ) (w : IsReadWithin schedule g k) (loop : LoopPlace) → w.own.place ≡ places.At loop → StandsAt schedule loop g → (loop.func ≡ consumer) × (length inside ≤ inner_count loop.inside loops_in)
+      pub stands_inside : (k : ℕ) (w : IsReadWithin schedule g k) (loop : LoopPlace) → w.own.place ≡ places.At loop → StandsAt schedule loop g
+          → (loop.func ≡ consumer) × (length inside ≤ inner_count loop.inside loops_in)
       stands_inside k w loop placed (HasLoop e) =
-          let r : IsRootReached schedule.standings loop.func = numbered_at (HasConsumerAtRoot schedule.standings) 0 schedule.standings accepted.consumers_at_root k w.own w.there.standing w.there.reached loop placed in
+          let r : IsRootReached schedule.standings loop.func = numbered_at (HasConsumerAtRoot schedule.standings) 0 schedule.standings
+          accepted.consumers_at_root k w.own w.there.standing w.there.reached loop placed in
           absurd (root_not_produced g r.own (subst (λ (n : ℕ). IsReached schedule.standings n r.own) (sym e) r.there) r.root loop_here produced_here)
       stands_inside k w loop placed (IsWithin standing other there other_placed within) =
-          let same : loop_here ≡ other = one_loop loop_here other parts.standing.place parts.placed_is (one_place g parts.standing standing parts.there there ∙ other_placed) in
+          let same : loop_here ≡ other = one_loop loop_here other parts.standing.place parts.placed_is (one_place g parts.standing standing parts.there there
+          ∙ other_placed) in
           let p = and_parts (other.func == loop.func) (comes_first other.inside loop.inside (pure_loops_of (slice_get schedule.funcs other.func))) within in
           let f : other.func ≡ loop.func = eqb-true other.func loop.func p.0 in
           let is_consumer : consumer ≡ other.func = ap (λ (l : LoopPlace). l.func) same in
           let first : comes_first mid.id loop.inside loops_in ≡ true =
           ap (λ (l : LoopPlace). comes_first l.inside loop.inside loops_in) same
-          ∙ sym (ap (λ (q : Option FuncPlan). comes_first other.inside loop.inside (pure_loops_of q)) (ap (λ (n : ℕ). slice_get schedule.funcs n) (sym is_consumer) ∙ at.plan_is)) ∙ p.1 in
+          ∙ sym (ap (λ (q : Option FuncPlan). comes_first other.inside loop.inside (pure_loops_of q)) (ap (λ (n : ℕ). slice_get schedule.funcs n)
+          (sym is_consumer) ∙ at.plan_is)) ∙ p.1 in
           (sym (is_consumer ∙ f), omega (arith, count_first mid.id loop.inside loops_in first, mid_count))
 
       pub of_consumer : (k : ℕ) (w : IsReadWithin schedule g k) (loop : LoopPlace) → w.own.place ≡ places.At loop → loop.func ≡ consumer
@@ -260,7 +276,8 @@ module _ (pipeline : Pipeline) (schedule : Schedule) (boxes : Boxes) (rules : Is
             → (other : SourceBox) → slice_get boxes.funcs k ≡ Some (Some other) → Holds k other no_loops (pixels pipeline.funcs inputs g k) funcs
         roots_hold k standing before there root other other_is x y lx ly =
             begins.state.shared k standing (omega (arith, before, g_before)) there root other other_is x y lx ly
-            ∙ pixels_fewer pipeline.funcs inputs consumer g k (word.add (first_of other.x no_loops) x) (word.add (first_of other.y no_loops) y) before (omega (arith, g_before))
+            ∙ pixels_fewer pipeline.funcs inputs consumer g k (word.add (first_of other.x no_loops) x) (word.add (first_of other.y no_loops) y) before
+            (omega (arith, g_before))
 
         holds_by : (k : ℕ) (w : IsReadWithin schedule g k) (loop : LoopPlace) (placed : w.own.place ≡ places.At loop) → HoldsAt turned k loop funcs
         holds_by k w loop placed = elim (cases_eq (inner_count loop.inside loops_in) (length inside)) [
@@ -269,24 +286,31 @@ module _ (pipeline : Pipeline) (schedule : Schedule) (boxes : Boxes) (rules : Is
         ]
 
         loops_hold : (k : ℕ) (w : IsReadWithin schedule g k) (loop : LoopPlace) → w.own.place ≡ places.At loop
-            → (other : SourceBox) → slice_get boxes.funcs k ≡ Some (Some other) → Holds k other (values_in plan loop.inside turned) (pixels pipeline.funcs inputs g k) funcs
+            → (other : SourceBox) → slice_get boxes.funcs k ≡ Some (Some other)
+            → Holds k other (values_in plan loop.inside turned) (pixels pipeline.funcs inputs g k) funcs
         loops_hold k w loop placed other other_is x y lx ly =
             holds_by k w loop placed other other_is x y lx ly
-            ∙ pixels_fewer pipeline.funcs inputs consumer g k (word.add (first_of other.x (values_in plan loop.inside turned)) x) (word.add (first_of other.y (values_in plan loop.inside turned)) y) w.before (omega (arith, g_before))
+            ∙ pixels_fewer pipeline.funcs inputs consumer g k (word.add (first_of other.x (values_in plan loop.inside turned)) x)
+            (word.add (first_of other.y (values_in plan loop.inside turned)) y) w.before (omega (arith, g_before))
 
-        reads_answered : (values : List ℕ) → values ≡ values_in plan mid.id turned → IsAnswered pipeline schedule boxes consumer g nested box values inputs turned funcs
+        reads_answered : (values : List ℕ) → values ≡ values_in plan mid.id turned → IsAnswered pipeline schedule boxes consumer g nested box values inputs
+            turned funcs
         reads_answered values e corners are_corners counters counters_are now keeps x y lies =
             let lies_here : LiesIn (values_in plan mid.id turned) box x y = subst (λ (l : List ℕ). LiesIn l box x y) e lies in
-            answered pipeline schedule boxes rules accepted is (places.At loop_here) g nested nested_plan box g_before parts inputs begun consumer func plan own at turned funcs roots_hold of_consumer loops_hold
+            answered pipeline schedule boxes rules accepted is (places.At loop_here) g nested nested_plan box g_before parts inputs begun consumer func plan own
+            at turned funcs roots_hold of_consumer loops_hold
             counters (λ id. ap (values_in plan id) counters_are) corners are_corners now keeps (values_in plan mid.id turned) below x y lies_here
             (λ k w loop placed. (turns_here, lies_here))
 
-        updates_answered : (values : List ℕ) → values ≡ values_in plan mid.id turned → AreUpdatesAnswered pipeline schedule boxes consumer g nested box values inputs turned funcs
+        updates_answered : (values : List ℕ) → values ≡ values_in plan mid.id turned → AreUpdatesAnswered pipeline schedule boxes consumer g nested box values
+            inputs turned funcs
         updates_answered values e corners are_corners counters counters_are now keeps number_at update update_is number x y few lies own_plane words =
             let lies_here : LiesIn (values_in plan mid.id turned) box x y = subst (λ (l : List ℕ). LiesIn l box x y) e lies in
-            answered_beside pipeline schedule boxes rules accepted is (places.At loop_here) g nested nested_plan box g_before parts inputs begun consumer func plan own at turned funcs roots_hold of_consumer loops_hold
+            answered_beside pipeline schedule boxes rules accepted is (places.At loop_here) g nested nested_plan box g_before parts inputs begun consumer func
+            plan own at turned funcs roots_hold of_consumer loops_hold
             counters (λ id. ap (values_in plan id) counters_are) corners are_corners now keeps (values_in plan mid.id turned) below x y lies_here
-            (λ k w loop placed. (turns_here, lies_here)) number_at update update_is number few (reads_of inputs (with_plane g own_plane (pixels pipeline.funcs inputs g))) words
+            (λ k w loop placed. (turns_here, lies_here)) number_at update update_is number few
+            (reads_of inputs (with_plane g own_plane (pixels pipeline.funcs inputs g))) words
 
         -- what its nest leaves
         module _ (made : Stmt) (does : DoesNests pipeline schedule boxes loop_here g nested box (length nested.updates) made) where
@@ -308,14 +332,17 @@ module _ (pipeline : Pipeline) (schedule : Schedule) (boxes : Boxes) (rules : Is
           holds_after other other_is =
               subst (λ (b : SourceBox). Holds g b (values_in plan mid.id turned) (pixel g) after) (same_box box other (sym parts.box_is ∙ other_is))
               (λ x y lx ly. leaves.holds x y lx ly
-              ∙ sym (pixels_before pipeline.funcs inputs consumer g (word.add (first_of box.x (values_in plan mid.id turned)) x) (word.add (first_of box.y (values_in plan mid.id turned)) y) g_before
-              ∙ ap (λ (f : Option Func). func_plane g f inputs (pixels pipeline.funcs inputs g) (word.add (first_of box.x (values_in plan mid.id turned)) x) (word.add (first_of box.y (values_in plan mid.id turned)) y)) parts.func_is))
+              ∙ sym (pixels_before pipeline.funcs inputs consumer g (word.add (first_of box.x (values_in plan mid.id turned)) x)
+              (word.add (first_of box.y (values_in plan mid.id turned)) y) g_before
+              ∙ ap (λ (f : Option Func). func_plane g f inputs (pixels pipeline.funcs inputs g) (word.add (first_of box.x (values_in plan mid.id turned)) x)
+              (word.add (first_of box.y (values_in plan mid.id turned)) y)) parts.func_is))
 
           begins_after : Begins (suc g) after
           begins_after = record {
             state = record {
               shared = λ k standing before there root other other_is x y lx ly.
-                  leaves.keeps k x y (λ e. root_not_produced k standing there root loop_here (subst (λ (n : ℕ). IsProduced n loop_here) (sym e) produced_here)) ∙ begins.state.shared k standing before there root other other_is x y lx ly;
+                  leaves.keeps k x y (λ e. root_not_produced k standing there root loop_here (subst (λ (n : ℕ). IsProduced n loop_here) (sym e) produced_here))
+                  ∙ begins.state.shared k standing before there root other other_is x y lx ly;
               produced = λ k loop h further other other_is x y lx ly.
                   leaves.keeps k x y (λ e.
                   let one : loop ≡ loop_here = produced_loop g loop loop_here (subst (λ (n : ℕ). IsProduced n loop) e h) produced_here in
@@ -351,14 +378,24 @@ module _ (pipeline : Pipeline) (schedule : Schedule) (boxes : Boxes) (rules : Is
         | inl e ↦
             let f = some_before pipeline.funcs consumer k func at.func_is (before_consumer k loop h) in
             let p = pair_there IsPlan pipeline.funcs schedule.funcs k f.value accepted.plans f.is in
-            let same : loop ≡ loop_here = ap (λ (n : ℕ). record { func = n; inside = loop.inside }) h.same ∙ ap (λ (i : LoopId). record { func = consumer; inside = i }) here in
+            let same : loop ≡ loop_here = ap (λ (n : ℕ). record { func = n; inside = loop.inside }) h.same
+            ∙ ap (λ (i : LoopId). record { func = consumer; inside = i }) here in
             absurd (none f.value p.value other (subst (λ (n : ℕ). IsComputedAt pipeline schedule boxes (places.At loop_here) n f.value p.value other) e
-            (record { func_is = f.is; plan_is = p.is; box_is = other_is; standing = h.standing; there = h.there; placed_is = h.placed_is ∙ ap (λ (l : LoopPlace). places.At l) same })))
+            (record {
+              func_is = f.is;
+              plan_is = p.is;
+              box_is = other_is;
+              standing = h.standing;
+              there = h.there;
+              placed_is = h.placed_is
+                  ∙ ap (λ (l : LoopPlace). places.At l) same;
+            })))
         | inr d ↦ begins.held k loop (omega (arith, before, d)) h here other other_is
       ];
     }
 
-    nests : (from : ℕ) (inner body : Stmt) → HasNests pipeline schedule boxes loop_here from inner body → (funcs : Planes) → Begins from funcs → Begun inner body funcs
+    nests : (from : ℕ) (inner body : Stmt) → HasNests pipeline schedule boxes loop_here from inner body → (funcs : Planes) → Begins from funcs
+        → Begun inner body funcs
     nests from inner _ (None_left _ _ all_seen) funcs begins = record {
       between = funcs;
       runs = refl;
@@ -376,22 +413,26 @@ module _ (pipeline : Pipeline) (schedule : Schedule) (boxes : Boxes) (rules : Is
         record { between = b.between; runs = does.runs points inputs (consuming consumer turned) funcs ∙ b.runs; state = b.state; keeps = b.keeps }
     nests from inner body (One_more _ (Some first) _ rest _ nest_of more does) funcs begins =
         let after = run points inputs first (consuming consumer turned) funcs in
-        let b = nests (suc from) inner rest more after (begins_after from nest_of.func nest_of.plan nest_of.own nest_of.parts funcs begins first nest_of.does) in
+        let b = nests (suc from) inner rest more after (begins_after from nest_of.func nest_of.plan nest_of.own nest_of.parts funcs begins first nest_of.does)
+        in
         record {
           between = b.between;
           runs = does.runs points inputs (consuming consumer turned) funcs ∙ b.runs;
           state = b.state;
-          keeps = λ k x y outer. b.keeps k x y outer ∙ keeps_after from nest_of.func nest_of.plan nest_of.own nest_of.parts funcs begins first nest_of.does k x y outer;
+          keeps = λ k x y outer. b.keeps k x y outer ∙ keeps_after from nest_of.func nest_of.plan nest_of.own nest_of.parts funcs begins first nest_of.does k x
+              y outer;
         }
 
   -- ---- the store of the consumer
 
   module _ (store : Stmt) (store_of : IsStoreOf pipeline schedule boxes places.Root consumer func own store) where
     pub no_turns_below : Below no_loops own.lasts
-    no_turns_below = subst (λ (l : List ℕ). Below no_loops l) (sym (lasts_are pipeline schedule boxes consumer func plan own accepted is places.Root tt at)) no_below
+    no_turns_below = subst (λ (l : List ℕ). Below no_loops l) (sym (lasts_are pipeline schedule boxes consumer func plan own accepted is places.Root tt at))
+        no_below
 
     abbrev pub plane : Plane
-    plane = writing.plane pipeline schedule boxes rules accepted is places.Root consumer func plan own tt at store store_of inputs no_loops no_turns_below (consuming consumer (λ id. 0)) (λ inner. refl)
+    plane = writing.plane pipeline schedule boxes rules accepted is places.Root consumer func plan own tt at store store_of inputs no_loops no_turns_below
+        (consuming consumer (λ id. 0)) (λ inner. refl)
 
     abbrev pub x_of : loops.Values → ℕ
     x_of inner = inner (ids.Whole variables.FirstArgument)
@@ -415,8 +456,10 @@ module _ (pipeline : Pipeline) (schedule : Schedule) (boxes : Boxes) (rules : Is
 
     -- ---- where no loop is inside
 
-    module _ (turned : loops.Values) (are : AreTurns counts loops_in turned) (all_visited : AllByRecursion IsVisited (wholes extents plan.pure.splits [] turned)) where
-      stands_root : (k : ℕ) (w : IsReadWithin schedule consumer k) (loop : LoopPlace) → w.own.place ≡ places.At loop → StandsAt schedule loop consumer → loop.func ≡ consumer
+    module _ (turned : loops.Values) (are : AreTurns counts loops_in turned) (all_visited : AllByRecursion IsVisited (wholes extents plan.pure.splits []
+        turned)) where
+      stands_root : (k : ℕ) (w : IsReadWithin schedule consumer k) (loop : LoopPlace) → w.own.place ≡ places.At loop → StandsAt schedule loop consumer
+          → loop.func ≡ consumer
       stands_root k w loop placed (HasLoop e) = sym e
       stands_root k w loop placed (IsWithin standing other there other_placed within) =
           absurd (not_root standing.place other other_placed (one_place consumer standing at.standing there at.there ∙ at.placed_is))
@@ -439,20 +482,26 @@ module _ (pipeline : Pipeline) (schedule : Schedule) (boxes : Boxes) (rules : Is
         down = word.add (y_of inner) (first_of own.y no_loops)
 
         first_from : IsFrom no_loops own.x (x_of inner) across
-        first_from = writing.first_from pipeline schedule boxes rules accepted is places.Root consumer func plan own tt at store store_of inputs no_loops no_turns_below (consuming consumer turned) (λ i. refl) inner v
+        first_from = writing.first_from pipeline schedule boxes rules accepted is places.Root consumer func plan own tt at store store_of inputs no_loops
+            no_turns_below (consuming consumer turned) (λ i. refl) inner v
 
         second_from : IsFrom no_loops own.y (y_of inner) down
-        second_from = writing.second_from pipeline schedule boxes rules accepted is places.Root consumer func plan own tt at store store_of inputs no_loops no_turns_below (consuming consumer turned) (λ i. refl) inner v
+        second_from = writing.second_from pipeline schedule boxes rules accepted is places.Root consumer func plan own tt at store store_of inputs no_loops
+            no_turns_below (consuming consumer turned) (λ i. refl) inner v
 
         gone_x : gone func variables.FirstArgument inner ≡ x_of inner
         gone_x =
-            let p = and_parts (nat_lt (x_of inner) (extent_in func None extents variables.FirstArgument)) (nat_lt (y_of inner) (extent_in func None extents variables.SecondArgument)) v.slice in
-            taken_by (has_variable variables.FirstArgument (first_loops func None)) (extent own.x) (x_of inner) (ltb-true (x_of inner) (extent_in func None extents variables.FirstArgument) p.0)
+            let p = and_parts (nat_lt (x_of inner) (extent_in func None extents variables.FirstArgument)) (nat_lt (y_of inner) (extent_in func None extents
+            variables.SecondArgument)) v.slice in
+            taken_by (has_variable variables.FirstArgument (first_loops func None)) (extent own.x) (x_of inner)
+            (ltb-true (x_of inner) (extent_in func None extents variables.FirstArgument) p.0)
 
         gone_y : gone func variables.SecondArgument inner ≡ y_of inner
         gone_y =
-            let p = and_parts (nat_lt (x_of inner) (extent_in func None extents variables.FirstArgument)) (nat_lt (y_of inner) (extent_in func None extents variables.SecondArgument)) v.slice in
-            taken_by (has_variable variables.SecondArgument (first_loops func None)) (extent own.y) (y_of inner) (ltb-true (y_of inner) (extent_in func None extents variables.SecondArgument) p.1)
+            let p = and_parts (nat_lt (x_of inner) (extent_in func None extents variables.FirstArgument)) (nat_lt (y_of inner) (extent_in func None extents
+            variables.SecondArgument)) v.slice in
+            taken_by (has_variable variables.SecondArgument (first_loops func None)) (extent own.y) (y_of inner)
+            (ltb-true (y_of inner) (extent_in func None extents variables.SecondArgument) p.1)
 
         taken : IsTakenTo func own inner across down
         taken = record {
@@ -464,11 +513,13 @@ module _ (pipeline : Pipeline) (schedule : Schedule) (boxes : Boxes) (rules : Is
         reached id = record {
           turns_are = turns_drop counts (inner_count id loops_in) loops_in turned are;
           whole = inner;
-          visited = nest_takes inner counts (take (inner_count id loops_in) loops_in) (over_loops extents plan.pure.splits (λ whole. whole ∷ [])) turned (turns_take counts (inner_count id loops_in) loops_in turned are) listed;
+          visited = nest_takes inner counts (take (inner_count id loops_in) loops_in) (over_loops extents plan.pure.splits (λ whole. whole ∷ [])) turned
+              (turns_take counts (inner_count id loops_in) loops_in turned are) listed;
           taken = taken;
         }
 
-      module _ (leaf : Stmt) (bound : Repeats consumer leaf store (wholes extents plan.pure.splits [])) (small : AreSmall turned) (funcs : Planes) (state : State 0 turned funcs) where
+      module _ (leaf : Stmt) (bound : Repeats consumer leaf store (wholes extents plan.pure.splits [])) (small : AreSmall turned) (funcs : Planes)
+          (state : State 0 turned funcs) where
         abbrev Ready : Planes → Type 0
         Ready now = Keeps consumer funcs now
 
@@ -480,18 +531,25 @@ module _ (pipeline : Pipeline) (schedule : Schedule) (boxes : Boxes) (rules : Is
 
         module _ (inner : loops.Values) (listed : Contains (wholes extents plan.pure.splits [] turned) inner) where
           agrees : (now : Planes) → Ready now
-              → Agree (reads_of inputs (pixels pipeline.funcs inputs consumer)) (placed store_of.corners (put_loops consumer inner (consuming consumer turned)) (reads_of inputs now))
+              → Agree (reads_of inputs (pixels pipeline.funcs inputs consumer)) (placed store_of.corners (put_loops consumer inner (consuming consumer turned))
+              (reads_of inputs now))
               (pure_points pipeline schedule (reads_of inputs (pixels pipeline.funcs inputs consumer)) consumer func (across inner listed) (down inner listed))
           agrees now ready =
-              answered pipeline schedule boxes rules accepted is places.Root consumer func plan own tt at inputs begun consumer func plan own at turned funcs state.shared of_root
-              (λ k w loop placed. state.produced k loop (record { standing = w.own; there = w.there; placed_is = placed; same = of_root k w loop placed }) (omega arith))
-              (put_loops consumer inner (consuming consumer turned)) (λ id. ap (values_in plan id) (loops_put consumer inner (consuming consumer turned)) ∙ turns_kept func plan.pure stage_is extents turned inner listed (inner_count id loops_in)) store_of.corners store_of.are_corners now ready no_loops no_turns_below (across inner listed) (down inner listed)
-              (writing.lies pipeline schedule boxes rules accepted is places.Root consumer func plan own tt at store store_of inputs no_loops no_turns_below (consuming consumer turned) (λ i. refl) inner (v inner listed))
+              answered pipeline schedule boxes rules accepted is places.Root consumer func plan own tt at inputs begun consumer func plan own at turned funcs
+              state.shared of_root
+              (λ k w loop placed. state.produced k loop (record { standing = w.own; there = w.there; placed_is = placed; same = of_root k w loop placed })
+              (omega arith))
+              (put_loops consumer inner (consuming consumer turned)) (λ id. ap (values_in plan id) (loops_put consumer inner (consuming consumer turned))
+              ∙ turns_kept func plan.pure stage_is extents turned inner listed (inner_count id loops_in)) store_of.corners store_of.are_corners now ready
+              no_loops no_turns_below (across inner listed) (down inner listed)
+              (writing.lies pipeline schedule boxes rules accepted is places.Root consumer func plan own tt at store store_of inputs no_loops no_turns_below
+              (consuming consumer turned) (λ i. refl) inner (v inner listed))
               (λ k w loop placed. reached inner listed loop.inside)
 
           writes : Writes points consumer plane Ready stays x_of y_of step inner
           writes =
-              writing.writes pipeline schedule boxes rules accepted is places.Root consumer func plan own tt at store store_of inputs no_loops no_turns_below (consuming consumer turned) (λ i. refl) inner (v inner listed) Ready stays agrees
+              writing.writes pipeline schedule boxes rules accepted is places.Root consumer func plan own tt at store store_of inputs no_loops no_turns_below
+              (consuming consumer turned) (λ i. refl) inner (v inner listed) Ready stays agrees
 
         list : List loops.Values
         list = wholes extents plan.pure.splits [] turned
@@ -501,7 +559,8 @@ module _ (pipeline : Pipeline) (schedule : Schedule) (boxes : Boxes) (rules : Is
             bound.runs points inputs (consuming consumer turned) funcs (subst AreSmall (sym (loops_consuming consumer turned)) small)
             ∙ ap (λ (t : loops.Values). all step (wholes extents plan.pure.splits [] t) funcs) (loops_consuming consumer turned)
 
-        painted : Paints points consumer plane Ready stays x_of y_of step (wholes extents plan.pure.splits [] turned) funcs (all step (wholes extents plan.pure.splits [] turned) funcs)
+        painted : Paints points consumer plane Ready stays x_of y_of step (wholes extents plan.pure.splits [] turned) funcs
+            (all step (wholes extents plan.pure.splits [] turned) funcs)
         painted =
             paints points consumer plane Ready stays x_of y_of step (wholes extents plan.pure.splits [] turned) funcs
             (all_contained (Writes points consumer plane Ready stays x_of y_of step) (wholes extents plan.pure.splits [] turned) writes) (λ other x y d. refl)
@@ -526,9 +585,11 @@ module _ (pipeline : Pipeline) (schedule : Schedule) (boxes : Boxes) (rules : Is
           keeps k x y outer (λ e. (parts e).1) ∙ one.keeps k x y outer (λ e. (parts e).0);
     }
       where
-        by_second : (x y : ℕ) (test : Bool) → list_any (hits x y) second ≡ test → (list_any (hits x y) first || list_any (hits x y) second) ≡ true → after consumer x y ≡ plane x y
+        by_second : (x y : ℕ) (test : Bool) → list_any (hits x y) second ≡ test → (list_any (hits x y) first || list_any (hits x y) second) ≡ true
+            → after consumer x y ≡ plane x y
         by_second x y true found e = there x y found
-        by_second x y false found e = keeps consumer x y (consumer_outer inner) (λ s. found) ∙ one.there x y (or_first (list_any (hits x y) first) (list_any (hits x y) second) found e)
+        by_second x y false found e = keeps consumer x y (consumer_outer inner) (λ s. found)
+            ∙ one.there x y (or_first (list_any (hits x y) first) (list_any (hits x y) second) found e)
 
     -- ---- loops
 
@@ -541,32 +602,45 @@ module _ (pipeline : Pipeline) (schedule : Schedule) (boxes : Boxes) (rules : Is
     more_outer inner k outer loop h = let l : suc inner ≤ inner_count loop.inside loops_in = outer loop h in omega (arith, l)
 
     -- what a state says holds where buffers of roots and of Funcs at outer loops are kept
-    state_kept : (inner : ℕ) (turned : loops.Values) (list : List loops.Values) (funcs after : Planes) → Does inner list funcs after → State inner turned funcs → State inner turned after
+    state_kept : (inner : ℕ) (turned : loops.Values) (list : List loops.Values) (funcs after : Planes) → Does inner list funcs after → State inner turned funcs
+        → State inner turned after
     state_kept inner turned list funcs after does state = record {
       shared = λ k standing before there root box box_is x y lx ly.
-          does.keeps k x y (λ loop h. absurd (root_not_produced k standing there root loop h)) (λ e. absurd (omega (arith, e, before))) ∙ state.shared k standing before there root box box_is x y lx ly;
+          does.keeps k x y (λ loop h. absurd (root_not_produced k standing there root loop h)) (λ e. absurd (omega (arith, e, before)))
+          ∙ state.shared k standing before there root box box_is x y lx ly;
       produced = λ k loop h further box box_is x y lx ly.
-          does.keeps k x y (λ other g. omega (arith, further, ap (λ (l : LoopPlace). inner_count l.inside loops_in) (produced_loop k loop other h g))) (λ e. absurd (omega (arith, e, before_consumer k loop h)))
+          does.keeps k x y (λ other g. omega (arith, further, ap (λ (l : LoopPlace). inner_count l.inside loops_in) (produced_loop k loop other h g)))
+          (λ e. absurd (omega (arith, e, before_consumer k loop h)))
           ∙ state.produced k loop h further box box_is x y lx ly;
     }
 
-    module _ (inside : List Loop) (mid : Loop) (inner body : Stmt) (begun_by : HasNests pipeline schedule boxes (record { func = consumer; inside = mid.id }) 0 inner body) (inner_does : DoesLoops inside inner)
+    module _ (inside : List Loop) (mid : Loop) (inner body : Stmt) (begun_by : HasNests pipeline schedule boxes (record { func = consumer; inside = mid.id }) 0
+        inner body) (inner_does : DoesLoops inside inner)
         (outside : List Loop) (loops_are : loops_in ≡ inside ++ mid ∷ outside) where
       -- one turn
-      module _ (turned : loops.Values) (small : AreSmall turned) (are : AreTurns counts (mid ∷ outside) turned) (all_visited : AllByRecursion IsVisited (wholes extents plan.pure.splits inside turned))
+      module _ (turned : loops.Values) (small : AreSmall turned) (are : AreTurns counts (mid ∷ outside) turned) (all_visited : AllByRecursion IsVisited
+          (wholes extents plan.pure.splits inside turned))
           (funcs : Planes) (state : State (suc (length inside)) turned funcs) where
         abbrev first : Begun inside mid outside loops_are turned are inner body funcs
-        first = nests inside mid outside loops_are turned are 0 inner body begun_by funcs (record { state = state; held = λ k loop before h here. absurd (omega (arith, before)) })
+        first = nests inside mid outside loops_are turned are 0 inner body begun_by funcs (record {
+          state = state;
+          held = λ k loop before h here. absurd
+              (omega (arith, before));
+        })
 
-        abbrev done : Does (length inside) (wholes extents plan.pure.splits inside turned) first.between (run points inputs inner (consuming consumer turned) first.between)
+        abbrev done : Does (length inside) (wholes extents plan.pure.splits inside turned) first.between (run points inputs inner (consuming consumer turned)
+            first.between)
         done = inner_does (mid ∷ outside) loops_are turned small are all_visited first.between first.state
 
-        pub turn_there : (x y : ℕ) → list_any (hits x y) (wholes extents plan.pure.splits inside turned) ≡ true → run points inputs body (consuming consumer turned) funcs consumer x y ≡ plane x y
+        pub turn_there : (x y : ℕ) → list_any (hits x y) (wholes extents plan.pure.splits inside turned) ≡ true
+            → run points inputs body (consuming consumer turned) funcs consumer x y ≡ plane x y
         turn_there x y e = ap (λ (f : Planes). f consumer x y) first.runs ∙ done.there x y e
 
-        pub turn_keeps : (k x y : ℕ) → IsOuter (suc (length inside)) k → (k ≡ consumer → list_any (hits x y) (wholes extents plan.pure.splits inside turned) ≡ false)
+        pub turn_keeps : (k x y : ℕ) → IsOuter (suc (length inside)) k → (k ≡ consumer → list_any (hits x y) (wholes extents plan.pure.splits inside turned)
+            ≡ false)
             → run points inputs body (consuming consumer turned) funcs k x y ≡ funcs k x y
-        turn_keeps k x y outer free = ap (λ (f : Planes). f k x y) first.runs ∙ done.keeps k x y (more_outer (length inside) k outer) free ∙ first.keeps k x y outer
+        turn_keeps k x y outer free = ap (λ (f : Planes). f k x y) first.runs ∙ done.keeps k x y (more_outer (length inside) k outer) free
+            ∙ first.keeps k x y outer
 
       -- all turns
       module _ (turned : loops.Values) (small : AreSmall turned) (are : AreTurns counts outside turned) where
@@ -587,22 +661,33 @@ module _ (pipeline : Pipeline) (schedule : Schedule) (boxes : Boxes) (rules : Is
           shared = state.shared;
           produced = λ k loop h further box box_is.
               subst (λ (l : List ℕ). Holds k box l (pixel k) funcs)
-              (sym (subst (λ (ls : List Loop). turns_from (inner_count loop.inside loops_in) (at_turn n) ls ≡ turns_from (inner_count loop.inside loops_in) turned ls) (sym loops_are)
+              (sym (subst (λ (ls : List Loop). turns_from (inner_count loop.inside loops_in) (at_turn n) ls ≡ turns_from (inner_count loop.inside loops_in)
+              turned ls) (sym loops_are)
               (turns_stay inside mid outside split_at turned n (inner_count loop.inside loops_in) further)))
               (state.produced k loop h further box box_is);
         }
 
         pub mid_turns : (n : ℕ) → n < counts mid.id → AreTurns counts (mid ∷ outside) (at_turn n)
-        mid_turns n l = (subst (λ (m : ℕ). m < counts mid.id) (sym (with_same mid.id n turned)) l, turns_with counts outside turned mid.id n (none_outside inside mid outside split_at) are)
+        mid_turns n l = (
+          subst (λ (m : ℕ). m < counts mid.id) (sym (with_same mid.id n turned)) l,
+          turns_with counts outside turned mid.id n
+              (none_outside inside mid outside split_at) are,
+        )
 
         pub small_at : (n : ℕ) → n < counts mid.id → AreSmall (at_turn n)
-        small_at n l = small_with mid.id n turned (omega (arith, l, few_turns extents plan.pure.splits (few pipeline schedule boxes consumer func plan own accepted is places.Root tt at) (splits pipeline schedule boxes consumer func plan own accepted is places.Root tt at) mid.id)) small
+        small_at n l = small_with mid.id n turned (omega (
+          arith,
+          l,
+          few_turns extents plan.pure.splits (few pipeline schedule boxes consumer func plan own
+              accepted is places.Root tt at) (splits pipeline schedule boxes consumer func plan own accepted is places.Root tt at) mid.id,
+        )) small
 
         -- what is done in a turn, by the body under the counters of that turn
         same_step : (n : ℕ) (funcs : Planes) → step_at n funcs ≡ run points inputs body (consuming consumer (at_turn n)) funcs
         same_step n funcs = ap (λ (v : Values). run points inputs body v funcs) (consuming_with consumer mid.id n turned)
 
-        all_turns : (n : ℕ) → n ≤ counts mid.id → ((k : ℕ) → k < n → AllByRecursion IsVisited (listed k)) → (funcs : Planes) → State (suc (length inside)) turned funcs
+        all_turns : (n : ℕ) → n ≤ counts mid.id → ((k : ℕ) → k < n → AllByRecursion IsVisited (listed k)) → (funcs : Planes)
+            → State (suc (length inside)) turned funcs
             → Does (suc (length inside)) (upto n listed) funcs (turns n step_at funcs)
         unfolding turns upto
         all_turns zero l visited funcs state = record { there = λ x y e. absurd (true≢false (sym e)); keeps = λ k x y outer free. refl }
@@ -612,26 +697,34 @@ module _ (pipeline : Pipeline) (schedule : Schedule) (boxes : Boxes) (rules : Is
             let state_there = stays_at n there (state_kept (suc (length inside)) turned (upto n listed) funcs there before state) in
             let here : n < counts mid.id = omega (arith, l) in
             does_more (suc (length inside)) (upto n listed) (listed n) funcs there (step_at n there) before
-            (λ x y e. ap (λ (f : Planes). f consumer x y) (same_step n there) ∙ turn_there (at_turn n) (small_at n here) (mid_turns n here) (visited n (omega arith)) there state_there x y e)
-            (λ k x y outer free. ap (λ (f : Planes). f k x y) (same_step n there) ∙ turn_keeps (at_turn n) (small_at n here) (mid_turns n here) (visited n (omega arith)) there state_there k x y outer free)
+            (λ x y e. ap (λ (f : Planes). f consumer x y) (same_step n there) ∙ turn_there (at_turn n) (small_at n here) (mid_turns n here)
+            (visited n (omega arith)) there state_there x y e)
+            (λ k x y outer free. ap (λ (f : Planes). f k x y) (same_step n there) ∙ turn_keeps (at_turn n) (small_at n here) (mid_turns n here)
+            (visited n (omega arith)) there state_there k x y outer free)
 
     pub wholes_outside : (inside : List Loop) (mid : Loop) (turned : loops.Values)
-        → wholes extents plan.pure.splits (inside ++ mid ∷ []) turned ≡ upto (counts mid.id) (λ turn. wholes extents plan.pure.splits inside (loops.with mid.id turn turned))
+        → wholes extents plan.pure.splits (inside ++ mid ∷ []) turned ≡ upto (counts mid.id) (λ turn. wholes extents plan.pure.splits inside
+        (loops.with mid.id turn turned))
     wholes_outside inside mid turned = nest-append counts inside (mid ∷ []) (over_loops extents plan.pure.splits (λ whole. whole ∷ [])) turned
 
-    pub all_loops : (leaf : Stmt) (bound : Repeats consumer leaf store (wholes extents plan.pure.splits [])) (inside : List Loop) (made : Stmt) → HasLoops pipeline schedule boxes consumer counts leaf inside made → DoesLoops inside made
+    pub all_loops : (leaf : Stmt) (bound : Repeats consumer leaf store (wholes extents plan.pure.splits [])) (inside : List Loop) (made : Stmt)
+        → HasLoops pipeline schedule boxes consumer counts leaf inside made → DoesLoops inside made
     all_loops leaf bound _ _ No_loops outside loops_are turned small are visited funcs state =
         leaf_does turned (subst (λ (l : List Loop). AreTurns counts l turned) (sym loops_are) are) visited leaf bound small funcs state
-    all_loops leaf bound _ made (One_outside inside mid inner body _ within nested does around run_around) outside loops_are turned small are visited funcs state =
+    all_loops leaf bound _ made (One_outside inside mid inner body _ within nested does around run_around) outside loops_are turned small are visited funcs
+        state =
         let further : loops_in ≡ inside ++ mid ∷ outside = loops_are ∙ append_assoc inside (mid ∷ []) outside in
         let count : length (inside ++ mid ∷ []) ≡ suc (length inside) = omega (arith, length-append inside (mid ∷ [])) in
         let list_is = wholes_outside inside mid turned in
-        let seen : AllByRecursion IsVisited (upto (counts mid.id) (λ turn. wholes extents plan.pure.splits inside (loops.with mid.id turn turned))) = subst (λ (l : List loops.Values). AllByRecursion IsVisited l) list_is visited in
+        let seen : AllByRecursion IsVisited (upto (counts mid.id) (λ turn. wholes extents plan.pure.splits inside (loops.with mid.id turn turned))) =
+        subst (λ (l : List loops.Values). AllByRecursion IsVisited l) list_is visited in
         let result : Does (suc (length inside)) (upto (counts mid.id) (λ turn. wholes extents plan.pure.splits inside (loops.with mid.id turn turned))) funcs
         (turns (counts mid.id) (λ n. run points inputs body (with (record { func = consumer; id = mid.id }) n (consuming consumer turned))) funcs) =
         all_turns inside mid inner body nested (all_loops leaf bound inside inner within) outside further turned small are (counts mid.id) (omega arith)
         (λ k l. all_upto IsVisited (λ turn. wholes extents plan.pure.splits inside (loops.with mid.id turn turned)) (counts mid.id) seen k l) funcs
         (subst (λ (n : ℕ). State n turned funcs) count state) in
-        subst (λ (n : ℕ). Does n (wholes extents plan.pure.splits (inside ++ mid ∷ []) turned) funcs (run points inputs made (consuming consumer turned) funcs)) (sym count)
+        subst (λ (n : ℕ). Does n (wholes extents plan.pure.splits (inside ++ mid ∷ []) turned) funcs (run points inputs made (consuming consumer turned) funcs))
+        (sym count)
         (subst (λ (l : List loops.Values). Does (suc (length inside)) l funcs (run points inputs made (consuming consumer turned) funcs)) (sym list_is)
-        (subst (Does (suc (length inside)) (upto (counts mid.id) (λ turn. wholes extents plan.pure.splits inside (loops.with mid.id turn turned))) funcs) (sym (does.runs points inputs (consuming consumer turned) funcs)) result))
+        (subst (Does (suc (length inside)) (upto (counts mid.id) (λ turn. wholes extents plan.pure.splits inside (loops.with mid.id turn turned))) funcs)
+        (sym (does.runs points inputs (consuming consumer turned) funcs)) result))

@@ -1,6 +1,7 @@
 -- How many copies loops make of what stands inside: an unrolled loop has no more rounds than its copies count in the weight, and what loops
 -- around a body ask for is paid by all copies.
-use Rattle.std.proofs.Common.{◌≡◌, ℕ, zero, suc, ◌+◌, ◌*◌, ◌-◌, ◌≤◌, Bool, true, false, cond, List, [], ◌∷◌, ◌++◌, length, take, Option, Some, None, refl, sym, ap, subst, ◌∙◌, arith, inl, inr, true≢false}
+use Rattle.std.proofs.Common.{◌≡◌, ℕ, zero, suc, ◌+◌, ◌*◌, ◌-◌, ◌≤◌, Bool, true, false, cond, List, [], ◌∷◌, ◌++◌, length, take, Option, Some, None, refl, sym}
+use Rattle.std.proofs.Common.{ap, subst, ◌∙◌, arith, inl, inr, true≢false}
 use Rattle.std.specs.Prelude.{◌==◌, ◌&&◌, ◌⊎◌, if◌then◌else◌, nat_le, nat_lt, not, is_some, slice_get}
 use Rattle.std.specs.List.{AllByRecursion}
 use Rattle.std.proofs.lemmas.Bool.{and_parts, eqb-true}
@@ -52,7 +53,8 @@ factor-some (suc n) l = refl
 solid-stays : (is_update : Bool) (start : List Loop) → total is-void start ≡ 0 → Stays is_update start Solid
 solid-stays is_update start none = record {
   begun = record { none = none };
-  parted = λ before own after splits line is solid. let s = solid.none in let f = factor-some line.factor is.some in let p = total_parts is-void before own after (length splits) line in record { none = omega (arith, s, f, p) };
+  parted = λ before own after splits line is solid. let s = solid.none in let f = factor-some line.factor is.some in let p = total_parts is-void before own
+      after (length splits) line in record { none = omega (arith, s, f, p) };
   marked = λ loops new splits same solid. record { none = bare_total is-void (λ own. refl) new loops same ∙ solid.none };
   moved = λ loops new splits same order solid. record { none = same is-void ∙ solid.none };
 }
@@ -61,7 +63,8 @@ with-solid : (loops : List Loop) (name : List ℕ) (variable : Variable) → tot
 with-solid [] name variable none = refl
 with-solid (own ∷ others) name variable none = let r = with-solid others name variable (omega (arith, none)) in omega (arith, none, r)
 
-second-solid : (loops : List Loop) (second : Option (List ℕ)) (variable : Variable) → total is-void loops ≡ 0 → total is-void (with_second loops second variable) ≡ 0
+second-solid : (loops : List Loop) (second : Option (List ℕ)) (variable : Variable) → total is-void loops ≡ 0
+    → total is-void (with_second loops second variable) ≡ 0
 second-solid loops None variable none = none
 second-solid loops (Some name) variable none = with-solid loops name variable none
 
@@ -73,11 +76,13 @@ start-solid func (Some update) = second-in (is_second_in_place update) _ (first-
     reductions None = refl
     reductions (Some own) = refl
 
-    first-in : (t : Bool) (loops : List Loop) → total is-void loops ≡ 0 → total is-void (if t then with_loop loops func.first_argument variables.FirstArgument else loops) ≡ 0
+    first-in : (t : Bool) (loops : List Loop) → total is-void loops ≡ 0
+        → total is-void (if t then with_loop loops func.first_argument variables.FirstArgument else loops) ≡ 0
     first-in true loops none = with-solid loops func.first_argument variables.FirstArgument none
     first-in false loops none = none
 
-    second-in : (t : Bool) (loops : List Loop) → total is-void loops ≡ 0 → total is-void (if t then with_second loops func.second_argument variables.SecondArgument else loops) ≡ 0
+    second-in : (t : Bool) (loops : List Loop) → total is-void loops ≡ 0
+        → total is-void (if t then with_second loops func.second_argument variables.SecondArgument else loops) ≡ 0
     second-in true loops none = second-solid loops func.second_argument variables.SecondArgument none
     second-in false loops none = none
 
@@ -96,7 +101,8 @@ spread : (c body : ℕ) → c * (body + 39) ≡ c * (body + 1) + c * 38
 spread c body = ap (λ (z : ℕ). c * z) (let g : body + 39 ≡ body + 1 + 38 = omega arith in g) ∙ mul-add c (body + 1) 38
 
 -- one more loop outside
-outside-paid : (nest size body count own outside : ℕ) → 1 ≤ own → nest ≤ outside * (size + 39 * count) → size ≤ own * (body + 39) → nest ≤ own * outside * (body + 39 * suc count)
+outside-paid : (nest size body count own outside : ℕ) → 1 ≤ own → nest ≤ outside * (size + 39 * count) → size ≤ own * (body + 39)
+    → nest ≤ own * outside * (body + 39 * suc count)
 outside-paid nest size body count own outside some r l =
     let t = times-some own (39 * count) some in
     let d = mul-add own (body + 39) (39 * count) in
@@ -128,7 +134,8 @@ module _ (strided counts : loops.Values) (start : List Loop) where
   fine-by true false c e = absurd (omega (arith, e))
   fine-by false b c e = absurd (omega (arith, e))
 
-  few-rounds : (own : Loop) (inner : Option ℕ) → fits counts own inner ≡ true → cond {A = ℕ} (true && not (is_some inner)) 1 0 ≡ 0 → counts own.id ≤ factor_of inner
+  few-rounds : (own : Loop) (inner : Option ℕ) → fits counts own inner ≡ true → cond {A = ℕ} (true && not (is_some inner)) 1 0 ≡ 0
+      → counts own.id ≤ factor_of inner
   few-rounds own None fit stray = absurd (omega (arith, stray))
   few-rounds own (Some factor) fit stray = let e = eqb-true (counts own.id) factor fit in omega (arith, e)
 
@@ -144,12 +151,17 @@ module _ (strided counts : loops.Values) (start : List Loop) where
 
   paid-all : (own : List Loop) → total (flaw strided counts start) own ≡ 0 → total is_stray own ≡ 0 → total is-void own ≡ 0 → ArePaid counts own
   paid-all [] fine stray solid = tt
-  paid-all (own ∷ others) fine stray solid =
-      (paid-one own (omega (arith, fine)) (omega (arith, stray)) (omega (arith, solid)), paid-all others (omega (arith, fine)) (omega (arith, stray)) (omega (arith, solid)))
+  paid-all (own ∷ others) fine stray solid = (
+    paid-one own (omega (arith, fine)) (omega (arith, stray)) (omega (arith, solid)),
+    paid-all others (omega (arith, fine)) (omega (arith, stray))
+        (omega (arith, solid)),
+  )
 
-pub stage-paid : (func : Func) (update : Option Update) (extents : Extents) (stage : Stage) → IsStageOf func update stage → ArePaid (loops.counts extents stage.splits) stage.loops
+pub stage-paid : (func : Func) (update : Option Update) (extents : Extents) (stage : Stage) → IsStageOf func update stage
+    → ArePaid (loops.counts extents stage.splits) stage.loops
 stage-paid func update extents stage is =
-    paid-all (loops.strides stage.splits) (loops.counts extents stage.splits) (first_loops func update) stage.loops (stage_flawless func update extents stage is) is.unrolled
+    paid-all (loops.strides stage.splits) (loops.counts extents stage.splits) (first_loops func update) stage.loops (stage_flawless func update extents stage
+    is) is.unrolled
     (by_making Solid (solid-stays (is_some update) (first_loops func update) (start-solid func update)) is.made).none
 
 -- ---- loops around a body
@@ -161,7 +173,8 @@ module _ (counts : loops.Values) where
 
   pub loop-paid : (own : Loop) (body : ℕ) → Paid counts own → loop_room (is_marked marks.Unrolled own) (counts own.id) body ≤ copies own * (body + 39)
   loop-paid own body paid =
-      by-test (are_copies (is_marked marks.Unrolled own) (counts own.id)) (λ e. paid.most (and_parts (is_marked marks.Unrolled own) (nat_lt 0 (counts own.id)) e).0)
+      by-test (are_copies (is_marked marks.Unrolled own) (counts own.id)) (λ e. paid.most (and_parts (is_marked marks.Unrolled own) (nat_lt 0 (counts own.id))
+      e).0)
     where
       by-test : (t : Bool) → (t ≡ true → counts own.id ≤ copies own) → (if t then counts own.id * (body + 1) + 1 else body + 7) + 31 ≤ copies own * (body + 39)
       by-test true most =
@@ -175,7 +188,8 @@ module _ (counts : loops.Values) where
   nest-paid [] body paid = omega arith
   nest-paid (own ∷ outside) body paid =
       let size = loop_room (is_marked marks.Unrolled own) (counts own.id) body in
-      outside-paid (nest_size counts outside size) size body (length outside) (copies own) (all_copies outside) paid.0.some (nest-paid outside size paid.1) (loop-paid own body paid.0)
+      outside-paid (nest_size counts outside size) size body (length outside) (copies own) (all_copies outside) paid.0.some (nest-paid outside size paid.1)
+      (loop-paid own body paid.0)
 
   -- of the first loops no more copies than of all
   pub first-copies : (n : ℕ) (own : List Loop) → ArePaid counts own → all_copies (take n own) ≤ all_copies own
@@ -192,7 +206,8 @@ module _ (counts : loops.Values) where
   first-paid (suc n) (own ∷ others) paid = (paid.0, first-paid n others paid.1)
 
   -- what stands in a task's loops is paid by all copies
-  pub task-paid : (found : Option Loop) (own : List Loop) (body : ℕ) → ArePaid counts own → nest_size counts (inside_of found own) body ≤ all_copies own * (body + 39 * length own)
+  pub task-paid : (found : Option Loop) (own : List Loop) (body : ℕ) → ArePaid counts own
+      → nest_size counts (inside_of found own) body ≤ all_copies own * (body + 39 * length own)
   task-paid None own body paid = nest-paid own body paid
   task-paid (Some other) own body paid =
       let inside = take (length own - 1) own in
@@ -221,7 +236,8 @@ module _ (counts : loops.Values) where
   paid-at (first ∷ inside) own outside paid = paid-at inside own outside paid.1
 
 -- the copies of a loop and those outside of it
-pub copies-at : (inside : List Loop) (own : Loop) (outside : List Loop) → Unique (inside ++ own ∷ outside) → copies_from own.id (inside ++ own ∷ outside) ≡ all_copies (own ∷ outside)
+pub copies-at : (inside : List Loop) (own : Loop) (outside : List Loop) → Unique (inside ++ own ∷ outside) → copies_from own.id (inside ++ own ∷ outside)
+    ≡ all_copies (own ∷ outside)
 copies-at [] own outside unique = ap (λ (t : Bool). if t then copies own * all_copies outside else copies_from own.id outside) (same_id-self own.id)
 copies-at (first ∷ inside) own outside unique =
     elim (cases_id first.id own.id) [
@@ -239,13 +255,15 @@ copies-at (first ∷ inside) own outside unique =
 -- ---- stages
 
 pub same-nest : (extents : Extents) (splits others : List Split) (own all : List Loop) (whole store : ℕ) → splits ≡ others → own ≡ all
-    → whole ≡ nest_size (loops.counts extents splits) own (25 * length splits + store) → whole ≡ nest_size (loops.counts extents others) all (25 * length others + store)
+    → whole ≡ nest_size (loops.counts extents splits) own (25 * length splits + store)
+    → whole ≡ nest_size (loops.counts extents others) all (25 * length others + store)
 same-nest extents splits others own all whole store es el is =
     is ∙ ap (λ (l : List Split). nest_size (loops.counts extents l) own (25 * length l + store)) es
     ∙ ap (λ (ls : List Loop). nest_size (loops.counts extents others) ls (25 * length others + store)) el
 
 -- 64 words for each unit of the weight, with 24 to spare
-pub is-light : (whole copied splits store nodes count produced : ℕ) → 1 ≤ copied → splits + 1 ≤ count → store + 12 ≤ 64 * nodes → whole ≤ copied * (25 * splits + store + 39 * count) + 64 * produced
+pub is-light : (whole copied splits store nodes count produced : ℕ) → 1 ≤ copied → splits + 1 ≤ count → store + 12 ≤ 64 * nodes
+    → whole ≤ copied * (25 * splits + store + 39 * count) + 64 * produced
     → whole + 24 ≤ 64 * ((nodes + count) * copied + produced)
 is-light whole copied splits store nodes count produced some more given few =
     let t = times-most (25 * splits + store + 39 * count + 24) (64 * (nodes + count)) copied (omega (arith, more, given)) in
@@ -254,7 +272,8 @@ is-light whole copied splits store nodes count produced some more given few =
     let a = mul_assoc 64 (nodes + count) copied in
     omega (arith, t, d, c, a, some, few)
 
-module _ (func : Func) (update : Option Update) (extents : Extents) (stage : Stage) (is : IsStageOf func update stage) (store nodes : ℕ) (more : length stage.splits + 1 ≤ length stage.loops) (given : store + 12 ≤ 64 * nodes) where
+module _ (func : Func) (update : Option Update) (extents : Extents) (stage : Stage) (is : IsStageOf func update stage) (store nodes : ℕ)
+    (more : length stage.splits + 1 ≤ length stage.loops) (given : store + 12 ≤ 64 * nodes) where
   abbrev counted : loops.Values
   counted = loops.counts extents stage.splits
 
@@ -262,7 +281,8 @@ module _ (func : Func) (update : Option Update) (extents : Extents) (stage : Sta
   some = copies-some counted stage.loops (stage-paid func update extents stage is)
 
   -- what stands in a task's loops
-  pub task-light : (found : Option Loop) (whole : ℕ) → whole ≡ nest_size counted (inside_of found stage.loops) (25 * length stage.splits + store) → whole + 24 ≤ 64 * stage_weight nodes stage
+  pub task-light : (found : Option Loop) (whole : ℕ) → whole ≡ nest_size counted (inside_of found stage.loops) (25 * length stage.splits + store)
+      → whole + 24 ≤ 64 * stage_weight nodes stage
   task-light found whole e =
       let p = task-paid counted found stage.loops (25 * length stage.splits + store) (stage-paid func update extents stage is) in
       let l = is-light whole (all_copies stage.loops) (length stage.splits) store nodes (length stage.loops) 0 some more given (omega (arith, p, e)) in

@@ -39,12 +39,15 @@ has_first func = by_second func.second_argument refl
 one_without : (func : Func) → has_variable variables.SecondArgument (first_loops func None) ≡ false → dimensions func ≡ 1
 one_without func = by_second func.second_argument refl
   where
-    by_second : (second : Option (List ℕ)) → func.second_argument ≡ second → has_variable variables.SecondArgument (first_loops func None) ≡ false → dimensions func ≡ 1
+    by_second : (second : Option (List ℕ)) → func.second_argument ≡ second → has_variable variables.SecondArgument (first_loops func None) ≡ false
+        → dimensions func ≡ 1
     by_second None e none = rw e refl
     by_second (Some name) e none = absurd (true≢false (sym (rw e refl) ∙ none))
 
-module _ (pipeline : Pipeline) (schedule : Schedule) (boxes : Boxes) (rules : IsWellFormed pipeline) (accepted : IsAccepted pipeline schedule) (is : inferred pipeline schedule ≡ Ok boxes)
-    (placed_at : Place) (place : ℕ) (func : Func) (plan : FuncPlan) (own : SourceBox) (here : IsComputed place placed_at) (at : IsComputedAt pipeline schedule boxes placed_at place func plan own) where
+module _ (pipeline : Pipeline) (schedule : Schedule) (boxes : Boxes) (rules : IsWellFormed pipeline) (accepted : IsAccepted pipeline schedule)
+    (is : inferred pipeline schedule ≡ Ok boxes)
+    (placed_at : Place) (place : ℕ) (func : Func) (plan : FuncPlan) (own : SourceBox) (here : IsComputed place placed_at) (at : IsComputedAt pipeline schedule
+    boxes placed_at place func plan own) where
   abbrev extents : Extents
   extents = extents_of own
 
@@ -62,7 +65,8 @@ module _ (pipeline : Pipeline) (schedule : Schedule) (boxes : Boxes) (rules : Is
 
   pub parts_of : (visit : Visit) → IsVisitOf func None extents visit → (visit.x < extent own.x) × (visit.y < extent own.y)
   parts_of visit v =
-      let p = and_parts (nat_lt visit.x (extent_in func None extents variables.FirstArgument)) (nat_lt visit.y (extent_in func None extents variables.SecondArgument)) v.slice in (
+      let p = and_parts (nat_lt visit.x (extent_in func None extents variables.FirstArgument))
+      (nat_lt visit.y (extent_in func None extents variables.SecondArgument)) v.slice in (
         below_extent (has_variable variables.FirstArgument (first_loops func None)) (extent own.x) visit.x wide p.0,
         below_extent (has_variable variables.SecondArgument (first_loops func None)) (extent own.y) visit.y high p.1,
       )
@@ -73,7 +77,8 @@ module _ (pipeline : Pipeline) (schedule : Schedule) (boxes : Boxes) (rules : Is
   pub there_parts : (x y : ℕ) → points place x y ≡ true → (nat_lt x (extent own.x) && nat_lt y (extent own.y)) ≡ true
   there_parts x y e = ap (λ (o : Option (Option SourceBox)). has_point (box_in o) x y) (sym at.box_is) ∙ e
 
-  second_by : (y : ℕ) → nat_lt y (extent own.y) ≡ true → (has : Bool) → has_variable variables.SecondArgument (first_loops func None) ≡ has → nat_lt y (cond has (extent own.y) 1) ≡ true
+  second_by : (y : ℕ) → nat_lt y (extent own.y) ≡ true → (has : Bool) → has_variable variables.SecondArgument (first_loops func None) ≡ has
+      → nat_lt y (cond has (extent own.y) 1) ≡ true
   second_by y l true e = l
   second_by y l false e =
       let row = one_row_boxes pipeline schedule boxes rules accepted is place func own at.func_is (one_without func e) at.box_is in

@@ -27,7 +27,8 @@ inside_few : (consumer : ℕ) (own : Option Loop) (all : List Loop) → length a
 inside_few consumer None all few = omega (arith, few)
 inside_few consumer (Some own) all few = let e = length-take (length all - 1) all in omega (arith, few, e)
 
-pub update_few : (consumer : ℕ) (own : Option Loop) (all : List Loop) (splits inner body : ℕ) → length all ≤ 5 → splits ≤ 4 → inner ≡ 0 → body ≡ length (inside_of own all) + (splits + inner)
+pub update_few : (consumer : ℕ) (own : Option Loop) (all : List Loop) (splits inner body : ℕ) → length all ≤ 5 → splits ≤ 4 → inner ≡ 0
+    → body ≡ length (inside_of own all) + (splits + inner)
     → count_of (counter_of consumer own) + body ≤ 14
 update_few consumer own all splits inner body few few_splits none is = let l = inside_few consumer own all few in omega (arith, l, few_splits, none, is)
 
@@ -44,7 +45,8 @@ module _ (pipeline : Pipeline) (schedule : Schedule) (boxes : Boxes) where
       let r = nests_few at (suc from) inside rest others in
       omega (arith, e, f, r)
 
-  loops_few : (consumer : ℕ) (counts : loops.Values) (leaf : Stmt) (own : List Loop) (made : Stmt) → HasLoops pipeline schedule boxes consumer counts leaf own made
+  loops_few : (consumer : ℕ) (counts : loops.Values) (leaf : Stmt) (own : List Loop) (made : Stmt)
+      → HasLoops pipeline schedule boxes consumer counts leaf own made
       → depth made ≤ length own + max 9 (depth leaf)
   loops_few consumer counts leaf _ _ No_loops = omega arith
   loops_few consumer counts leaf _ _ (One_outside inside own inner body made has nests does around run_around) =
@@ -54,11 +56,13 @@ module _ (pipeline : Pipeline) (schedule : Schedule) (boxes : Boxes) where
       let l = length-append inside (own ∷ []) in
       omega (arith, e, n, i, l)
 
-  outermost_few : (consumer : ℕ) (own : Option Loop) (inner body : Stmt) → HasOutermost pipeline schedule boxes consumer own inner body → depth body ≤ max 9 (depth inner)
+  outermost_few : (consumer : ℕ) (own : Option Loop) (inner body : Stmt) → HasOutermost pipeline schedule boxes consumer own inner body
+      → depth body ≤ max 9 (depth inner)
   outermost_few consumer None inner body same = omega (arith, ap depth same)
   outermost_few consumer (Some own) inner body nests = nests_few (record { func = consumer; inside = own.id }) 0 inner body nests
 
-  pub body_few : (consumer : ℕ) (stage : Stage) (extents : Extents) (store body : Stmt) → IsBody pipeline schedule boxes consumer stage extents store body → depth store ≡ 0
+  pub body_few : (consumer : ℕ) (stage : Stage) (extents : Extents) (store body : Stmt) → IsBody pipeline schedule boxes consumer stage extents store body
+      → depth store ≡ 0
       → length stage.loops ≤ 5 → length stage.splits ≤ 4 → count_of (counter_of consumer (parallel stage)) + depth body ≤ 14
   body_few consumer stage extents store body is none few few_splits =
       let e = is.depth_is in
@@ -76,7 +80,8 @@ module _ (pipeline : Pipeline) (schedule : Schedule) (boxes : Boxes) where
   found_need at place None is = omega arith
   found_need at place (Some made) is = is.needs
 
-  nests_need : (at : LoopPlace) (from : ℕ) (inside made : Stmt) → HasNests pipeline schedule boxes at from inside made → greatest_need made ≤ max most (greatest_need inside)
+  nests_need : (at : LoopPlace) (from : ℕ) (inside made : Stmt) → HasNests pipeline schedule boxes at from inside made
+      → greatest_need made ≤ max most (greatest_need inside)
   nests_need at _ inside _ (None_left from _ past) = omega arith
   nests_need at _ _ _ (One_more from found inside rest made is others first) =
       let e = first.need_is in
@@ -84,7 +89,8 @@ module _ (pipeline : Pipeline) (schedule : Schedule) (boxes : Boxes) where
       let r = nests_need at (suc from) inside rest others in
       omega (arith, e, f, r)
 
-  loops_need : (consumer : ℕ) (counts : loops.Values) (leaf : Stmt) (own : List Loop) (made : Stmt) → HasLoops pipeline schedule boxes consumer counts leaf own made
+  loops_need : (consumer : ℕ) (counts : loops.Values) (leaf : Stmt) (own : List Loop) (made : Stmt)
+      → HasLoops pipeline schedule boxes consumer counts leaf own made
       → greatest_need made ≤ max most (greatest_need leaf)
   loops_need consumer counts leaf _ _ No_loops = omega arith
   loops_need consumer counts leaf _ _ (One_outside inside own inner body made has nests does around run_around) =
@@ -93,11 +99,13 @@ module _ (pipeline : Pipeline) (schedule : Schedule) (boxes : Boxes) where
       let i = loops_need consumer counts leaf inside inner has in
       omega (arith, e, n, i)
 
-  outermost_need : (consumer : ℕ) (own : Option Loop) (inner body : Stmt) → HasOutermost pipeline schedule boxes consumer own inner body → greatest_need body ≤ max most (greatest_need inner)
+  outermost_need : (consumer : ℕ) (own : Option Loop) (inner body : Stmt) → HasOutermost pipeline schedule boxes consumer own inner body
+      → greatest_need body ≤ max most (greatest_need inner)
   outermost_need consumer None inner body same = let e : greatest_need body ≡ greatest_need inner = ap greatest_need same in omega (arith, e)
   outermost_need consumer (Some own) inner body nests = nests_need (record { func = consumer; inside = own.id }) 0 inner body nests
 
-  pub body_need : (consumer : ℕ) (stage : Stage) (extents : Extents) (store body : Stmt) → IsBody pipeline schedule boxes consumer stage extents store body → greatest_need store ≤ most
+  pub body_need : (consumer : ℕ) (stage : Stage) (extents : Extents) (store body : Stmt) → IsBody pipeline schedule boxes consumer stage extents store body
+      → greatest_need store ≤ most
       → greatest_need body ≤ most
   body_need consumer stage extents store body is few =
       let e = is.need_is in
@@ -114,7 +122,8 @@ module _ (pipeline : Pipeline) (schedule : Schedule) (boxes : Boxes) where
   one_behind [] phase few own = (own, tt)
   one_behind (first ∷ phases) phase few own = (few.0, one_behind phases phase few.1 own)
 
-  stage_few : (place : ℕ) (func : Func) (plan : FuncPlan) (own : SourceBox) (number : ℕ) (phase : Phase) → lowered.IsStagePhase pipeline schedule boxes place func plan own number phase → TakesFew pipeline schedule phase
+  stage_few : (place : ℕ) (func : Func) (plan : FuncPlan) (own : SourceBox) (number : ℕ) (phase : Phase)
+      → lowered.IsStagePhase pipeline schedule boxes place func plan own number phase → TakesFew pipeline schedule phase
   stage_few place func plan own _ _ (lowered.Pure phase tasks private_is bytes does touches few stores rounds in_runs) = few.0
   stage_few place func plan own _ _ (lowered.Updating at update stage phase it tasks private_is bytes does touches few stores rounds) = few.0
 

@@ -34,20 +34,23 @@ use Rattle.bounds.specs.Stages.{IsComputedAt}
 -- ---- where it is computed
 
 -- a Func at a loop stands before its consumer
-pub produced_before : (pipeline : Pipeline) (schedule : Schedule) → IsAccepted pipeline schedule → (place : ℕ) (own : Standing) → IsReached schedule.standings place own
+pub produced_before : (pipeline : Pipeline) (schedule : Schedule) → IsAccepted pipeline schedule → (place : ℕ) (own : Standing)
+    → IsReached schedule.standings place own
     → (at : LoopPlace) → own.place ≡ places.At at → place < at.func
 produced_before pipeline schedule accepted place own there at placed =
     omega (arith, (numbered_at (HasConsumer pipeline schedule.funcs) 0 schedule.standings accepted.consumers place own there.standing at placed).later)
 
 -- ---- few points
 
-pub few_at : (boxes : List (Option SourceBox)) (place : ℕ) (own : SourceBox) → have_few_points boxes ≡ true → slice_get boxes place ≡ Some (Some own) → points own ≤ 2 ^ 20
+pub few_at : (boxes : List (Option SourceBox)) (place : ℕ) (own : SourceBox) → have_few_points boxes ≡ true → slice_get boxes place ≡ Some (Some own)
+    → points own ≤ 2 ^ 20
 few_at [] place own few there = absurd cc
 few_at (None ∷ boxes) zero own few there = absurd cc
 few_at (None ∷ boxes) (suc place) own few there = few_at boxes place own few there
 few_at (Some other ∷ boxes) zero own few there =
     let same : other ≡ own = cc in
-    leb-true (points own) (2 ^ 20) (subst (λ (b : SourceBox). nat_le (points b) (2 ^ 20) ≡ true) same (and_parts (nat_le (points other) (2 ^ 20)) (have_few_points boxes) few).0)
+    leb-true (points own) (2 ^ 20) (subst (λ (b : SourceBox). nat_le (points b) (2 ^ 20) ≡ true) same (and_parts (nat_le (points other) (2 ^ 20))
+    (have_few_points boxes) few).0)
 few_at (Some other ∷ boxes) (suc place) own few there = few_at boxes place own (and_parts (nat_le (points other) (2 ^ 20)) (have_few_points boxes) few).1 there
 
 pub first_few : (a b most : ℕ) → 1 ≤ b → a * b ≤ most → a ≤ most
@@ -56,7 +59,8 @@ first_few a b most some few = let m : a * 1 ≤ a * b = mul-le-mul (omega arith)
 pub second_few : (a b most : ℕ) → 1 ≤ a → a * b ≤ most → b ≤ most
 second_few a b most some few = let m : 1 * b ≤ a * b = mul-le-mul some (omega arith) in omega (arith, m, few)
 
-module _ (pipeline : Pipeline) (schedule : Schedule) (boxes : Boxes) (place : ℕ) (func : Func) (plan : FuncPlan) (own : SourceBox) (accepted : IsAccepted pipeline schedule) (is : inferred pipeline schedule ≡ Ok boxes)
+module _ (pipeline : Pipeline) (schedule : Schedule) (boxes : Boxes) (place : ℕ) (func : Func) (plan : FuncPlan) (own : SourceBox)
+    (accepted : IsAccepted pipeline schedule) (is : inferred pipeline schedule ≡ Ok boxes)
     (placed : Place) (here : IsComputed place placed) (at : IsComputedAt pipeline schedule boxes placed place func plan own) where
   computed : IsComputed place at.standing.place
   computed = subst (λ (p : Place). IsComputed place p) (sym at.placed_is) here
@@ -74,7 +78,8 @@ module _ (pipeline : Pipeline) (schedule : Schedule) (boxes : Boxes) (place : �
   plan_so = pair_at IsPlan pipeline.funcs schedule.funcs place func plan accepted.plans at.func_is at.plan_is
 
   pub staged : IsStageOf func None plan.pure × KeepsRules plan.pure
-  staged = (accepted_stages func plan at.standing plan_so (pair_at IsLegal schedule.funcs schedule.standings place plan at.standing accepted.legal at.plan_is at.there.standing) at.there.reached).0
+  staged = (accepted_stages func plan at.standing plan_so (pair_at IsLegal schedule.funcs schedule.standings place plan at.standing accepted.legal at.plan_is
+      at.there.standing) at.there.reached).0
 
   pub few_loops : length plan.pure.loops ≤ 5
   few_loops = staged.0.few
@@ -87,7 +92,8 @@ module _ (pipeline : Pipeline) (schedule : Schedule) (boxes : Boxes) (place : �
 
   pub few_points : points own ≤ 2 ^ 20
   few_points =
-      let all = and_parts (have_few_points boxes.inputs) (have_few_points boxes.funcs && nat_le boxes.layout.size 33554432) (is_judged pipeline schedule boxes is).few in
+      let all = and_parts (have_few_points boxes.inputs) (have_few_points boxes.funcs && nat_le boxes.layout.size 33554432) (is_judged pipeline schedule boxes
+      is).few in
       few_at boxes.funcs place own (and_parts (have_few_points boxes.funcs) (nat_le boxes.layout.size 33554432) all.1).0 at.box_is
 
   pub few : AreFew (extents_of own)

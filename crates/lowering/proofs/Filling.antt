@@ -57,15 +57,19 @@ pub no_other_loops : (consumer other : ℕ) (turned : loops.Values) → (other �
 no_other_loops consumer other turned d = fun_ext (λ id. ap (λ (b : Bool). cond b (turned id) 0) (ne_eqb other consumer d))
 
 -- loops of one Func are put, and those of another stay
-pub loops_put_other : (own other : ℕ) (inner : loops.Values) (values : Values) → (other ≡ own → ⊥) → loops_of other (put_loops own inner values) ≡ loops_of other values
+pub loops_put_other : (own other : ℕ) (inner : loops.Values) (values : Values) → (other ≡ own → ⊥) → loops_of other (put_loops own inner values)
+    ≡ loops_of other values
 loops_put_other own other inner values d = fun_ext (λ id. ap (λ (b : Bool). cond b (inner id) (values (record { func = other; id = id }))) (ne_eqb other own d))
 
-pub turns_by : (loop : LoopPlace) (plan : Option FuncPlan) (one other : Values) → loops_of loop.func one ≡ loops_of loop.func other → turns_at loop plan one ≡ turns_at loop plan other
+pub turns_by : (loop : LoopPlace) (plan : Option FuncPlan) (one other : Values) → loops_of loop.func one ≡ loops_of loop.func other
+    → turns_at loop plan one ≡ turns_at loop plan other
 turns_by loop None one other e = refl
 turns_by loop (Some plan) one other e = ap (values_in plan loop.inside) e
 
-module _ (pipeline : Pipeline) (schedule : Schedule) (boxes : Boxes) (rules : IsWellFormed pipeline) (accepted : IsAccepted pipeline schedule) (is : inferred pipeline schedule ≡ Ok boxes)
-    (loop : LoopPlace) (place : ℕ) (func : Func) (plan : FuncPlan) (own : SourceBox) (at : IsComputedAt pipeline schedule boxes (places.At loop) place func plan own)
+module _ (pipeline : Pipeline) (schedule : Schedule) (boxes : Boxes) (rules : IsWellFormed pipeline) (accepted : IsAccepted pipeline schedule)
+    (is : inferred pipeline schedule ≡ Ok boxes)
+    (loop : LoopPlace) (place : ℕ) (func : Func) (plan : FuncPlan) (own : SourceBox) (at : IsComputedAt pipeline schedule boxes (places.At loop) place func plan
+    own)
     (store : Stmt) (store_of : IsStoreOf pipeline schedule boxes (places.At loop) place func own store)
     (made : Stmt) (repeats : Repeats place made store (wholes (extents_of own) plan.pure.splits plan.pure.loops)) where
   pub here : place < loop.func
@@ -94,20 +98,26 @@ module _ (pipeline : Pipeline) (schedule : Schedule) (boxes : Boxes) (rules : Is
     values = turns_for schedule.funcs (places.At loop) counters
 
     turns_same : (inner : loops.Values) → turns_for schedule.funcs (places.At loop) (put_loops place inner counters) ≡ values
-    turns_same inner = turns_by loop (slice_get schedule.funcs loop.func) (put_loops place inner counters) counters (loops_put_other place loop.func inner counters (λ e. omega (arith, e, here)))
+    turns_same inner = turns_by loop (slice_get schedule.funcs loop.func) (put_loops place inner counters) counters (loops_put_other place loop.func inner
+        counters (λ e. omega (arith, e, here)))
 
-    module _ (below : Below values own.lasts) (funcs : Planes) (answered : IsAnswered pipeline schedule boxes loop.func place func own values inputs turned funcs) where
+    module _ (below : Below values own.lasts) (funcs : Planes) (answered : IsAnswered pipeline schedule boxes loop.func place func own values inputs turned
+        funcs) where
       abbrev plane : Plane
-      plane = writing.plane pipeline schedule boxes rules accepted is (places.At loop) place func plan own here at store store_of inputs values below counters turns_same
+      plane = writing.plane pipeline schedule boxes rules accepted is (places.At loop) place func plan own here at store store_of inputs values below counters
+          turns_same
 
       abbrev step : loops.Values → Planes → Planes
-      step = writing.step pipeline schedule boxes rules accepted is (places.At loop) place func plan own here at store store_of inputs values below counters turns_same
+      step = writing.step pipeline schedule boxes rules accepted is (places.At loop) place func plan own here at store store_of inputs values below counters
+          turns_same
 
       abbrev x_of : loops.Values → ℕ
-      x_of = writing.x_of pipeline schedule boxes rules accepted is (places.At loop) place func plan own here at store store_of inputs values below counters turns_same
+      x_of = writing.x_of pipeline schedule boxes rules accepted is (places.At loop) place func plan own here at store store_of inputs values below counters
+          turns_same
 
       abbrev y_of : loops.Values → ℕ
-      y_of = writing.y_of pipeline schedule boxes rules accepted is (places.At loop) place func plan own here at store store_of inputs values below counters turns_same
+      y_of = writing.y_of pipeline schedule boxes rules accepted is (places.At loop) place func plan own here at store store_of inputs values below counters
+          turns_same
 
       abbrev Ready : Planes → Type 0
       Ready now = Keeps place funcs now
@@ -117,12 +127,16 @@ module _ (pipeline : Pipeline) (schedule : Schedule) (boxes : Boxes) (rules : Is
 
       writes : (inner : loops.Values) → IsVisitOf func None extents (visit_of extents inner) → Writes points place plane Ready stays x_of y_of step inner
       writes inner v =
-          writing.writes pipeline schedule boxes rules accepted is (places.At loop) place func plan own here at store store_of inputs values below counters turns_same inner v Ready stays
+          writing.writes pipeline schedule boxes rules accepted is (places.At loop) place func plan own here at store store_of inputs values below counters
+          turns_same inner v Ready stays
           (λ now ready. answered store_of.corners store_of.are_corners (put_loops place inner counters)
           (loops_put_other place loop.func inner counters (λ e. omega (arith, e, here)) ∙ loops_consuming loop.func turned) now ready
-          (writing.across pipeline schedule boxes rules accepted is (places.At loop) place func plan own here at store store_of inputs values below counters turns_same inner)
-          (writing.down pipeline schedule boxes rules accepted is (places.At loop) place func plan own here at store store_of inputs values below counters turns_same inner)
-          (writing.lies pipeline schedule boxes rules accepted is (places.At loop) place func plan own here at store store_of inputs values below counters turns_same inner v))
+          (writing.across pipeline schedule boxes rules accepted is (places.At loop) place func plan own here at store store_of inputs values below counters
+          turns_same inner)
+          (writing.down pipeline schedule boxes rules accepted is (places.At loop) place func plan own here at store store_of inputs values below counters
+          turns_same inner)
+          (writing.lies pipeline schedule boxes rules accepted is (places.At loop) place func plan own here at store store_of inputs values below counters
+          turns_same inner v))
 
       all_write : AllByRecursion (Writes points place plane Ready stays x_of y_of step) turns
       all_write =
@@ -139,20 +153,25 @@ module _ (pipeline : Pipeline) (schedule : Schedule) (boxes : Boxes) (rules : Is
       small = subst AreSmall (sym no_turns) (λ id. omega arith)
 
       ran : run points inputs made counters funcs ≡ all step turns funcs
-      ran = repeats.runs points inputs counters funcs small ∙ ap (λ (t : loops.Values). all step (wholes extents plan.pure.splits plan.pure.loops t) funcs) no_turns
+      ran = repeats.runs points inputs counters funcs small ∙ ap (λ (t : loops.Values). all step (wholes extents plan.pure.splits plan.pure.loops t) funcs)
+          no_turns
 
       -- each point of the box is visited
       reached_by : (x y : ℕ) → x < extent own.x → y < extent own.y → (test : Bool) → list_any (is_slice x y) (visits extents plan.pure) ≡ test → test ≡ true
       reached_by x y lx ly true e = refl
       reached_by x y lx ly false e =
-          let there = slice_there pipeline schedule boxes rules accepted is (places.At loop) place func plan own here at x y (point_there pipeline schedule boxes rules accepted is (places.At loop) place func plan own here at x y lx ly) in
-          let contains = visited func extents x y there plan.pure stage_facts.0 (fits pipeline schedule boxes place func plan own accepted is (places.At loop) here at) in
-          let not_here = of_all (λ (v : Visit). is_slice x y v ≡ false) (visits extents plan.pure) (none_passes (is_slice x y) (visits extents plan.pure) e) (record { x = x; y = y; number = 0 }) contains in
+          let there = slice_there pipeline schedule boxes rules accepted is (places.At loop) place func plan own here at x y (point_there pipeline schedule
+          boxes rules accepted is (places.At loop) place func plan own here at x y lx ly) in
+          let contains = visited func extents x y there plan.pure stage_facts.0 (fits pipeline schedule boxes place func plan own accepted is (places.At loop)
+          here at) in
+          let not_here = of_all (λ (v : Visit). is_slice x y v ≡ false) (visits extents plan.pure) (none_passes (is_slice x y) (visits extents plan.pure) e)
+          (record { x = x; y = y; number = 0 }) contains in
           absurd (true≢false (sym (and_from (x == x) (y == y) (eq-eqb x x refl) (eq-eqb y y refl)) ∙ not_here))
 
       is_reached : (x y : ℕ) → x < extent own.x → y < extent own.y → list_any (is_at points place plane Ready stays x_of y_of step x y) turns ≡ true
       is_reached x y lx ly =
-          sym (ap (list_any (is_slice x y)) visits_are ∙ any_map (is_slice x y) (visit_of extents) turns) ∙ reached_by x y lx ly (list_any (is_slice x y) (visits extents plan.pure)) refl
+          sym (ap (list_any (is_slice x y)) visits_are ∙ any_map (is_slice x y) (visit_of extents) turns)
+          ∙ reached_by x y lx ly (list_any (is_slice x y) (visits extents plan.pure)) refl
 
       leaves : Leaves place own values (stage place func inputs (pixels pipeline.funcs inputs place) 0) funcs (run points inputs made counters funcs)
       leaves = record {
@@ -167,7 +186,8 @@ module _ (pipeline : Pipeline) (schedule : Schedule) (boxes : Boxes) (rules : Is
 
   module _ (reads : Reads) (words : AnswerWords pipeline.inputs reads) (written : Points) (loaded : Point → Bool) (turned : loops.Values)
       (below : Below (turns_for schedule.funcs (places.At loop) (consuming loop.func turned)) own.lasts)
-      (may : MayTouch pipeline schedule boxes loop.func place func own (turns_for schedule.funcs (places.At loop) (consuming loop.func turned)) reads written loaded turned) where
+      (may : MayTouch pipeline schedule boxes loop.func place func own (turns_for schedule.funcs (places.At loop) (consuming loop.func turned)) reads written
+      loaded turned) where
     dark : Planes
     dark other x y = 0
 
@@ -185,12 +205,17 @@ module _ (pipeline : Pipeline) (schedule : Schedule) (boxes : Boxes) (rules : Is
         let x = inner (ids.Whole variables.FirstArgument) in
         let y = inner (ids.Whole variables.SecondArgument) in
         let p = parts_of pipeline schedule boxes rules accepted is (places.At loop) place func plan own here at (visit_of extents inner) v in
-        writing.sound pipeline schedule boxes rules accepted is (places.At loop) place func plan own here at store store_of dark values_now below now (turns_same dark turned) inner v reads written loaded
+        writing.sound pipeline schedule boxes rules accepted is (places.At loop) place func plan own here at store store_of dark values_now below now
+        (turns_same dark turned) inner v reads written loaded
         (may.writes x y (and_from (nat_lt x (extent own.x)) (nat_lt y (extent own.y)) (lt-ltb x (extent own.x) p.0) (lt-ltb y (extent own.y) p.1)))
-        (may.pure store_of.corners store_of.are_corners (put_loops place inner now) (loops_put_other place loop.func inner now (λ e. omega (arith, e, here)) ∙ loops_consuming loop.func turned)
-        (writing.across pipeline schedule boxes rules accepted is (places.At loop) place func plan own here at store store_of dark values_now below now (turns_same dark turned) inner)
-        (writing.down pipeline schedule boxes rules accepted is (places.At loop) place func plan own here at store store_of dark values_now below now (turns_same dark turned) inner)
-        (writing.lies pipeline schedule boxes rules accepted is (places.At loop) place func plan own here at store store_of dark values_now below now (turns_same dark turned) inner v))
+        (may.pure store_of.corners store_of.are_corners (put_loops place inner now) (loops_put_other place loop.func inner now (λ e. omega (arith, e, here))
+        ∙ loops_consuming loop.func turned)
+        (writing.across pipeline schedule boxes rules accepted is (places.At loop) place func plan own here at store store_of dark values_now below now
+        (turns_same dark turned) inner)
+        (writing.down pipeline schedule boxes rules accepted is (places.At loop) place func plan own here at store store_of dark values_now below now
+        (turns_same dark turned) inner)
+        (writing.lies pipeline schedule boxes rules accepted is (places.At loop) place func plan own here at store store_of dark values_now below now
+        (turns_same dark turned) inner v))
 
     no_turns_now : loops_of place now ≡ zeros
     no_turns_now = no_other_loops loop.func place turned (λ e. omega (arith, e, here))
@@ -198,7 +223,8 @@ module _ (pipeline : Pipeline) (schedule : Schedule) (boxes : Boxes) (rules : Is
     pub sound_nest : is_sound reads written loaded made now ≡ true
     sound_nest =
         repeats.sound reads written loaded now (subst AreSmall (sym no_turns_now) (λ id. omega arith))
-        ∙ ap (λ (t : loops.Values). list_all (λ inner. is_sound reads written loaded store (put_loops place inner now)) (wholes extents plan.pure.splits plan.pure.loops t)) no_turns_now
+        ∙ ap (λ (t : loops.Values). list_all (λ inner. is_sound reads written loaded store (put_loops place inner now)) (wholes extents plan.pure.splits
+        plan.pure.loops t)) no_turns_now
         ∙ all_pass (λ inner. is_sound reads written loaded store (put_loops place inner now)) turns
         (all_map (IsVisitOf func None extents) IsSoundAt (visit_of extents) step_sound turns
         (subst (λ (l : List Visit). AllByRecursion (IsVisitOf func None extents) l) visits_are (visits_within func None extents plan.pure stage_facts.0)))

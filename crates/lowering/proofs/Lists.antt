@@ -1,5 +1,6 @@
 -- Lists in which some pass a test.
-use Rattle.std.proofs.Common.{◌≡◌, ℕ, zero, suc, ◌-◌, ◌<◌, ◌≤◌, Bool, true, false, cond, List, [], ◌∷◌, ◌++◌, length, get_or, take, map, filter, refl, sym, ap, subst, ◌∙◌, arith, inl, inr, length-append, length-take-le}
+use Rattle.std.proofs.Common.{◌≡◌, ℕ, zero, suc, ◌-◌, ◌<◌, ◌≤◌, Bool, true, false, cond, List, [], ◌∷◌, ◌++◌, length, get_or, take, map, filter, refl, sym, ap}
+use Rattle.std.proofs.Common.{subst, ◌∙◌, arith, inl, inr, length-append, length-take-le}
 use Rattle.std.specs.Prelude.{◌||◌}
 use Rattle.std.specs.List.{AllByRecursion, list_all, list_any}
 use Rattle.std.proofs.lemmas.Bool.{and_from, cases_eq, or_parts}
@@ -11,7 +12,8 @@ pub any_map : {A B : Type 0} (test : B → Bool) (f : A → B) (xs : List A) →
 any_map test f [] = refl
 any_map test f (x ∷ xs) = ap (λ (b : Bool). test (f x) || b) (any_map test f xs)
 
-pub all_map : {A B : Type 0} (P : B → Type 0) (Q : A → Type 0) (f : A → B) → ((x : A) → P (f x) → Q x) → (xs : List A) → AllByRecursion P (map f xs) → AllByRecursion Q xs
+pub all_map : {A B : Type 0} (P : B → Type 0) (Q : A → Type 0) (f : A → B) → ((x : A) → P (f x) → Q x) → (xs : List A) → AllByRecursion P (map f xs)
+    → AllByRecursion Q xs
 all_map P Q f step [] all = tt
 all_map P Q f step (x ∷ xs) all = (step x all.0, all_map P Q f step xs all.1)
 
@@ -21,7 +23,8 @@ all_pass test [] all = refl
 all_pass test (x ∷ xs) all = and_from (test x) (list_all test xs) all.0 (all_pass test xs all.1)
 
 -- one that passes has what all have that pass
-pub any_gives : {A : Type 0} (P : A → Type 0) (C : Type 0) (test : A → Bool) → ((x : A) → P x → test x ≡ true → C) → (xs : List A) → AllByRecursion P xs → list_any test xs ≡ true → C
+pub any_gives : {A : Type 0} (P : A → Type 0) (C : Type 0) (test : A → Bool) → ((x : A) → P x → test x ≡ true → C) → (xs : List A) → AllByRecursion P xs
+    → list_any test xs ≡ true → C
 any_gives P C test step [] all e = absurd cc
 any_gives {A} P C test step (x ∷ xs) all e = by_test (test x) refl e (any_gives P C test step xs all.1)
   where
@@ -37,11 +40,13 @@ pub none_kept : {A : Type 0} (test : A → Bool) (xs : List A) → filter test x
 none_kept test [] e = refl
 none_kept {A} test (x ∷ xs) e = by_test (test x) e (none_kept test xs)
   where
-    by_test : (b : Bool) → cond b (x ∷ filter test xs) (filter test xs) ≡ [] → (filter test xs ≡ [] → list_any test xs ≡ false) → (b || list_any test xs) ≡ false
+    by_test : (b : Bool) → cond b (x ∷ filter test xs) (filter test xs) ≡ [] → (filter test xs ≡ [] → list_any test xs ≡ false)
+        → (b || list_any test xs) ≡ false
     by_test true f later = absurd cc
     by_test false f later = later f
 
-pub none_upto : {A : Type 0} (test : A → Bool) (list : ℕ → List A) (n : ℕ) → ((k : ℕ) → k < n → list_any test (list k) ≡ false) → list_any test (upto n list) ≡ false
+pub none_upto : {A : Type 0} (test : A → Bool) (list : ℕ → List A) (n : ℕ) → ((k : ℕ) → k < n → list_any test (list k) ≡ false)
+    → list_any test (upto n list) ≡ false
 unfolding upto
 none_upto test list zero none = refl
 none_upto test list (suc n) none =

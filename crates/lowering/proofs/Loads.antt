@@ -1,7 +1,8 @@
 -- What definitions load of the buffers of other sources: points that are there.
 --
 -- Whatever reads are answered by, as long as these are words: where points are read hangs on these answers.
-use Rattle.std.proofs.Common.{◌≡◌, ℕ, suc, ◌^◌, ◌<◌, Bool, true, false, List, [], ◌∷◌, Option, Some, None, refl, sym, ap, subst, ◌∙◌, arith, inl, inr, true≢false}
+use Rattle.std.proofs.Common.{◌≡◌, ℕ, suc, ◌^◌, ◌<◌, Bool, true, false, List, [], ◌∷◌, Option, Some, None, refl, sym, ap, subst, ◌∙◌, arith, inl, inr}
+use Rattle.std.proofs.Common.{true≢false}
 use Rattle.std.specs.Prelude.{slice_get, nat_lt, Ok}
 use Rattle.std.specs.List.{AllByRecursion}
 use Rattle.std.proofs.lemmas.Bool.{and_from, lt-ltb, eq-eqb, ne_eqb}
@@ -86,9 +87,12 @@ module _ (pipeline : Pipeline) (corners : List Corner) (counters : Values) (read
     bytes = λ k input there is_bytes x y. subst (λ (n : ℕ). n < 256) (sym (input_stays k x y)) (words.bytes k input there is_bytes x y);
   }
 
-module _ (pipeline : Pipeline) (schedule : Schedule) (boxes : Boxes) (rules : IsWellFormed pipeline) (accepted : IsAccepted pipeline schedule) (is : inferred pipeline schedule ≡ Ok boxes)
-    (placed_at : Place) (reader : ℕ) (func : Func) (plan : FuncPlan) (own : SourceBox) (here : IsComputed reader placed_at) (at : IsComputedAt pipeline schedule boxes placed_at reader func plan own)
-    (consumer : ℕ) (consumer_func : Func) (consumer_plan : FuncPlan) (consuming : SourceBox) (consumer_at : IsAtRoot pipeline schedule boxes consumer consumer_func consumer_plan consuming) (turned : loops.Values)
+module _ (pipeline : Pipeline) (schedule : Schedule) (boxes : Boxes) (rules : IsWellFormed pipeline) (accepted : IsAccepted pipeline schedule)
+    (is : inferred pipeline schedule ≡ Ok boxes)
+    (placed_at : Place) (reader : ℕ) (func : Func) (plan : FuncPlan) (own : SourceBox) (here : IsComputed reader placed_at) (at : IsComputedAt pipeline schedule
+    boxes placed_at reader func plan own)
+    (consumer : ℕ) (consumer_func : Func) (consumer_plan : FuncPlan) (consuming : SourceBox) (consumer_at : IsAtRoot pipeline schedule boxes consumer
+    consumer_func consumer_plan consuming) (turned : loops.Values)
     (of_consumer : (k : ℕ) (w : IsReadWithin schedule reader k) (loop : LoopPlace) → w.own.place ≡ places.At loop → loop.func ≡ consumer)
     (counters : Values) (counters_are : (id : LoopId) → values_in consumer_plan id (loops_of consumer counters) ≡ values_in consumer_plan id turned)
     (corners : List Corner) (are : AreCorners schedule.funcs boxes.funcs schedule.standings corners)
@@ -99,7 +103,8 @@ module _ (pipeline : Pipeline) (schedule : Schedule) (boxes : Boxes) (rules : Is
     (produced_load : (k : ℕ) (w : IsReadWithin schedule reader k) (loop : LoopPlace) → w.own.place ≡ places.At loop
     → (x y : ℕ) → box_points boxes.funcs k x y ≡ true → loaded (record { source = sources.Func k; x = x; y = y }) ≡ true)
     (values : List ℕ) (below : Below values own.lasts) (x y : ℕ) (lies : LiesIn values own x y)
-    (may_be : (k : ℕ) (w : IsReadWithin schedule reader k) (loop : LoopPlace) → w.own.place ≡ places.At loop → MayBeArguments consumer_func consumer_plan consuming loop.inside turned placed_at own x y) where
+    (may_be : (k : ℕ) (w : IsReadWithin schedule reader k) (loop : LoopPlace) → w.own.place ≡ places.At loop
+    → MayBeArguments consumer_func consumer_plan consuming loop.inside turned placed_at own x y) where
   abbrev found : Reads
   found = placed corners counters reads
 
@@ -125,8 +130,10 @@ module _ (pipeline : Pipeline) (schedule : Schedule) (boxes : Boxes) (rules : Is
 
   -- ---- a point that is read
 
-  loads_in : (k a b : ℕ) (box : SourceBox) (turns : List ℕ) (standing : Standing) → IsReached schedule.standings k standing → IsComputed k standing.place → slice_get boxes.funcs k ≡ Some (Some box)
-      → turns_for schedule.funcs standing.place counters ≡ turns → LiesIn turns box a b → ((i j : ℕ) → box_points boxes.funcs k i j ≡ true → loaded (point_at (sources.Func k) i j) ≡ true)
+  loads_in : (k a b : ℕ) (box : SourceBox) (turns : List ℕ) (standing : Standing) → IsReached schedule.standings k standing → IsComputed k standing.place
+      → slice_get boxes.funcs k ≡ Some (Some box)
+      → turns_for schedule.funcs standing.place counters ≡ turns → LiesIn turns box a b → ((i j : ℕ) → box_points boxes.funcs k i j ≡ true
+      → loaded (point_at (sources.Func k) i j) ≡ true)
       → IsLoaded (point_at (sources.Func k) a b)
   loads_in k a b box turns standing there computed box_is turns_are inside all_load =
       let c = corner_at schedule.funcs boxes.funcs schedule.standings corners k (Some box) standing are box_is there.standing in
@@ -137,10 +144,12 @@ module _ (pipeline : Pipeline) (schedule : Schedule) (boxes : Boxes) (rules : Is
       let y_is = (c.is counters).1 ∙ ap (first_of box.y) turns_are in
       let lies_at : place_in corners counters (point_at (sources.Func k) a b) ≡ point_at (sources.Func k) i j = rw (c.there, x_is, y_is) refl in
       let there_so : box_points boxes.funcs k i j ≡ true =
-      rw box_is (and_from (nat_lt i (extent box.x)) (nat_lt j (extent box.y)) (lt-ltb i (extent box.x) (offset_within box.lasts turns box.x a inside.first o.x.ordered)) (lt-ltb j (extent box.y) (offset_within box.lasts turns box.y b inside.second o.y.ordered))) in
+      rw box_is (and_from (nat_lt i (extent box.x)) (nat_lt j (extent box.y)) (lt-ltb i (extent box.x) (offset_within box.lasts turns box.x a inside.first
+      o.x.ordered)) (lt-ltb j (extent box.y) (offset_within box.lasts turns box.y b inside.second o.y.ordered))) in
       ap loaded lies_at ∙ all_load i j there_so
 
-  turns_are : (p : Place) (loop : LoopPlace) → p ≡ places.At loop → loop.func ≡ consumer → turns_for schedule.funcs p counters ≡ values_in consumer_plan loop.inside turned
+  turns_are : (p : Place) (loop : LoopPlace) → p ≡ places.At loop → loop.func ≡ consumer
+      → turns_for schedule.funcs p counters ≡ values_in consumer_plan loop.inside turned
   turns_are p loop e same =
       ap (λ (q : Place). turns_for schedule.funcs q counters) e
       ∙ ap (λ (q : Option FuncPlan). turns_at loop q counters) (ap (λ (n : ℕ). slice_get schedule.funcs n) same ∙ consumer_at.plan_is)
@@ -150,11 +159,14 @@ module _ (pipeline : Pipeline) (schedule : Schedule) (boxes : Boxes) (rules : Is
   -- what is known of points that are read
   record AreRead (count : ℕ) (list : List Point) : Type 0 where
     inputs : (k : ℕ) → AreBoxed no_loops (sources.Input k) (slice_get boxes.inputs k) list
-    roots : (k : ℕ) (standing : Standing) → k < reader → IsReached schedule.standings k standing → standing.place ≡ places.Root → AreBoxed no_loops (sources.Func k) (slice_get boxes.funcs k) list
-    produced : (k : ℕ) (w : IsReadWithin schedule reader k) (loop : LoopPlace) → w.own.place ≡ places.At loop → AreBoxed (values_in consumer_plan loop.inside turned) (sources.Func k) (slice_get boxes.funcs k) list
+    roots : (k : ℕ) (standing : Standing) → k < reader → IsReached schedule.standings k standing → standing.place ≡ places.Root
+        → AreBoxed no_loops (sources.Func k) (slice_get boxes.funcs k) list
+    produced : (k : ℕ) (w : IsReadWithin schedule reader k) (loop : LoopPlace) → w.own.place ≡ places.At loop
+        → AreBoxed (values_in consumer_plan loop.inside turned) (sources.Func k) (slice_get boxes.funcs k) list
     through : AreReadThrough pipeline schedule.standings reader count list
 
-  func_loads : (k a b count : ℕ) (list : List Point) → AreRead count (point_at (sources.Func k) a b ∷ list) → flagged (flags_of schedule.standings) k ≡ false → ReadsThrough pipeline schedule.standings reader k
+  func_loads : (k a b count : ℕ) (list : List Point) → AreRead count (point_at (sources.Func k) a b ∷ list) → flagged (flags_of schedule.standings) k ≡ false
+      → ReadsThrough pipeline schedule.standings reader k
       → IsLoaded (point_at (sources.Func k) a b)
   func_loads k a b count list r plain through =
       let w = readers_stand_within pipeline schedule accepted reader at.standing at.there reader_computed k through in
@@ -162,29 +174,35 @@ module _ (pipeline : Pipeline) (schedule : Schedule) (boxes : Boxes) (rules : Is
     where
       by_box : (w : IsReadWithin schedule reader k) → IsComputed k w.own.place → (turns : List ℕ) → turns_for schedule.funcs w.own.place counters ≡ turns
           → ((i j : ℕ) → box_points boxes.funcs k i j ≡ true → loaded (point_at (sources.Func k) i j) ≡ true)
-          → (answer : Option (Option SourceBox)) → slice_get boxes.funcs k ≡ answer → IsSome answer → IsBoxed turns answer a b → IsLoaded (point_at (sources.Func k) a b)
+          → (answer : Option (Option SourceBox)) → slice_get boxes.funcs k ≡ answer → IsSome answer → IsBoxed turns answer a b
+          → IsLoaded (point_at (sources.Func k) a b)
       by_box w computed turns so all_load None e some inside = let wrong = some.is in absurd cc
       by_box w computed turns so all_load (Some None) e some inside = absurd inside
       by_box w computed turns so all_load (Some (Some box)) e some inside = loads_in k a b box turns w.own w.there computed e so inside all_load
 
       by_place : (w : IsReadWithin schedule reader k) (p : Place) → w.own.place ≡ p → IsLoaded (point_at (sources.Func k) a b)
       by_place w places.Root e =
-          by_box w (subst (λ (p : Place). IsComputed k p) (sym e) tt) no_loops (ap (λ (p : Place). turns_for schedule.funcs p counters) e) (roots_load k w.own w.before w.there e)
+          by_box w (subst (λ (p : Place). IsComputed k p) (sym e) tt) no_loops (ap (λ (p : Place). turns_for schedule.funcs p counters) e)
+          (roots_load k w.own w.before w.there e)
           (slice_get boxes.funcs k) refl (some_before boxes.funcs reader k (Some own) at.box_is w.before) ((r.roots k w.own w.before w.there e).0 (same_self k))
       by_place w (places.At loop) e =
-          by_box w (subst (λ (p : Place). IsComputed k p) (sym e) (produced_before pipeline schedule accepted k w.own w.there loop e)) (values_in consumer_plan loop.inside turned) (turns_are w.own.place loop e (of_consumer k w loop e)) (produced_load k w loop e)
+          by_box w (subst (λ (p : Place). IsComputed k p) (sym e) (produced_before pipeline schedule accepted k w.own w.there loop e)) (values_in consumer_plan
+          loop.inside turned) (turns_are w.own.place loop e (of_consumer k w loop e)) (produced_load k w loop e)
           (slice_get boxes.funcs k) refl (some_before boxes.funcs reader k (Some own) at.box_is w.before) ((r.produced k w loop e).0 (same_self k))
       by_place w places.Inlined e = absurd (true≢false (sym (flag_is schedule.standings k w.own w.there.standing ∙ ap is_inlined e) ∙ plain))
       by_place w places.Nowhere e = absurd (true≢false (sym (ap is_nowhere e) ∙ somewhere k w.before w.own w.there))
 
-  one_loads : (s : Source) (a b count : ℕ) (list : List Point) → AreRead count (point_at s a b ∷ list) → IsReadThrough pipeline schedule.standings reader count s → same_source s (sources.Func reader) ≡ false
+  one_loads : (s : Source) (a b count : ℕ) (list : List Point) → AreRead count (point_at s a b ∷ list)
+      → IsReadThrough pipeline schedule.standings reader count s → same_source s (sources.Func reader) ≡ false
       → IsLoaded (point_at s a b)
   one_loads (sources.Input k) a b count list r some differs =
-      inputs_load k a b (input_held pipeline schedule boxes rules accepted is reader own at.box_is values below x y lies k a b some ((r.inputs k).0 (eq-eqb k k refl)))
+      inputs_load k a b (input_held pipeline schedule boxes rules accepted is reader own at.box_is values below x y lies k a b some
+      ((r.inputs k).0 (eq-eqb k k refl)))
   one_loads (sources.Func k) a b count list r (plain, (few, inl e)) differs = absurd (true≢false (sym (eq-eqb k reader e) ∙ differs))
   one_loads (sources.Func k) a b count list r (plain, (few, inr through)) differs = func_loads k a b count list r plain through
 
-  all_load : (count : ℕ) (list : List Point) → AreRead count list → AllByRecursion (λ point. same_source point.source (sources.Func reader) ≡ false → IsLoaded point) list
+  all_load : (count : ℕ) (list : List Point) → AreRead count list → AllByRecursion (λ point. same_source point.source (sources.Func reader) ≡ false
+      → IsLoaded point) list
   all_load count [] r = tt
   all_load count (point ∷ list) r = (
     one_loads point.source point.x point.y count list r r.through.0,
@@ -202,7 +220,8 @@ module _ (pipeline : Pipeline) (schedule : Schedule) (boxes : Boxes) (rules : Is
   not_own (sources.Input k) through = refl
   not_own (sources.Func k) (plain, (few, how)) = ne_eqb k reader (λ e. omega (arith, few, e))
 
-  all_other : (list : List Point) → AreReadThrough pipeline schedule.standings reader reader list → AllByRecursion (λ point. same_source point.source (sources.Func reader) ≡ false → IsLoaded point) list
+  all_other : (list : List Point) → AreReadThrough pipeline schedule.standings reader reader list
+      → AllByRecursion (λ point. same_source point.source (sources.Func reader) ≡ false → IsLoaded point) list
       → AllByRecursion IsLoaded list
   all_other [] through load = tt
   all_other (point ∷ list) through load = (load.0 (not_own point.source through.0), all_other list through.1 load.1)
@@ -211,12 +230,14 @@ module _ (pipeline : Pipeline) (schedule : Schedule) (boxes : Boxes) (rules : Is
   pure_read = record {
     inputs = λ k. pure_reads_of_inputs_lie pipeline schedule boxes rules is reader func own at.func_is at.box_is found answers values below x y lies k;
     roots = λ k standing before there root.
-        pure_reads_of_funcs_lie pipeline schedule boxes rules is reader func own at.func_is at.box_is k standing before there.standing there.reached (subst (λ (p : Place). IsComputed k p) (sym root) tt)
+        pure_reads_of_funcs_lie pipeline schedule boxes rules is reader func own at.func_is at.box_is k standing before there.standing there.reached
+        (subst (λ (p : Place). IsComputed k p) (sym root) tt)
         None (ap (λ (p : Place). consumer_in schedule boxes.funcs p) root) own refl found answers values below no_below x y lies;
     produced = λ k w loop e.
         let same = of_consumer k w loop e in
         pure_reads_in_loops_lie pipeline schedule boxes rules accepted is k w.own loop w.there.standing w.there.reached e consumer_func consumer_plan consuming
-        (ap (λ (n : ℕ). slice_get pipeline.funcs n) same ∙ consumer_at.func_is) (ap (λ (n : ℕ). slice_get schedule.funcs n) same ∙ consumer_at.plan_is) (ap (λ (n : ℕ). slice_get boxes.funcs n) same ∙ consumer_at.box_is)
+        (ap (λ (n : ℕ). slice_get pipeline.funcs n) same ∙ consumer_at.func_is) (ap (λ (n : ℕ). slice_get schedule.funcs n) same
+        ∙ consumer_at.plan_is) (ap (λ (n : ℕ). slice_get boxes.funcs n) same ∙ consumer_at.box_is)
         reader func at.standing own w.before at.func_is at.there.standing at.there.reached at.box_is found answers turned x y
         (subst (λ (p : Place). MayBeArguments consumer_func consumer_plan consuming loop.inside turned p own x y) (sym at.placed_is) (may_be k w loop e));
     through = pure_points_are_read_through pipeline schedule rules reader func at.func_is found x y;
@@ -229,34 +250,42 @@ module _ (pipeline : Pipeline) (schedule : Schedule) (boxes : Boxes) (rules : Is
 
   -- ---- updates
 
-  module _ (number_at : ℕ) (update : Update) (update_is : slice_get func.updates number_at ≡ Some update) (number : ℕ) (few : number < pixel.points update) where
-    near : IsNear x × IsNear y
-    near = points_are_near own (is_box pipeline schedule boxes reader func plan own accepted is placed_at here at) values below x y lies
+  module _ (number_at : ℕ) (update : Update) (update_is : slice_get func.updates number_at ≡ Some update) (number : ℕ) (few : number < pixel.points update)
+    where
+      near : IsNear x × IsNear y
+      near = points_are_near own (is_box pipeline schedule boxes reader func plan own accepted is placed_at here at) values below x y lies
 
-    not_inlined : (p : Place) → IsComputed reader p → is_inlined p ≡ false
-    not_inlined places.Root c = refl
-    not_inlined (places.At loop) c = refl
-    not_inlined places.Inlined c = absurd c
-    not_inlined places.Nowhere c = refl
+      not_inlined : (p : Place) → IsComputed reader p → is_inlined p ≡ false
+      not_inlined places.Root c = refl
+      not_inlined (places.At loop) c = refl
+      not_inlined places.Inlined c = absurd c
+      not_inlined places.Nowhere c = refl
 
-    unflagged : flagged (flags_of schedule.standings) reader ≡ false
-    unflagged = flag_is schedule.standings reader at.standing at.there.standing ∙ not_inlined at.standing.place reader_computed
+      unflagged : flagged (flags_of schedule.standings) reader ≡ false
+      unflagged = flag_is schedule.standings reader at.standing at.there.standing ∙ not_inlined at.standing.place reader_computed
 
-    update_read : AreRead (suc reader) (update_points pipeline schedule found reader update number x y)
-    update_read = record {
-      inputs = λ k. update_reads_of_inputs_lie pipeline schedule boxes rules is reader func own at.func_is at.box_is number_at update update_is found answers values below x y lies near.0 near.1 number few k;
-      roots = λ k standing before there root.
-          update_reads_of_funcs_lie pipeline schedule boxes rules is reader func own at.func_is at.box_is number_at update update_is k standing before there.standing there.reached
-          (subst (λ (p : Place). IsComputed k p) (sym root) tt) None (ap (λ (p : Place). consumer_in schedule boxes.funcs p) root) own refl found answers values below no_below x y lies near.0 near.1 number few;
-      produced = λ k w loop e.
-          let same = of_consumer k w loop e in
-          update_reads_in_loops_lie pipeline schedule boxes rules accepted is k w.own loop w.there.standing w.there.reached e consumer_func consumer_plan consuming
-          (ap (λ (n : ℕ). slice_get pipeline.funcs n) same ∙ consumer_at.func_is) (ap (λ (n : ℕ). slice_get schedule.funcs n) same ∙ consumer_at.plan_is) (ap (λ (n : ℕ). slice_get boxes.funcs n) same ∙ consumer_at.box_is)
-          reader func at.standing own w.before at.func_is at.there.standing at.there.reached at.box_is number_at update update_is found answers turned x y
-          (subst (λ (p : Place). MayBeArguments consumer_func consumer_plan consuming loop.inside turned p own x y) (sym at.placed_is) (may_be k w loop e)) near.0 near.1 number few;
-      through = update_points_are_read_through pipeline schedule rules reader func at.func_is unflagged number_at update update_is found number x y;
-    }
+      update_read : AreRead (suc reader) (update_points pipeline schedule found reader update number x y)
+      update_read = record {
+        inputs = λ k. update_reads_of_inputs_lie pipeline schedule boxes rules is reader func own at.func_is at.box_is number_at update update_is found answers
+            values below x y lies near.0 near.1 number few k;
+        roots = λ k standing before there root.
+            update_reads_of_funcs_lie pipeline schedule boxes rules is reader func own at.func_is at.box_is number_at update update_is k standing before
+            there.standing there.reached
+            (subst (λ (p : Place). IsComputed k p) (sym root) tt) None (ap (λ (p : Place). consumer_in schedule boxes.funcs p) root) own refl found answers
+            values
+            below no_below x y lies near.0 near.1 number few;
+        produced = λ k w loop e.
+            let same = of_consumer k w loop e in
+            update_reads_in_loops_lie pipeline schedule boxes rules accepted is k w.own loop w.there.standing w.there.reached e consumer_func consumer_plan
+            consuming
+            (ap (λ (n : ℕ). slice_get pipeline.funcs n) same ∙ consumer_at.func_is) (ap (λ (n : ℕ). slice_get schedule.funcs n) same
+            ∙ consumer_at.plan_is) (ap (λ (n : ℕ). slice_get boxes.funcs n) same ∙ consumer_at.box_is)
+            reader func at.standing own w.before at.func_is at.there.standing at.there.reached at.box_is number_at update update_is found answers turned x y
+            (subst (λ (p : Place). MayBeArguments consumer_func consumer_plan consuming loop.inside turned p own x y) (sym at.placed_is) (may_be k w loop e))
+            near.0 near.1 number few;
+        through = update_points_are_read_through pipeline schedule rules reader func at.func_is unflagged number_at update update_is found number x y;
+      }
 
-    pub update_loads : AllByRecursion (λ point. same_source point.source (sources.Func reader) ≡ false → loaded (place_in corners counters point) ≡ true)
-        (update_points pipeline schedule found reader update number x y)
-    update_loads = all_load (suc reader) (update_points pipeline schedule found reader update number x y) update_read
+      pub update_loads : AllByRecursion (λ point. same_source point.source (sources.Func reader) ≡ false → loaded (place_in corners counters point) ≡ true)
+          (update_points pipeline schedule found reader update number x y)
+      update_loads = all_load (suc reader) (update_points pipeline schedule found reader update number x y) update_read

@@ -1,5 +1,6 @@
 -- Loops of a consumer: how many stand inside one, and what changes where one is in another turn.
-use Rattle.std.proofs.Common.{◌≡◌, ℕ, zero, suc, ◌^◌, ◌<◌, ◌≤◌, Bool, true, false, cond, List, [], ◌∷◌, ◌++◌, length, take, drop, Option, Some, None, refl, sym, ap, subst, ◌∙◌, arith, inl, inr}
+use Rattle.std.proofs.Common.{◌≡◌, ℕ, zero, suc, ◌^◌, ◌<◌, ◌≤◌, Bool, true, false, cond, List, [], ◌∷◌, ◌++◌, length, take, drop, Option, Some, None, refl, sym}
+use Rattle.std.proofs.Common.{ap, subst, ◌∙◌, arith, inl, inr}
 use Rattle.std.specs.Prelude.{◌==◌, ◌&&◌, nat_lt, slice_get, bytes_eq, Contains}
 use Rattle.std.specs.List.{AllByRecursion}
 use Rattle.std.proofs.lemmas.Bool.{cases_eq, ltb-false}
@@ -29,11 +30,20 @@ count_by : (test : Bool) (n : ℕ) → test ≡ false → cond test 0 (suc n) �
 count_by test n e = ap (λ (b : Bool). cond b 0 (suc n)) e
 
 -- of loops of which no two are one, the one behind so many has so many inside
-pub count_at : (inside : List Loop) (own : Loop) (outside : List Loop) → Unique (inside ++ own ∷ outside) → inner_count own.id (inside ++ own ∷ outside) ≡ length inside
+pub count_at : (inside : List Loop) (own : Loop) (outside : List Loop) → Unique (inside ++ own ∷ outside) → inner_count own.id (inside ++ own ∷ outside)
+    ≡ length inside
 count_at [] own outside unique = ap (λ (b : Bool). cond b 0 (suc (inner_count own.id outside))) (same_id-self own.id)
 count_at (first ∷ inside) own outside unique = elim (cases_id first.id own.id) [
-  | inl e ↦ absurd (omega (arith, unique own.id, ap (λ (i : LoopId). has_id i first) e, has_same first, total-append (has_id own.id) inside (own ∷ outside), has_same own))
-  | inr d ↦ count_by (same_id first.id own.id) (inner_count own.id (inside ++ own ∷ outside)) d ∙ ap suc (count_at inside own outside (λ id. omega (arith, unique id)))
+  | inl e ↦ absurd (omega (
+    arith,
+    unique own.id,
+    ap (λ (i : LoopId). has_id i first) e,
+    has_same first,
+    total-append (has_id own.id) inside (own ∷ outside),
+    has_same own,
+  ))
+  | inr d ↦ count_by (same_id first.id own.id) (inner_count own.id (inside ++ own ∷ outside)) d
+      ∙ ap suc (count_at inside own outside (λ id. omega (arith, unique id)))
 ]
 
 first_counts : (test : Bool) (n : ℕ) → cond test 0 (suc n) ≡ 0 → test ≡ true
@@ -47,13 +57,15 @@ later_counts false n m e = omega (arith, e)
 -- and no other has so many
 pub counted_is : (inside : List Loop) (own : Loop) (outside : List Loop) (id : LoopId) → inner_count id (inside ++ own ∷ outside) ≡ length inside → own.id ≡ id
 counted_is [] own outside id e = same_id-true own.id id (first_counts (same_id own.id id) (inner_count id outside) e)
-counted_is (first ∷ inside) own outside id e = counted_is inside own outside id (later_counts (same_id first.id id) (inner_count id (inside ++ own ∷ outside)) (length inside) e)
+counted_is (first ∷ inside) own outside id e = counted_is inside own outside id (later_counts (same_id first.id id) (inner_count id (inside ++ own ∷ outside))
+    (length inside) e)
 
 count_few : (test : Bool) (n m : ℕ) → n < m → cond test 0 (suc n) < suc m
 count_few true n m l = omega arith
 count_few false n m l = omega (arith, l)
 
-found_by : (test named : Bool) (n m : ℕ) (first loop : Loop) (rest : Option Loop) → cond named (Some first) rest ≡ Some loop → (first ≡ loop → test ≡ true) → (rest ≡ Some loop → n < m) → cond test 0 (suc n) < suc m
+found_by : (test named : Bool) (n m : ℕ) (first loop : Loop) (rest : Option Loop) → cond named (Some first) rest ≡ Some loop → (first ≡ loop → test ≡ true)
+    → (rest ≡ Some loop → n < m) → cond test 0 (suc n) < suc m
 found_by test true n m first loop rest e here later =
     let same : first ≡ loop = cc in
     let t : test ≡ true = here same in
@@ -75,7 +87,8 @@ first_by false false rest n m e l = let k : n ≤ m = l e in omega (arith, k)
 pub count_first : (own other : LoopId) (loops : List Loop) → comes_first own other loops ≡ true → inner_count own loops ≤ inner_count other loops
 count_first own other [] e = absurd cc
 count_first own other (first ∷ outside) e =
-    first_by (same_id first.id own) (same_id first.id other) (comes_first own other outside) (inner_count own outside) (inner_count other outside) e (λ r. count_first own other outside r)
+    first_by (same_id first.id own) (same_id first.id other) (comes_first own other outside) (inner_count own outside) (inner_count other outside) e
+    (λ r. count_first own other outside r)
 
 -- ---- loops outside
 
@@ -94,7 +107,8 @@ turns_take counts (suc n) [] turns are = tt
 turns_take counts (suc n) (first ∷ others) turns are = (are.0, turns_take counts n others turns are.1)
 
 -- a loop that isn't among them is in another turn
-pub turns_with : (counts : Values) (loops : List Loop) (turns : Values) (id : LoopId) (turn : ℕ) → total (has_id id) loops ≡ 0 → AreTurns counts loops turns → AreTurns counts loops (with id turn turns)
+pub turns_with : (counts : Values) (loops : List Loop) (turns : Values) (id : LoopId) (turn : ℕ) → total (has_id id) loops ≡ 0 → AreTurns counts loops turns
+    → AreTurns counts loops (with id turn turns)
 turns_with counts [] turns id turn none are = tt
 turns_with counts (own ∷ others) turns id turn none are = (
   elim (cases_id own.id id) [
@@ -117,17 +131,20 @@ other_among (first ∷ others) id none zero l e =
     ]
 other_among (first ∷ others) id none (suc at) l e = other_among others id (omega (arith, none)) at l e
 
-other_at : (inside : List Loop) (own : Loop) (outside : List Loop) → Unique (inside ++ own ∷ outside) → (at : ℕ) → length inside < at → (l : Loop) → slice_get (inside ++ own ∷ outside) at ≡ Some l → same_id l.id own.id ≡ false
+other_at : (inside : List Loop) (own : Loop) (outside : List Loop) → Unique (inside ++ own ∷ outside) → (at : ℕ) → length inside < at → (l : Loop)
+    → slice_get (inside ++ own ∷ outside) at ≡ Some l → same_id l.id own.id ≡ false
 other_at [] own outside unique zero few l e = absurd (omega (arith, few))
 other_at [] own outside unique (suc at) few l e = other_among outside own.id (none_outside [] own outside unique) at l e
 other_at (first ∷ inside) own outside unique zero few l e = absurd (omega (arith, few))
 other_at (first ∷ inside) own outside unique (suc at) few l e = other_at inside own outside (λ id. omega (arith, unique id)) at (omega (arith, few)) l e
 
-module _ (inside : List Loop) (own : Loop) (outside : List Loop) (unique : Unique (inside ++ own ∷ outside)) (turns : Values) (turn n : ℕ) (few : suc (length inside) ≤ n) where
+module _ (inside : List Loop) (own : Loop) (outside : List Loop) (unique : Unique (inside ++ own ∷ outside)) (turns : Values) (turn n : ℕ)
+    (few : suc (length inside) ≤ n) where
   abbrev loops : List Loop
   loops = inside ++ own ∷ outside
 
-  turn_by : (at : ℕ) (test : Bool) → nat_lt at n ≡ test → (found : Option Loop) → slice_get loops at ≡ found → cond test 0 (turn_of (with own.id turn turns) found) ≡ cond test 0 (turn_of turns found)
+  turn_by : (at : ℕ) (test : Bool) → nat_lt at n ≡ test → (found : Option Loop) → slice_get loops at ≡ found
+      → cond test 0 (turn_of (with own.id turn turns) found) ≡ cond test 0 (turn_of turns found)
   turn_by at true t found e = refl
   turn_by at false t None e = refl
   turn_by at false t (Some l) e =
@@ -143,10 +160,12 @@ module _ (inside : List Loop) (own : Loop) (outside : List Loop) (unique : Uniqu
 
 -- ---- values of counters
 
-pub consuming_with : (consumer : ℕ) (id : LoopId) (turn : ℕ) (turns : Values) → counters.with (record { func = consumer; id = id }) turn (consuming consumer turns) ≡ consuming consumer (with id turn turns)
+pub consuming_with : (consumer : ℕ) (id : LoopId) (turn : ℕ) (turns : Values)
+    → counters.with (record { func = consumer; id = id }) turn (consuming consumer turns) ≡ consuming consumer (with id turn turns)
 consuming_with consumer id turn turns = fun_ext (λ own. by_test own (own.func == consumer))
   where
-    by_test : (own : Counter) (b : Bool) → cond (b && same_id own.id id) turn (cond b (turns own.id) 0) ≡ cond b (cond (same_id own.id id) turn (turns own.id)) 0
+    by_test : (own : Counter) (b : Bool) → cond (b && same_id own.id id) turn (cond b (turns own.id) 0) ≡ cond b (cond (same_id own.id id) turn (turns own.id))
+        0
     by_test own true = refl
     by_test own false = refl
 
@@ -181,7 +200,8 @@ with_itself id turns = fun_ext (λ other. elim (cases_id other id) [
 ])
 
 -- what is listed in some turns is listed by loops that take these among theirs
-pub nest_takes : {A : Type 0} (x : A) (counts : Values) (loops : List Loop) (body : Values → List A) (turns : Values) → AreTurns counts loops turns → Contains (body turns) x → Contains (nest counts loops body turns) x
+pub nest_takes : {A : Type 0} (x : A) (counts : Values) (loops : List Loop) (body : Values → List A) (turns : Values) → AreTurns counts loops turns
+    → Contains (body turns) x → Contains (nest counts loops body turns) x
 nest_takes x counts [] body turns are there = there
 nest_takes {A} x counts (own ∷ outside) body turns are there =
     nest_takes x counts outside (λ outer. upto (counts own.id) (λ turn. body (with own.id turn outer))) turns are.1

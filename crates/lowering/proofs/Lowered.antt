@@ -1,5 +1,6 @@
 -- The phases of a pipeline leave its pixels.
-use Rattle.std.proofs.Common.{◌≡◌, ℕ, zero, suc, ◌<◌, ◌≤◌, Bool, true, false, cond, List, [], ◌∷◌, ◌++◌, map, length, Option, Some, None, refl, sym, ap, subst, ◌∙◌, arith, inl, inr, true≢false}
+use Rattle.std.proofs.Common.{◌≡◌, ℕ, zero, suc, ◌<◌, ◌≤◌, Bool, true, false, cond, List, [], ◌∷◌, ◌++◌, map, length, Option, Some, None, refl, sym, ap, subst}
+use Rattle.std.proofs.Common.{◌∙◌, arith, inl, inr, true≢false}
 use Rattle.std.specs.Prelude.{◌&&◌, ◌||◌, ◌==◌, nat_lt, slice_get, Ok}
 use Rattle.std.proofs.lemmas.Bool.{and_from, lt-ltb, cases_eq, ne_eqb}
 use Rattle.halide_pipeline.specs.declared.definitions.Func.{Func}
@@ -33,7 +34,8 @@ use Rattle.bounds_laws.proofs.OwnReads.{output_lies}
 use Rattle.bounds_laws.proofs.PutIn.{pair_there}
 use Rattle.loop_ir.specs.declared.statements.Phase.{Phase}
 use Rattle.loop_ir.specs.Buffers.{Points}
-use Rattle.lowering.specs.Lowered.{IsStagePhase, Pure, Updating, ArePhasesOf, None_yet, IsNotAtRoot, AreLowered, No_func, Passed, Computed, tasks_of, DoPixels, LeaveOutput, PhasesDoPixels, PhasesLeaveOutput}
+use Rattle.lowering.specs.Lowered.{IsStagePhase, Pure, Updating, ArePhasesOf, None_yet, IsNotAtRoot, AreLowered, No_func, Passed, Computed, tasks_of, DoPixels}
+use Rattle.lowering.specs.Lowered.{LeaveOutput, PhasesDoPixels, PhasesLeaveOutput}
 use Rattle.lowering.specs.Lowered as lowered
 use Rattle.lowering.specs.Order.{Tasks, DoPhases, None_left, Same, One_more, AgreeThere}
 use Rattle.lowering.specs.Phases.{DoesPhase}
@@ -49,14 +51,17 @@ use Rattle.lowering.proofs.RootFacts.{offset_within, offset_back}
 -- ---- one more phase behind others
 
 module _ (points : Points) (is_private : ℕ → Bool) where
-  same_behind : (phases : List Tasks) (start between result : Planes) → DoPhases points is_private phases start between → AgreeThere points is_private between result
+  same_behind : (phases : List Tasks) (start between result : Planes) → DoPhases points is_private phases start between
+      → AgreeThere points is_private between result
       → DoPhases points is_private phases start result
   same_behind _ _ _ result (None_left start) agree = Same [] start result result agree (None_left result)
-  same_behind _ _ _ result (Same phases one other between like rest) agree = Same phases one other result like (same_behind phases other between result rest agree)
+  same_behind _ _ _ result (Same phases one other between like rest) agree = Same phases one other result like (same_behind phases other between result rest
+      agree)
   same_behind _ _ _ result (One_more first others own owns start middle between phase rest) agree =
       One_more first others own owns start middle result phase (same_behind others middle between result rest agree)
 
-  one_behind : (phases : List Tasks) (last : Tasks) (own : ℕ) (owns : ℕ → ℕ → ℕ → Bool) (start between result : Planes) → DoPhases points is_private phases start between
+  one_behind : (phases : List Tasks) (last : Tasks) (own : ℕ) (owns : ℕ → ℕ → ℕ → Bool) (start between result : Planes)
+      → DoPhases points is_private phases start between
       → DoesPhase points is_private own between result last.count owns last.run → DoPhases points is_private (phases ++ last ∷ []) start result
   one_behind _ last own owns _ _ result (None_left start) phase = One_more last [] own owns start result result phase (None_left result)
   one_behind _ last own owns _ _ result (Same phases one other between like rest) phase =
@@ -88,11 +93,17 @@ module _ (pipeline : Pipeline) (schedule : Schedule) (boxes : Boxes) (accepted :
     owned : ℕ → ℕ → ℕ → Bool
     does : DoesStage pipeline schedule boxes place func number owned phase
 
-  goes : (place : ℕ) (func : Func) (plan : FuncPlan) (own : SourceBox) (number : ℕ) (phase : Phase) → IsStagePhase pipeline schedule boxes place func plan own number phase → Goes place func number phase
-  goes place func plan own _ _ (Pure phase tasks private_is bytes does touches few stores rounds in_runs) = record { owned = owns (extents_of own) plan.pure; does = does }
-  goes place func plan own _ _ (Updating at update stage phase it tasks private_is bytes does touches few stores rounds) = record { owned = owns_update own update stage; does = does }
+  goes : (place : ℕ) (func : Func) (plan : FuncPlan) (own : SourceBox) (number : ℕ) (phase : Phase)
+      → IsStagePhase pipeline schedule boxes place func plan own number phase → Goes place func number phase
+  goes place func plan own _ _ (Pure phase tasks private_is bytes does touches few stores rounds in_runs) = record {
+    owned = owns (extents_of own) plan.pure;
+    does = does;
+  }
+  goes place func plan own _ _ (Updating at update stage phase it tasks private_is bytes does touches few stores rounds) =
+      record { owned = owns_update own update stage; does = does }
 
-  stages_do : (place : ℕ) (func : Func) (plan : FuncPlan) (own : SourceBox) (others phases : List Phase) (number : ℕ) → ArePhasesOf pipeline schedule boxes place func plan own others number phases
+  stages_do : (place : ℕ) (func : Func) (plan : FuncPlan) (own : SourceBox) (others phases : List Phase) (number : ℕ)
+      → ArePhasesOf pipeline schedule boxes place func plan own others number phases
       → DoPhases points private (do_tasks others) (before 0) (before place)
       → DoPhases points private (do_tasks phases) (before 0) (held boxes.funcs (after_stages pipeline.funcs inputs place func number))
   stages_do place func plan own others _ _ None_yet start = start
@@ -110,18 +121,21 @@ module _ (pipeline : Pipeline) (schedule : Schedule) (boxes : Boxes) (accepted :
   unfolding pixels
   same_elsewhere place k x y d =
       let corner = corner_of (box_in (slice_get boxes.funcs k)) in
-      sym (ap (λ (b : Bool). cond b (func_plane place (slice_get pipeline.funcs place) inputs (pixels pipeline.funcs inputs place)) (pixels pipeline.funcs inputs place k) (word.add corner.x x) (word.add corner.y y)) (ne_eqb k place d))
+      sym (ap (λ (b : Bool). cond b (func_plane place (slice_get pipeline.funcs place) inputs (pixels pipeline.funcs inputs place))
+      (pixels pipeline.funcs inputs place k) (word.add corner.x x) (word.add corner.y y)) (ne_eqb k place d))
 
   -- no point that is shared is of a Func that has no phase
   nothing_shared : (place : ℕ) → IsNotAtRoot pipeline schedule boxes place → (x y : ℕ) → private place ≡ false → points place x y ≡ true → ⊥
   nothing_shared place not_root x y shared there = by_entry (slice_get boxes.funcs place) refl
     where
-      by_place : (own : SourceBox) → slice_get boxes.funcs place ≡ Some (Some own) → (b : HasBox pipeline schedule boxes place own) → (where_ : Place) → b.standing.place ≡ where_ → IsComputed place where_ → ⊥
+      by_place : (own : SourceBox) → slice_get boxes.funcs place ≡ Some (Some own) → (b : HasBox pipeline schedule boxes place own) → (where_ : Place)
+          → b.standing.place ≡ where_ → IsComputed place where_ → ⊥
       by_place own e b places.Root w c =
           let plan = pair_there IsPlan pipeline.funcs schedule.funcs place b.func accepted.plans b.func_is in
           not_root b.func plan.value own (record { func_is = b.func_is; plan_is = plan.is; box_is = e; standing = b.standing; there = b.there; placed_is = w })
       by_place own e b (places.At at) w c =
-          true≢false (sym (ap is_private_in b.there.standing ∙ (ap (λ (r : Bool). r && is_at_loop b.standing.place) b.there.reached ∙ ap is_at_loop w)) ∙ shared)
+          true≢false (sym (ap is_private_in b.there.standing ∙ (ap (λ (r : Bool). r && is_at_loop b.standing.place) b.there.reached ∙ ap is_at_loop w))
+          ∙ shared)
       by_place own e b places.Inlined w c = c
       by_place own e b places.Nowhere w c = c
 
@@ -142,50 +156,61 @@ module _ (pipeline : Pipeline) (schedule : Schedule) (boxes : Boxes) (accepted :
   done_agree place func found k x y shared there =
       let corner = corner_of (box_in (slice_get boxes.funcs k)) in
       let earlier = pixels pipeline.funcs inputs place in
-      let mine : Option Func → ℕ = λ (own : Option Func). cond (k == place) (func_plane place own inputs earlier) (earlier k) (word.add corner.x x) (word.add corner.y y) in
+      let mine : Option Func → ℕ = λ (own : Option Func). cond (k == place) (func_plane place own inputs earlier) (earlier k) (word.add corner.x x)
+      (word.add corner.y y) in
       by_test (k == place) (word.add corner.x x) (word.add corner.y y) ∙ sym (ap mine found)
     where
-      by_test : (test : Bool) (a b : ℕ) → cond test (stage place func inputs (pixels pipeline.funcs inputs place) (length func.updates)) (pixels pipeline.funcs inputs place k) a b
+      by_test : (test : Bool) (a b : ℕ) → cond test (stage place func inputs (pixels pipeline.funcs inputs place) (length func.updates))
+          (pixels pipeline.funcs inputs place k) a b
           ≡ cond test (func_plane place (Some func) inputs (pixels pipeline.funcs inputs place)) (pixels pipeline.funcs inputs place k) a b
       by_test true a b = refl
       by_test false a b = refl
 
   -- ---- all of them
 
-  funcs_do : (count : ℕ) (phases : List Phase) → AreLowered pipeline schedule boxes count phases → DoPhases points private (do_tasks phases) (before 0) (before count)
+  funcs_do : (count : ℕ) (phases : List Phase) → AreLowered pipeline schedule boxes count phases
+      → DoPhases points private (do_tasks phases) (before 0) (before count)
   funcs_do _ _ No_func = None_left (before 0)
   funcs_do _ _ (Passed place phases rest not_root) =
       same_behind points private (do_tasks phases) (before 0) (before place) (before (suc place)) (funcs_do place phases rest) (passed_agree place not_root)
   funcs_do _ _ (Computed place others phases func plan own rest at stages) =
-      same_behind points private (do_tasks phases) (before 0) (held boxes.funcs (after_stages pipeline.funcs inputs place func (suc (length func.updates)))) (before (suc place))
+      same_behind points private (do_tasks phases) (before 0) (held boxes.funcs (after_stages pipeline.funcs inputs place func (suc (length func.updates))))
+      (before (suc place))
       (stages_do place func plan own others phases (suc (length func.updates)) stages (funcs_do place others rest)) (done_agree place func at.func_is)
 
 pub phases_do_pixels : PhasesDoPixels
-phases_do_pixels pipeline schedule boxes accepted is phases are inputs begun = funcs_do pipeline schedule boxes accepted is inputs begun (length pipeline.funcs) phases are
+phases_do_pixels pipeline schedule boxes accepted is phases are inputs begun = funcs_do pipeline schedule boxes accepted is inputs begun (length pipeline.funcs)
+    phases are
 
 -- ---- the parts of a list of phases
 
 module _ (pipeline : Pipeline) (schedule : Schedule) (boxes : Boxes) where
   module _ (place : ℕ) (func : Func) (plan : FuncPlan) (own : SourceBox) (others : List Phase) where
-    pub one_stage : (phases more : List Phase) (number : ℕ) (phase : Phase) → ArePhasesOf pipeline schedule boxes place func plan own others number phases → IsStagePhase pipeline schedule boxes place func plan own number phase
+    pub one_stage : (phases more : List Phase) (number : ℕ) (phase : Phase) → ArePhasesOf pipeline schedule boxes place func plan own others number phases
+        → IsStagePhase pipeline schedule boxes place func plan own number phase
         → more ≡ phases ++ phase ∷ [] → ArePhasesOf pipeline schedule boxes place func plan own others (suc number) more
     one_stage phases more number phase before one e =
         subst (λ l. ArePhasesOf pipeline schedule boxes place func plan own others (suc number) l) (sym e) (lowered.One_more number phases phase before one)
 
-    pub nothing_yet : (phases : List Phase) (number : ℕ) → number ≡ 0 → phases ≡ others → ArePhasesOf pipeline schedule boxes place func plan own others number phases
+    pub nothing_yet : (phases : List Phase) (number : ℕ) → number ≡ 0 → phases ≡ others → ArePhasesOf pipeline schedule boxes place func plan own others number
+        phases
     nothing_yet phases number none same =
-        subst (λ (n : ℕ). ArePhasesOf pipeline schedule boxes place func plan own others n phases) (sym none) (subst (λ l. ArePhasesOf pipeline schedule boxes place func plan own others 0 l) (sym same) None_yet)
+        subst (λ (n : ℕ). ArePhasesOf pipeline schedule boxes place func plan own others n phases) (sym none)
+        (subst (λ l. ArePhasesOf pipeline schedule boxes place func plan own others 0 l) (sym same) None_yet)
 
-    pub stages_so : (phases more : List Phase) (number last : ℕ) → ArePhasesOf pipeline schedule boxes place func plan own others number phases → number ≡ last → more ≡ phases
+    pub stages_so : (phases more : List Phase) (number last : ℕ) → ArePhasesOf pipeline schedule boxes place func plan own others number phases → number ≡ last
+        → more ≡ phases
         → ArePhasesOf pipeline schedule boxes place func plan own others last more
     stages_so phases more number last before e same =
-        subst (λ (n : ℕ). ArePhasesOf pipeline schedule boxes place func plan own others n more) e (subst (λ l. ArePhasesOf pipeline schedule boxes place func plan own others number l) (sym same) before)
+        subst (λ (n : ℕ). ArePhasesOf pipeline schedule boxes place func plan own others n more) e (subst (λ l. ArePhasesOf pipeline schedule boxes place func
+        plan own others number l) (sym same) before)
 
   pub nothing_lowered : (count : ℕ) (phases : List Phase) → count ≡ 0 → phases ≡ [] → AreLowered pipeline schedule boxes count phases
   nothing_lowered count phases none empty =
       subst (λ (n : ℕ). AreLowered pipeline schedule boxes n phases) (sym none) (subst (λ l. AreLowered pipeline schedule boxes 0 l) (sym empty) No_func)
 
-  pub pure_is : (place : ℕ) (func : Func) (plan : FuncPlan) (own : SourceBox) (number : ℕ) (phase : Phase) → number ≡ 0 → IsStagePhase pipeline schedule boxes place func plan own 0 phase
+  pub pure_is : (place : ℕ) (func : Func) (plan : FuncPlan) (own : SourceBox) (number : ℕ) (phase : Phase) → number ≡ 0
+      → IsStagePhase pipeline schedule boxes place func plan own 0 phase
       → IsStagePhase pipeline schedule boxes place func plan own number phase
   pure_is place func plan own number phase none is = subst (λ (n : ℕ). IsStagePhase pipeline schedule boxes place func plan own n phase) (sym none) is
 
@@ -196,7 +221,8 @@ module _ (pipeline : Pipeline) (schedule : Schedule) (boxes : Boxes) where
   pub not_standing : (place : ℕ) → slice_get schedule.standings place ≡ None → IsNotAtRoot pipeline schedule boxes place
   not_standing place none func plan own at = let found = at.there.standing in cc
 
-  pub not_root : (place : ℕ) (standing : Standing) → slice_get schedule.standings place ≡ Some standing → is_at_root standing ≡ false → IsNotAtRoot pipeline schedule boxes place
+  pub not_root : (place : ℕ) (standing : Standing) → slice_get schedule.standings place ≡ Some standing → is_at_root standing ≡ false
+      → IsNotAtRoot pipeline schedule boxes place
   not_root place standing found fails func plan own at =
       let same : at.standing ≡ standing = let p = at.there.standing in cc in
       true≢false (sym (ap is_at_root (sym same) ∙ root_passes at.standing at.standing.place refl at.placed_is at.there.reached) ∙ fails)
@@ -215,7 +241,8 @@ past_end [] k none = omega arith
 past_end (x ∷ xs) zero none = absurd cc
 past_end (x ∷ xs) (suc k) none = omega (arith, past_end xs k none)
 
-pub no_stage : (pipeline : Pipeline) (schedule : Schedule) (boxes : Boxes) → IsAccepted pipeline schedule → (place : ℕ) (func : Func) (plan : FuncPlan) (own : SourceBox) → IsAtRoot pipeline schedule boxes place func plan own
+pub no_stage : (pipeline : Pipeline) (schedule : Schedule) (boxes : Boxes) → IsAccepted pipeline schedule
+    → (place : ℕ) (func : Func) (plan : FuncPlan) (own : SourceBox) → IsAtRoot pipeline schedule boxes place func plan own
     → (at : ℕ) (update : Update) → slice_get func.updates at ≡ Some update → slice_get plan.updates at ≡ None → ⊥
 no_stage pipeline schedule boxes accepted place func plan own root at update found none =
     let planned : IsPlan func plan = pair_at IsPlan pipeline.funcs schedule.funcs place func plan accepted.plans root.func_is root.plan_is in
@@ -246,7 +273,8 @@ or_second : (a b : Bool) → a ≡ false → (a || b) ≡ true → b ≡ true
 or_second true b f e = absurd cc
 or_second false b f e = e
 
-module _ (pipeline : Pipeline) (schedule : Schedule) (boxes : Boxes) (rules : IsWellFormed pipeline) (accepted : IsAccepted pipeline schedule) (is : inferred pipeline schedule ≡ Ok boxes)
+module _ (pipeline : Pipeline) (schedule : Schedule) (boxes : Boxes) (rules : IsWellFormed pipeline) (accepted : IsAccepted pipeline schedule)
+    (is : inferred pipeline schedule ≡ Ok boxes)
     (inputs : Planes) (begun : AnswerWords pipeline.inputs (reads_of inputs (pixels pipeline.funcs inputs 0))) where
   abbrev output : ℕ
   output = pipeline.output.func
@@ -259,7 +287,8 @@ module _ (pipeline : Pipeline) (schedule : Schedule) (boxes : Boxes) (rules : Is
   own_standing =
       let drawn = drawn_func (slice_get pipeline.funcs output) pipeline.output.dimensions rules.drawn in
       let plan = pair_there IsPlan pipeline.funcs schedule.funcs output drawn.value accepted.plans drawn.is in
-      subst (λ (l : List Standing). IsSome (slice_get l output)) (sym all_standings) (standing_some pipeline schedule.funcs 0 schedule.funcs output plan.value plan.is)
+      subst (λ (l : List Standing). IsSome (slice_get l output)) (sym all_standings) (standing_some pipeline schedule.funcs 0 schedule.funcs output plan.value
+      plan.is)
 
   known : (own_standing.value.is_reached ≡ true) × (own_standing.value.place ≡ places.Root)
   known = output_standing pipeline schedule.funcs own_standing.value (ap (λ (l : List Standing). slice_get l output) (sym all_standings) ∙ own_standing.is)
@@ -282,10 +311,12 @@ module _ (pipeline : Pipeline) (schedule : Schedule) (boxes : Boxes) (rules : Is
     lasts_none =
         let b = has_box pipeline schedule boxes accepted is output box_found.own box_found.is in
         let same : b.standing ≡ own_standing.value = let p = b.there.standing in let q = own_standing.is in cc in
-        b.lasts ∙ (ap (λ (t : Standing). lasts_of (consumer_in schedule boxes.funcs t.place)) same ∙ ap (λ (p : Place). lasts_of (consumer_in schedule boxes.funcs p)) known.1)
+        b.lasts ∙ (ap (λ (t : Standing). lasts_of (consumer_in schedule boxes.funcs t.place)) same
+        ∙ ap (λ (p : Place). lasts_of (consumer_in schedule boxes.funcs p)) known.1)
 
     lies : LiesIn no_loops box_found.own x y
-    lies = subst (λ (e : Option (Option SourceBox)). IsBoxed no_loops e x y) box_found.is (output_lies pipeline schedule boxes rules is own_standing.value own_standing.is known.0 known.1 x y inside_x inside_y)
+    lies = subst (λ (e : Option (Option SourceBox)). IsBoxed no_loops e x y) box_found.is (output_lies pipeline schedule boxes rules is own_standing.value
+        own_standing.is known.0 known.1 x y inside_x inside_y)
 
     lies_x : Lies no_loops no_loops box_found.own.x x
     lies_x = subst (λ (l : List ℕ). Lies l no_loops box_found.own.x x) lasts_none lies.first
@@ -302,29 +333,37 @@ module _ (pipeline : Pipeline) (schedule : Schedule) (boxes : Boxes) (rules : Is
     there : box_points boxes.funcs output far_x far_y ≡ true
     there =
         ap (λ (e : Option (Option SourceBox)). has_point (box_in e) far_x far_y) box_found.is
-        ∙ and_from (nat_lt far_x (extent box_found.own.x)) (nat_lt far_y (extent box_found.own.y)) (lt-ltb far_x (extent box_found.own.x) (offset_within box_found.own.x x lies_x))
+        ∙ and_from (nat_lt far_x (extent box_found.own.x)) (nat_lt far_y (extent box_found.own.y)) (lt-ltb far_x (extent box_found.own.x)
+        (offset_within box_found.own.x x lies_x))
         (lt-ltb far_y (extent box_found.own.y) (offset_within box_found.own.y y lies_y))
 
     abbrev held_in : Planes → Option (Option SourceBox) → ℕ → ℕ → ℕ
     held_in funcs entry i j = funcs output (word.add (corner_of (box_in entry)).x i) (word.add (corner_of (box_in entry)).y j)
 
-    holds : (after : Planes) → AgreeThere (box_points boxes.funcs) (is_private schedule.standings) after (held boxes.funcs (pixels pipeline.funcs inputs (length pipeline.funcs)))
+    holds : (after : Planes) → AgreeThere (box_points boxes.funcs) (is_private schedule.standings) after
+        (held boxes.funcs (pixels pipeline.funcs inputs (length pipeline.funcs)))
         → after output far_x far_y ≡ pixels pipeline.funcs inputs (length pipeline.funcs) output x y
     holds after agree =
         agree output far_x far_y output_shared there
         ∙ (ap (λ (e : Option (Option SourceBox)). held_in (pixels pipeline.funcs inputs (length pipeline.funcs)) e far_x far_y) box_found.is
-        ∙ (ap (λ (n : ℕ). pixels pipeline.funcs inputs (length pipeline.funcs) output n (word.add (word_at box_found.own.y.low) far_y)) (offset_back box_found.own.x x lies_x)
+        ∙ (ap (λ (n : ℕ). pixels pipeline.funcs inputs (length pipeline.funcs) output n (word.add (word_at box_found.own.y.low) far_y))
+        (offset_back box_found.own.x x lies_x)
         ∙ ap (λ (n : ℕ). pixels pipeline.funcs inputs (length pipeline.funcs) output x n) (offset_back box_found.own.y y lies_y)))
 
 pub phases_leave_output : PhasesLeaveOutput
 phases_leave_output pipeline schedule boxes rules accepted is phases are inputs begun funcs after zeros done x y inside_x inside_y =
     let found = box_found pipeline schedule boxes rules accepted is inputs begun x y inside_x inside_y in (
-      ap (λ (e : Option (Option SourceBox)). box_points boxes.funcs pipeline.output.func (word.subtract x (corner_of (box_in e)).x) (word.subtract y (corner_of (box_in e)).y)) found.is
+      ap (λ (e : Option (Option SourceBox)). box_points boxes.funcs pipeline.output.func (word.subtract x (corner_of (box_in e)).x)
+          (word.subtract y (corner_of (box_in e)).y)) found.is
           ∙ there pipeline schedule boxes rules accepted is inputs begun x y inside_x inside_y,
-      ap (λ (e : Option (Option SourceBox)). after pipeline.output.func (word.subtract x (corner_of (box_in e)).x) (word.subtract y (corner_of (box_in e)).y)) found.is
+      ap (λ (e : Option (Option SourceBox)). after pipeline.output.func (word.subtract x (corner_of (box_in e)).x) (word.subtract y (corner_of (box_in e)).y))
+          found.is
           ∙ holds pipeline schedule boxes rules accepted is inputs begun x y inside_x inside_y after
-          (phases_in_order (box_points boxes.funcs) (is_private schedule.standings) (map (tasks_of pipeline schedule boxes inputs) phases) (held boxes.funcs (pixels pipeline.funcs inputs 0))
-          (held boxes.funcs (pixels pipeline.funcs inputs (length pipeline.funcs))) (phases_do_pixels pipeline schedule boxes accepted is phases are inputs begun) funcs after
+          (phases_in_order (box_points boxes.funcs) (is_private schedule.standings) (map (tasks_of pipeline schedule boxes inputs) phases)
+          (held boxes.funcs (pixels pipeline.funcs inputs 0))
+          (held boxes.funcs (pixels pipeline.funcs inputs (length pipeline.funcs))) (phases_do_pixels pipeline schedule boxes accepted is phases are inputs
+          begun) funcs after
           (λ place i j shared inside. zeros place i j shared inside
-          ∙ sym (zero_pixels pipeline.funcs inputs place (word.add (corner_of (box_in (slice_get boxes.funcs place))).x i) (word.add (corner_of (box_in (slice_get boxes.funcs place))).y j))) done),
+          ∙ sym (zero_pixels pipeline.funcs inputs place (word.add (corner_of (box_in (slice_get boxes.funcs place))).x i)
+          (word.add (corner_of (box_in (slice_get boxes.funcs place))).y j))) done),
     )

@@ -20,12 +20,15 @@ pub or_or : (a b c : Bool) → ((a || b) || c) ≡ (a || (b || c))
 or_or true b c = refl
 or_or false b c = refl
 
-pub list_tells : {A : Type 0} (step : A → Trace → Trace) (hit : A → Bool) (list : List A) → AllByRecursion (λ a. Tells (step a) (hit a)) list → Tells (all step list) (list_any hit list)
+pub list_tells : {A : Type 0} (step : A → Trace → Trace) (hit : A → Bool) (list : List A) → AllByRecursion (λ a. Tells (step a) (hit a)) list
+    → Tells (all step list) (list_any hit list)
 list_tells step hit [] each so_far = or_none so_far.is_stored
 list_tells step hit (a ∷ others) each so_far =
-    list_tells step hit others each.1 (step a so_far) ∙ ap (λ (b : Bool). b || list_any hit others) (each.0 so_far) ∙ or_or so_far.is_stored (hit a) (list_any hit others)
+    list_tells step hit others each.1 (step a so_far) ∙ ap (λ (b : Bool). b || list_any hit others) (each.0 so_far)
+    ∙ or_or so_far.is_stored (hit a) (list_any hit others)
 
-pub turns_tell : {A : Type 0} (n most : ℕ) → n ≤ most → (one : ℕ → Trace → Trace) (hit : A → Bool) (lists : ℕ → List A) → ((turn : ℕ) → turn < most → Tells (one turn) (list_any hit (lists turn)))
+pub turns_tell : {A : Type 0} (n most : ℕ) → n ≤ most → (one : ℕ → Trace → Trace) (hit : A → Bool) (lists : ℕ → List A) → ((turn : ℕ) → turn < most
+    → Tells (one turn) (list_any hit (lists turn)))
     → Tells (turns n one) (list_any hit (upto n lists))
 unfolding turns upto
 turns_tell zero most few one hit lists each so_far = or_none so_far.is_stored
@@ -36,6 +39,7 @@ turns_tell (suc n) most few one hit lists each so_far =
     ∙ ap (λ (b : Bool). so_far.is_stored || b) (sym (list_any-append hit (upto n lists) (lists n)))
 
 -- steps none of which marks
-pub none_told : {A : Type 0} (step : A → Trace → Trace) → ((a : A) (so_far : Trace) → (step a so_far).is_stored ≡ so_far.is_stored) → (list : List A) (so_far : Trace) → (all step list so_far).is_stored ≡ so_far.is_stored
+pub none_told : {A : Type 0} (step : A → Trace → Trace) → ((a : A) (so_far : Trace) → (step a so_far).is_stored ≡ so_far.is_stored)
+    → (list : List A) (so_far : Trace) → (all step list so_far).is_stored ≡ so_far.is_stored
 none_told step none [] so_far = refl
 none_told step none (a ∷ others) so_far = none_told step none others (step a so_far) ∙ none a so_far

@@ -83,16 +83,19 @@ module _ (lasts values : List ℕ) (range : Range) (x : ℕ) (lies : Lies lasts 
   -- it is one of the numbers of the range
   pub offset_within : range.low ≤ range.high → word.subtract x (first_of range values) < extent range
   offset_within ordered =
-      let f = first_far x (range.low - least) (more_sum range.base values) (less_sum range.base values) lies.word (omega (arith, low_is, ordered, high_is)) (omega (arith, low_is, lies.low)) (omega (arith, low_is, lies.high, high_is)) in
+      let f = first_far x (range.low - least) (more_sum range.base values) (less_sum range.base values) lies.word (omega (arith, low_is, ordered, high_is))
+      (omega (arith, low_is, lies.low)) (omega (arith, low_is, lies.high, high_is)) in
       omega (arith, f, low_is, lies.low, lies.high)
 
   pub offset_back : word.add (first_of range values) (word.subtract x (first_of range values)) ≡ x
   offset_back = first_back x (first_of range values) lies.word (first_small range values)
 
 -- a point of a range, from where it begins on
-pub from_first_on : (lasts values : List ℕ) (range : Range) (far : ℕ) → IsFit lasts range → Below values lasts → far < extent range → IsFrom values range far (word.add far (first_of range values))
+pub from_first_on : (lasts values : List ℕ) (range : Range) (far : ℕ) → IsFit lasts range → Below values lasts → far < extent range
+    → IsFrom values range far (word.add far (first_of range values))
 from_first_on lasts values range far fits below few =
     let more = more_below range.base values lasts below in
     let less = less_below range.base values lasts below in
-    let o = first_on far (range.low - least) (more_sum range.base values) (less_sum range.base values) (omega (arith, fits.low, less)) (omega (arith, few, fits.low, fits.high, fits.ordered, more)) in
+    let o = first_on far (range.low - least) (more_sum range.base values) (less_sum range.base values) (omega (arith, fits.low, less))
+    (omega (arith, few, fits.low, fits.high, fits.ordered, more)) in
     record { word = add_small far (first_of range values); is = omega (arith, o, fits.low) }

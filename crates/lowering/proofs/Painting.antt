@@ -13,9 +13,11 @@ use Rattle.lowering.specs.Consuming.{Keeps}
 pub put_there : (points : Points) (own x y value : ℕ) (funcs : Planes) → points own x y ≡ true → put points own x y value funcs own x y ≡ value
 put_there points own x y value funcs there =
     ap (λ (b : Bool). cond b value (funcs own x y))
-    (and_from (points own x y) (own == own && (x == x && y == y)) there (and_from (own == own) (x == x && y == y) (eq-eqb own own refl) (and_from (x == x) (y == y) (eq-eqb x x refl) (eq-eqb y y refl))))
+    (and_from (points own x y) (own == own && (x == x && y == y)) there (and_from (own == own) (x == x && y == y) (eq-eqb own own refl)
+    (and_from (x == x) (y == y) (eq-eqb x x refl) (eq-eqb y y refl))))
 
-pub put_other : (points : Points) (own x y value : ℕ) (funcs : Planes) (place i j : ℕ) → (place ≡ own → (x == i && y == j) ≡ false) → put points own x y value funcs place i j ≡ funcs place i j
+pub put_other : (points : Points) (own x y value : ℕ) (funcs : Planes) (place i j : ℕ) → (place ≡ own → (x == i && y == j) ≡ false)
+    → put points own x y value funcs place i j ≡ funcs place i j
 put_other points own x y value funcs place i j free = by_test (points own x y && (place == own && (i == x && j == y))) refl
   where
     by_test : (test : Bool) → (points own x y && (place == own && (i == x && j == y))) ≡ test → cond test value (funcs place i j) ≡ funcs place i j
@@ -30,7 +32,8 @@ put_other points own x y value funcs place i j free = by_test (points own x y &&
 -- ---- many
 
 -- The steps want something of the buffers that holds of them as long as all but the own Func's is kept.
-module _ (points : Points) (own : ℕ) (plane : Plane) (Ready : Planes → Type 0) (stays : (funcs after : Planes) → Keeps own funcs after → Ready funcs → Ready after) where
+module _ (points : Points) (own : ℕ) (plane : Plane) (Ready : Planes → Type 0) (stays : (funcs after : Planes) → Keeps own funcs after → Ready funcs
+    → Ready after) where
   module _ {A : Type 0} (x_of y_of : A → ℕ) (step : A → Planes → Planes) where
     -- a step writes the plane's value at its point
     pub record Writes (a : A) : Type 0 where
@@ -55,7 +58,8 @@ module _ (points : Points) (own : ℕ) (plane : Plane) (Ready : Planes → Type 
           let same_x : x_of a ≡ x = eqb-true (x_of a) x p.0 in
           let same_y : y_of a ≡ y = eqb-true (y_of a) y p.1 in
           let here : step a funcs own (x_of a) (y_of a) ≡ plane (x_of a) (y_of a) =
-          ap (λ (f : Planes). f own (x_of a) (y_of a)) (writes.does funcs ready) ∙ put_there points own (x_of a) (y_of a) (plane (x_of a) (y_of a)) funcs writes.there in
+          ap (λ (f : Planes). f own (x_of a) (y_of a)) (writes.does funcs ready) ∙ put_there points own (x_of a) (y_of a) (plane (x_of a) (y_of a)) funcs
+          writes.there in
           ap (λ (n : ℕ). step a funcs own n y) (sym same_x) ∙ ap (λ (n : ℕ). step a funcs own (x_of a) n) (sym same_y) ∙ here
           ∙ ap (λ (n : ℕ). plane n (y_of a)) same_x ∙ ap (λ (n : ℕ). plane x n) same_y
 
@@ -66,20 +70,25 @@ module _ (points : Points) (own : ℕ) (plane : Plane) (Ready : Planes → Type 
     first_of true c f e = refl
     first_of false c f e = absurd (true≢false (sym e ∙ f))
 
-    paints_more : (a : A) (others : List A) (funcs : Planes) → Writes a → Ready funcs → (Ready (step a funcs) → Paints others (step a funcs) (all step others (step a funcs)))
+    paints_more : (a : A) (others : List A) (funcs : Planes) → Writes a → Ready funcs
+        → (Ready (step a funcs) → Paints others (step a funcs) (all step others (step a funcs)))
         → Paints (a ∷ others) funcs (all step others (step a funcs))
     paints_more a others funcs writes ready next = record { there = λ x y e. by_later x y (list_any (is_at x y) others) refl e; keeps = keeps }
       where
         later : Paints others (step a funcs) (all step others (step a funcs))
         later = next (step_ready a funcs writes ready)
 
-        by_later : (x y : ℕ) (test : Bool) → list_any (is_at x y) others ≡ test → (is_at x y a || list_any (is_at x y) others) ≡ true → all step others (step a funcs) own x y ≡ plane x y
+        by_later : (x y : ℕ) (test : Bool) → list_any (is_at x y) others ≡ test → (is_at x y a || list_any (is_at x y) others) ≡ true
+            → all step others (step a funcs) own x y ≡ plane x y
         by_later x y true found e = later.there x y found
-        by_later x y false found e = later.keeps own x y (λ s. found) ∙ step_there a funcs writes ready x y (first_of (is_at x y a) (list_any (is_at x y) others) found e)
+        by_later x y false found e = later.keeps own x y (λ s. found)
+            ∙ step_there a funcs writes ready x y (first_of (is_at x y a) (list_any (is_at x y) others) found e)
 
-        keeps : (place x y : ℕ) → (place ≡ own → (is_at x y a || list_any (is_at x y) others) ≡ false) → all step others (step a funcs) place x y ≡ funcs place x y
+        keeps : (place x y : ℕ) → (place ≡ own → (is_at x y a || list_any (is_at x y) others) ≡ false) → all step others (step a funcs) place x y
+            ≡ funcs place x y
         keeps place x y free =
-            let parts : place ≡ own → (is_at x y a ≡ false) × (list_any (is_at x y) others ≡ false) = λ e. or_parts (is_at x y a) (list_any (is_at x y) others) (free e) in
+            let parts : place ≡ own → (is_at x y a ≡ false) × (list_any (is_at x y) others ≡ false) = λ e. or_parts (is_at x y a) (list_any (is_at x y) others)
+            (free e) in
             later.keeps place x y (λ e. (parts e).1) ∙ step_keeps a funcs writes ready place x y (λ e. (parts e).0)
 
     pub paints : (list : List A) (funcs : Planes) → AllByRecursion Writes list → Ready funcs → Paints list funcs (all step list funcs)

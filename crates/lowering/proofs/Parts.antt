@@ -27,7 +27,8 @@ box_is None own e = absurd cc
 box_is (Some other) own e = ap (λ (o : Option SourceBox). Some o) e
 
 module _ (pipeline : Pipeline) (schedule : Schedule) (boxes : Boxes) (place : ℕ) where
-  pub at_root : (standing : Standing) (func : Func) (plan : FuncPlan) (own : SourceBox) → slice_get schedule.standings place ≡ Some standing → is_at_root standing ≡ true
+  pub at_root : (standing : Standing) (func : Func) (plan : FuncPlan) (own : SourceBox) → slice_get schedule.standings place ≡ Some standing
+      → is_at_root standing ≡ true
       → slice_get pipeline.funcs place ≡ Some func → slice_get schedule.funcs place ≡ Some plan → box_in (slice_get boxes.funcs place) ≡ Some own
       → IsAtRoot pipeline schedule boxes place func plan own
   at_root standing func plan own found root func_is plan_is own_is =

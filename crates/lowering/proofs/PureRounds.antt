@@ -59,47 +59,55 @@ no_source : (place : ℕ) (source : Source) → IsBelow place source → is_sour
 no_source place (sources.Input input) below = refl
 no_source place (sources.Func func) below = ne_eqb func place (λ (e : func ≡ place). absurd (omega (arith, below, e)))
 
-module _ (pipeline : Pipeline) (schedule : Schedule) (rules : IsWellFormed pipeline) (place : ℕ) (func : Func) (func_is : slice_get pipeline.funcs place ≡ Some func)
-    (corners : List Corner) (corner : Corner) (store : Stmt) (sound : IsSoundPure corners (flags pipeline schedule) pipeline.funcs place corner func.pure store) where
-  module _ (reads : Reads) (earlier later : Values) where
-    abbrev read_at : Values → List Point
-    read_at now =
-        (inlined (seeing (placed corners now reads)) (flags pipeline schedule) pipeline.funcs place
-        (seen_variable (at_point (word.add (whole_at now place variables.FirstArgument) (linear_value now corner.x)) (word.add (whole_at now place variables.SecondArgument) (linear_value now corner.y)))) func.pure).points
+module _ (pipeline : Pipeline) (schedule : Schedule) (rules : IsWellFormed pipeline) (place : ℕ) (func : Func) (func_is : slice_get pipeline.funcs place
+    ≡ Some func)
+    (corners : List Corner) (corner : Corner) (store : Stmt) (sound : IsSoundPure corners (flags pipeline schedule) pipeline.funcs place corner func.pure store)
+  where
+    module _ (reads : Reads) (earlier later : Values) where
+      abbrev read_at : Values → List Point
+      read_at now =
+          (inlined (seeing (placed corners now reads)) (flags pipeline schedule) pipeline.funcs place
+          (seen_variable (at_point (word.add (whole_at now place variables.FirstArgument) (linear_value now corner.x))
+          (word.add (whole_at now place variables.SecondArgument) (linear_value now corner.y)))) func.pure).points
 
-    below : AreBelow place (read_at later)
-    below =
-        within (placed corners later reads) (flags pipeline schedule) pipeline.inputs pipeline.funcs rules.funcs place place (omega arith) (is_argument (dimensions func))
-        (seen_variable (at_point (word.add (whole_at later place variables.FirstArgument) (linear_value later corner.x)) (word.add (whole_at later place variables.SecondArgument) (linear_value later corner.y))))
-        (λ v. tt) func.pure (rules.funcs place func func_is).pure
+      below : AreBelow place (read_at later)
+      below =
+          within (placed corners later reads) (flags pipeline schedule) pipeline.inputs pipeline.funcs rules.funcs place place (omega arith)
+          (is_argument (dimensions func))
+          (seen_variable (at_point (word.add (whole_at later place variables.FirstArgument) (linear_value later corner.x))
+          (word.add (whole_at later place variables.SecondArgument) (linear_value later corner.y))))
+          (λ v. tt) func.pure (rules.funcs place func func_is).pure
 
-    abbrev passes : Point → Bool
-    passes point = is_sound reads (all_but point) all_points store earlier
+      abbrev passes : Point → Bool
+      passes point = is_sound reads (all_but point) all_points store earlier
 
-    one_missed : (source : Source) (a b : ℕ) → IsBelow place source → passes (place_in corners later (record { source = source; x = a; y = b })) ≡ true
-    one_missed source a b below_it =
-        sound reads (all_but (place_in corners later (record { source = source; x = a; y = b }))) all_points earlier
-        (missed_elsewhere place (whole_at earlier place variables.FirstArgument) (whole_at earlier place variables.SecondArgument) (place_in corners later (record { source = source; x = a; y = b }))
-        (ap (is_source_of place) (source_stays corners later source a b) ∙ no_source place source below_it))
-        (all_hold (λ own. all_points (place_in corners earlier own)) (λ own. refl) (read_at earlier))
+      one_missed : (source : Source) (a b : ℕ) → IsBelow place source → passes (place_in corners later (record { source = source; x = a; y = b })) ≡ true
+      one_missed source a b below_it =
+          sound reads (all_but (place_in corners later (record { source = source; x = a; y = b }))) all_points earlier
+          (missed_elsewhere place (whole_at earlier place variables.FirstArgument) (whole_at earlier place variables.SecondArgument)
+          (place_in corners later (record { source = source; x = a; y = b }))
+          (ap (is_source_of place) (source_stays corners later source a b) ∙ no_source place source below_it))
+          (all_hold (λ own. all_points (place_in corners earlier own)) (λ own. refl) (read_at earlier))
 
-    all_missed : (list : List Point) → AreBelow place list → Hold (λ own. passes (place_in corners later own)) list
-    all_missed [] are = tt
-    all_missed (own ∷ list) are = (one_missed own.source own.x own.y are.0, all_missed list are.1)
+      all_missed : (list : List Point) → AreBelow place list → Hold (λ own. passes (place_in corners later own)) list
+      all_missed [] are = tt
+      all_missed (own ∷ list) are = (one_missed own.source own.x own.y are.0, all_missed list are.1)
 
-    pub loads_none : LoadsNoneOf reads store earlier later
-    loads_none = sound reads everywhere passes later refl (all_missed (read_at later) below)
+      pub loads_none : LoadsNoneOf reads store earlier later
+      loads_none = sound reads everywhere passes later refl (all_missed (read_at later) below)
 
-  pub pure_under : (extents : Extents) (stage : Stage) (is : IsStageOf func None stage) (kept : KeepsRules stage) (inside outside : List Loop) → stage.loops ≡ inside ++ outside → MayBeUnder place extents stage.splits inside outside store
-  pure_under extents stage is kept [] outside loops_are = tt
-  pure_under extents stage is kept (own ∷ inside) outside loops_are = (
-    λ e. record {
-      count = (vectorized func None extents stage is kept own (inside ++ outside) loops_are e).count;
-      apart = λ reads values small are earlier later before last one other one_is other_is. loads_none reads _ _;
-    },
-    inside_only inside outside (others_are func None extents stage is kept own (inside ++ outside) loops_are),
-  )
-    where
-      inside_only : (inside outside : List Loop) → AllByRecursion (λ other. is_vectorized_loop other ≡ false) (inside ++ outside) → AllByRecursion (λ other. is_vectorized_loop other ≡ false) inside
-      inside_only [] outside all = tt
-      inside_only (one ∷ inside) outside all = (all.0, inside_only inside outside all.1)
+    pub pure_under : (extents : Extents) (stage : Stage) (is : IsStageOf func None stage) (kept : KeepsRules stage) (inside outside : List Loop)
+        → stage.loops ≡ inside ++ outside → MayBeUnder place extents stage.splits inside outside store
+    pure_under extents stage is kept [] outside loops_are = tt
+    pure_under extents stage is kept (own ∷ inside) outside loops_are = (
+      λ e. record {
+        count = (vectorized func None extents stage is kept own (inside ++ outside) loops_are e).count;
+        apart = λ reads values small are earlier later before last one other one_is other_is. loads_none reads _ _;
+      },
+      inside_only inside outside (others_are func None extents stage is kept own (inside ++ outside) loops_are),
+    )
+      where
+        inside_only : (inside outside : List Loop) → AllByRecursion (λ other. is_vectorized_loop other ≡ false) (inside ++ outside)
+            → AllByRecursion (λ other. is_vectorized_loop other ≡ false) inside
+        inside_only [] outside all = tt
+        inside_only (one ∷ inside) outside all = (all.0, inside_only inside outside all.1)

@@ -37,6 +37,7 @@ pub does_stage : (pipeline : Pipeline) (schedule : Schedule) (boxes : Boxes) (pl
     → DoesStage pipeline schedule boxes place func 0 (owns (extents_of own) plan.pure) phase
 does_stage pipeline schedule boxes place func plan own phase does inputs begun =
     subst (λ (p : Plane). DoesPhase (box_points boxes.funcs) (is_private schedule.standings) place (held boxes.funcs (pixels pipeline.funcs inputs place))
-    (held boxes.funcs (with_plane place p (pixels pipeline.funcs inputs place))) phase.tasks (owns (extents_of own) plan.pure) (run_task (box_points boxes.funcs) inputs phase))
+    (held boxes.funcs (with_plane place p (pixels pipeline.funcs inputs place))) phase.tasks (owns (extents_of own) plan.pure)
+    (run_task (box_points boxes.funcs) inputs phase))
     (first_stage place func inputs (pixels pipeline.funcs inputs place))
     (does (is_private schedule.standings) (roots_are_shared schedule.standings) (produced_are_private schedule.standings place) inputs begun)

@@ -1,5 +1,6 @@
 -- Expressions of phases need no more registers than the judgement of weights counts.
-use Rattle.std.proofs.Common.{◌≡◌, ℕ, zero, suc, ◌+◌, ◌^◌, ◌<◌, ◌≤◌, Bool, true, false, List, [], ◌∷◌, length, Option, Some, None, refl, sym, ap, subst, ◌∙◌, arith}
+use Rattle.std.proofs.Common.{◌≡◌, ℕ, zero, suc, ◌+◌, ◌^◌, ◌<◌, ◌≤◌, Bool, true, false, List, [], ◌∷◌, length, Option, Some, None, refl, sym, ap, subst, ◌∙◌}
+use Rattle.std.proofs.Common.{arith}
 use Rattle.std.specs.Prelude.{◌==◌, ◌&&◌, nat_le, nat_lt, max, slice_get, if◌then◌else◌, not}
 use Rattle.std.proofs.lemmas.Bool.{and_parts, leb-true, ltb-true, lt-ltb}
 use Rattle.std.proofs.lemmas.Bool.Decides.{nat_tests}
@@ -12,7 +13,8 @@ use Rattle.halide_pipeline.specs.declared.expressions.Expr.TheOpen as layer
 use Rattle.halide_pipeline.specs.declared.expressions.Source.{Source}
 use Rattle.halide_pipeline.specs.declared.expressions.Source.TheVariants as sources
 use Rattle.halide_pipeline.specs.declared.expressions.Variable.{Variable}
-use Rattle.halide_pipeline.specs.WellFormed.{dimensions, IsWellFormed, keeps, keeps_index, is_read, is_func_of, is_divisor, is_argument, is_update_variable, most_number}
+use Rattle.halide_pipeline.specs.WellFormed.{dimensions, IsWellFormed, keeps, keeps_index, is_read, is_func_of, is_divisor, is_argument, is_update_variable}
+use Rattle.halide_pipeline.specs.WellFormed.{most_number}
 use Rattle.halide_pipeline.specs.Pipelines.{Pipeline}
 use Rattle.bounds_inlining.specs.Inlining.{Algebra, answer, answered, flagged, func_in, inside, inlined, made_in, through, through_at, needing}
 use Rattle.bounds_inlining.specs.Laws.{RelatesLevels}
@@ -34,7 +36,8 @@ use Rattle.schedule_loops.specs.Visits.{counts, AreSplits}
 use Rattle.schedule_loops.specs.Visits as iterations
 use Rattle.lowering_nests.specs.Nests.{AreFew}
 use Rattle.lowering_nests.proofs.Few.{few_turns}
-use Rattle.bounds_weights.specs.Weight.{need_in, second_need, update_need, updates_needs, func_needs, computed_needs, funcs_needs, needs, no_needs, flags_of, is_computed}
+use Rattle.bounds_weights.specs.Weight.{need_in, second_need, update_need, updates_needs, func_needs, computed_needs, funcs_needs, needs, no_needs, flags_of}
+use Rattle.bounds_weights.specs.Weight.{is_computed}
 use Rattle.bounds_laws.specs.Laws.{IsComputed}
 use Rattle.loop_ir.specs.declared.expressions.Expr as loop
 use Rattle.loop_ir.specs.declared.expressions.Expr.TheVariants as e
@@ -70,28 +73,36 @@ levels is_inlined (layer.Call2 s a b) kept = let l = a.is in let k = b.is in ome
 
 -- ---- how many Funcs may be called makes no difference
 
-module _ {A : Type 0} (algebra : Algebra A) (is_inlined : ℕ → Bool) (inputs : List Input) (funcs : List Func) (m n : ℕ) (fewer : m ≤ n) (has : Variable → Bool) (vars : Variable → A) where
+module _ {A : Type 0} (algebra : Algebra A) (is_inlined : ℕ → Bool) (inputs : List Input) (funcs : List Func) (m n : ℕ) (fewer : m ≤ n) (has : Variable
+    → Bool) (vars : Variable → A) where
   inside-same : (place : ℕ) → place < m → inside algebra is_inlined funcs m place ≡ inside algebra is_inlined funcs n place
   inside-same place below =
       let here : func_in funcs is_inlined m place ≡ func_in funcs is_inlined n place
-      = ap (λ (t : Bool). if t && is_inlined place then slice_get funcs place else None) (lt-ltb place m below ∙ sym (lt-ltb place n (omega (arith, below, fewer)))) in
-      inside_is algebra is_inlined funcs m place ∙ ap (made_in algebra (inside algebra is_inlined funcs place)) here ∙ sym (inside_is algebra is_inlined funcs n place)
+      = ap (λ (t : Bool). if t && is_inlined place then slice_get funcs place else None) (lt-ltb place m below
+      ∙ sym (lt-ltb place n (omega (arith, below, fewer)))) in
+      inside_is algebra is_inlined funcs m place ∙ ap (made_in algebra (inside algebra is_inlined funcs place)) here
+      ∙ sym (inside_is algebra is_inlined funcs n place)
 
-  answer-same : (s : Source) (count : ℕ) → is_read inputs funcs m s count ≡ true → answer (inside algebra is_inlined funcs m) s ≡ answer (inside algebra is_inlined funcs n) s
+  answer-same : (s : Source) (count : ℕ) → is_read inputs funcs m s count ≡ true → answer (inside algebra is_inlined funcs m) s
+      ≡ answer (inside algebra is_inlined funcs n) s
   answer-same (sources.Input place) count read = refl
-  answer-same (sources.Func place) count read = inside-same place (ltb-true place m (and_parts (nat_lt place m) (is_func_of (slice_get funcs place) count) read).0)
+  answer-same (sources.Func place) count read = inside-same place (ltb-true place m (and_parts (nat_lt place m) (is_func_of (slice_get funcs place) count)
+      read).0)
 
   abbrev Same : A → A → Type 0
   Same a b = a ≡ b
 
-  same-levels : KeptLevels Same (is_read inputs funcs m) has (through_at algebra (inside algebra is_inlined funcs m) vars) (through_at algebra (inside algebra is_inlined funcs n) vars)
+  same-levels : KeptLevels Same (is_read inputs funcs m) has (through_at algebra (inside algebra is_inlined funcs m) vars)
+      (through_at algebra (inside algebra is_inlined funcs n) vars)
   same-levels (layer.Number n) kept = refl
   same-levels (layer.Variable v) kept = refl
-  same-levels (layer.Binary op a b) kept = ap (λ (x : A). algebra.level (layer.Binary op x b.left)) a.is ∙ ap (λ (x : A). algebra.level (layer.Binary op a.right x)) b.is
+  same-levels (layer.Binary op a b) kept = ap (λ (x : A). algebra.level (layer.Binary op x b.left)) a.is
+      ∙ ap (λ (x : A). algebra.level (layer.Binary op a.right x)) b.is
   same-levels (layer.Divide a c) kept = ap (λ (x : A). algebra.level (layer.Divide x c)) a.is
   same-levels (layer.Remainder a c) kept = ap (λ (x : A). algebra.level (layer.Remainder x c)) a.is
   same-levels (layer.Select c a b) kept =
-      ap (λ (x : A). algebra.level (layer.Select x a.left b.left)) c.is ∙ ap (λ (x : A). algebra.level (layer.Select c.right x b.left)) a.is ∙ ap (λ (x : A). algebra.level (layer.Select c.right a.right x)) b.is
+      ap (λ (x : A). algebra.level (layer.Select x a.left b.left)) c.is ∙ ap (λ (x : A). algebra.level (layer.Select c.right x b.left)) a.is
+      ∙ ap (λ (x : A). algebra.level (layer.Select c.right a.right x)) b.is
   same-levels (layer.Call1 s a) kept =
       ap (λ (x : A). answered (algebra.level (layer.Call1 s x)) x None (answer (inside algebra is_inlined funcs m) s)) a.is
       ∙ ap (answered (algebra.level (layer.Call1 s a.right)) a.right None) (answer-same s 1 kept)
@@ -100,7 +111,8 @@ module _ {A : Type 0} (algebra : Algebra A) (is_inlined : ℕ → Bool) (inputs 
       ∙ ap (λ (x : A). answered (algebra.level (layer.Call2 s a.right x)) a.right (Some x) (answer (inside algebra is_inlined funcs m) s)) b.is
       ∙ ap (answered (algebra.level (layer.Call2 s a.right b.right)) a.right (Some b.right)) (answer-same s 2 kept)
 
-  pub count-same : (e : Expr) → keeps (is_read inputs funcs m) has e ≡ true → inlined algebra is_inlined funcs m vars e ≡ inlined algebra is_inlined funcs n vars e
+  pub count-same : (e : Expr) → keeps (is_read inputs funcs m) has e ≡ true → inlined algebra is_inlined funcs m vars e ≡ inlined algebra is_inlined funcs n
+      vars e
   unfolding through
   count-same e kept = kept_folds_related Same (is_read inputs funcs m) has _ _ same-levels e kept
 
@@ -116,14 +128,19 @@ module _ (pipeline : Pipeline) (rules : IsWellFormed pipeline) (flags : List Boo
       → taken flags pipeline.funcs count e ≤ need_in flags pipeline.funcs e
   unfolding taking needing
   few count has e within kept =
-      subst (λ (n : ℕ). taken flags pipeline.funcs count e ≤ n) (count-same needing (flagged flags) pipeline.inputs pipeline.funcs count (length pipeline.funcs) within has (λ v. 1) e kept)
-      (folds_are_related AtMost taking needing (flagged flags) pipeline.inputs pipeline.funcs rules.funcs (levels (flagged flags)) (λ x z r. r) (λ func v x y w z u rv rx ry. rv)
+      subst (λ (n : ℕ). taken flags pipeline.funcs count e ≤ n) (count-same needing (flagged flags) pipeline.inputs pipeline.funcs count (length pipeline.funcs)
+      within has (λ v. 1) e kept)
+      (folds_are_related AtMost taking needing (flagged flags) pipeline.inputs pipeline.funcs rules.funcs (levels (flagged flags)) (λ x z r. r)
+      (λ func v x y w z u rv rx ry. rv)
       count has (λ v. 1) (λ v. 1) (λ v h. omega arith) e kept)
 
-  pub pure-taken : (place : ℕ) (func : Func) → slice_get pipeline.funcs place ≡ Some func → taken flags pipeline.funcs place func.pure ≤ need_in flags pipeline.funcs func.pure
-  pure-taken place func is = let l = at-most pipeline.funcs place func is in few place (is_argument (dimensions func)) func.pure (omega (arith, l)) (rules.funcs place func is).pure
+  pub pure-taken : (place : ℕ) (func : Func) → slice_get pipeline.funcs place ≡ Some func
+      → taken flags pipeline.funcs place func.pure ≤ need_in flags pipeline.funcs func.pure
+  pure-taken place func is = let l = at-most pipeline.funcs place func is in few place (is_argument (dimensions func)) func.pure (omega (arith, l))
+      (rules.funcs place func is).pure
 
-  second-few : (place : ℕ) (has : Variable → Bool) (count : ℕ) (index : Option Expr) → place ≤ length pipeline.funcs → keeps_index (is_read pipeline.inputs pipeline.funcs place) has count index ≡ true
+  second-few : (place : ℕ) (has : Variable → Bool) (count : ℕ) (index : Option Expr) → place ≤ length pipeline.funcs
+      → keeps_index (is_read pipeline.inputs pipeline.funcs place) has count index ≡ true
       → second_taken flags pipeline.funcs place index ≤ max 1 (second_need flags pipeline.funcs index)
   second-few place has count None within kept = omega arith
   second-few place has count (Some e) within kept = let l = few place has e within (and_parts _ _ kept).1 in omega (arith, l)
@@ -136,14 +153,16 @@ module _ (pipeline : Pipeline) (rules : IsWellFormed pipeline) (flags : List Boo
       let l = at-most pipeline.funcs place func is in
       let x = few place has update.left_x (omega (arith, l)) own.left_x in
       let y = second-few place has (dimensions func) update.left_y (omega (arith, l)) own.left_y in
-      let right : taken flags pipeline.funcs (suc place) update.right ≤ need_in flags pipeline.funcs update.right = few (suc place) has update.right (omega (arith, l)) own.right in
+      let right : taken flags pipeline.funcs (suc place) update.right ≤ need_in flags pipeline.funcs update.right = few (suc place) has update.right
+      (omega (arith, l)) own.right in
       let more : place + 1 ≡ suc place = omega arith in
       let r = subst (λ (n : ℕ). taken flags pipeline.funcs n update.right ≤ need_in flags pipeline.funcs update.right) (sym more) right in
       omega (arith, x, y, r)
 
 -- ---- stores
 
-pub store-need : (store : Store) (x y value : ℕ) → need store.x ≤ x → need store.y ≤ y → need store.value ≤ value → greatest_need (s.Store store) ≤ max x (max y value)
+pub store-need : (store : Store) (x y value : ℕ) → need store.x ≤ x → need store.y ≤ y → need store.value ≤ value
+    → greatest_need (s.Store store) ≤ max x (max y value)
 store-need store x y value few_x few_y few_value = let e = greatest_store store in omega (arith, e, few_x, few_y, few_value)
 
 -- at a point of sums
@@ -157,7 +176,8 @@ pure-store place x y value most few_value =
 
 -- ---- tasks
 
-few-turns : (extents : Extents) (splits : List Split) (own : Option Loop) → AreFew extents → AreSplits splits → iterations.count_of (counts extents splits) own ≤ 2 ^ 31
+few-turns : (extents : Extents) (splits : List Split) (own : Option Loop) → AreFew extents → AreSplits splits
+    → iterations.count_of (counts extents splits) own ≤ 2 ^ 31
 few-turns extents splits None few fit = omega arith
 few-turns extents splits (Some own) few fit = let l = few_turns extents splits few fit own.id in omega (arith, l)
 
@@ -178,13 +198,15 @@ module _ (flags : List Bool) (all : List Func) where
       let ep : one ≡ plan = cc in
       let es : other ≡ own = cc in
       let whole : computed_needs flags all first one other ≡ func_needs flags all func plan
-      = ap (λ (t : Bool). if t then func_needs flags all first one else no_needs) (ap is_computed es ∙ is) ∙ ap (λ (x : Func). func_needs flags all x one) ef ∙ ap (func_needs flags all func) ep in
+      = ap (λ (t : Bool). if t then func_needs flags all first one else no_needs) (ap is_computed es ∙ is) ∙ ap (λ (x : Func). func_needs flags all x one) ef
+      ∙ ap (func_needs flags all func) ep in
       let g : (computed_needs flags all first one other).greatest ≡ (func_needs flags all func plan).greatest = ap (λ n. n.greatest) whole in
       omega (arith, g)
   counted (first ∷ funcs) (one ∷ plans) (other ∷ standings) (suc place) func plan own f p s is =
       let l = counted funcs plans standings place func plan own f p s is in omega (arith, l)
 
-  update-counted : (updates : List Update) (stages : List Stage) (at : ℕ) (update : Update) (stage : Stage) → slice_get updates at ≡ Some update → slice_get stages at ≡ Some stage
+  update-counted : (updates : List Update) (stages : List Stage) (at : ℕ) (update : Update) (stage : Stage) → slice_get updates at ≡ Some update
+      → slice_get stages at ≡ Some stage
       → update_need flags all update ≤ (updates_needs flags all updates stages).greatest
   update-counted [] stages at update stage u s = absurd cc
   update-counted (first ∷ updates) [] at update stage u s = absurd cc
@@ -200,14 +222,16 @@ not-inlined place (places.At at) here = refl
 not-inlined place places.Inlined here = absurd here
 not-inlined place places.Nowhere here = absurd here
 
-module _ (pipeline : Pipeline) (schedule : Schedule) (rules : IsWellFormed pipeline) (place : ℕ) (func : Func) (plan : FuncPlan) (own : Standing) (func_is : slice_get pipeline.funcs place ≡ Some func)
+module _ (pipeline : Pipeline) (schedule : Schedule) (rules : IsWellFormed pipeline) (place : ℕ) (func : Func) (plan : FuncPlan) (own : Standing)
+    (func_is : slice_get pipeline.funcs place ≡ Some func)
     (plan_is : slice_get schedule.funcs place ≡ Some plan) (there : IsReached schedule.standings place own) (here : IsComputed place own.place) where
   is-computed : is_computed own ≡ true
   is-computed = ap (λ (t : Bool). t && not (is_inlined own.place)) there.reached ∙ ap (λ (t : Bool). true && not t) (not-inlined place own.place here)
 
   all-counted : (func_needs (flags_of schedule.standings) pipeline.funcs func plan).greatest ≤ (needs pipeline schedule).greatest
   unfolding needs
-  all-counted = counted (flags_of schedule.standings) pipeline.funcs pipeline.funcs schedule.funcs schedule.standings place func plan own func_is plan_is there.standing is-computed
+  all-counted = counted (flags_of schedule.standings) pipeline.funcs pipeline.funcs schedule.funcs schedule.standings place func plan own func_is plan_is
+      there.standing is-computed
 
   -- the store of the pure definition, and that of an update
   pub pure-most : (n : ℕ) → n ≤ max 1 (taken (flags_of schedule.standings) pipeline.funcs place func.pure) → n ≤ most_need pipeline schedule
@@ -216,7 +240,8 @@ module _ (pipeline : Pipeline) (schedule : Schedule) (rules : IsWellFormed pipel
       let l = all-counted in
       omega (arith, few, t, l)
 
-  pub update-most : (at : ℕ) (update : Update) (stage : Stage) → IsUpdateAt schedule place func plan at update stage → (n : ℕ) → n ≤ update_taken (flags_of schedule.standings) pipeline.funcs place update
+  pub update-most : (at : ℕ) (update : Update) (stage : Stage) → IsUpdateAt schedule place func plan at update stage → (n : ℕ)
+      → n ≤ update_taken (flags_of schedule.standings) pipeline.funcs place update
       → n ≤ most_need pipeline schedule
   update-most at update stage is n few =
       let t = update-taken pipeline rules (flags_of schedule.standings) place at func update func_is is.update_is in

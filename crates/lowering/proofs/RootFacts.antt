@@ -38,7 +38,8 @@ ConsumersNone standings place = (other : ℕ) (own : Standing) (at : LoopPlace) 
 
 -- ---- boxes
 
-module _ (pipeline : Pipeline) (schedule : Schedule) (boxes : Boxes) (place : ℕ) (func : Func) (plan : FuncPlan) (own : SourceBox) (accepted : IsAccepted pipeline schedule) (is : inferred pipeline schedule ≡ Ok boxes)
+module _ (pipeline : Pipeline) (schedule : Schedule) (boxes : Boxes) (place : ℕ) (func : Func) (plan : FuncPlan) (own : SourceBox)
+    (accepted : IsAccepted pipeline schedule) (is : inferred pipeline schedule ≡ Ok boxes)
     (at : IsAtRoot pipeline schedule boxes place func plan own) where
   pub is_box : IsBox own
   is_box = facts.is_box pipeline schedule boxes place func plan own accepted is places.Root tt at
@@ -60,7 +61,8 @@ module _ (range : Range) (x : ℕ) (lies : Lies no_loops no_loops range x) where
 
 -- a point of a range, from its corner on
 pub from_corner_on : (range : Range) (far : ℕ) → IsFit no_loops range → far < extent range → IsFrom no_loops range far (word.add far (word_at range.low))
-from_corner_on range far fits few = subst (λ (n : ℕ). IsFrom no_loops range far (word.add far n)) (first_none range) (from_first_on no_loops no_loops range far fits no_below few)
+from_corner_on range far fits few = subst (λ (n : ℕ). IsFrom no_loops range far (word.add far n)) (first_none range) (from_first_on no_loops no_loops range far
+    fits no_below few)
 
 -- ---- corners
 
@@ -69,11 +71,13 @@ pub record HasRootCorner (corners : List Corner) (k : ℕ) (own : SourceBox) : T
   pub there : slice_get corners k ≡ Some corner
   pub is : (values : Values) → (linear_value values corner.x ≡ word_at own.x.low) × (linear_value values corner.y ≡ word_at own.y.low)
 
-pub root_corner_at : (schedule : Schedule) (boxes : Boxes) (corners : List Corner) (k : ℕ) (own : SourceBox) (standing : Standing) → AreCorners schedule.funcs boxes.funcs schedule.standings corners
+pub root_corner_at : (schedule : Schedule) (boxes : Boxes) (corners : List Corner) (k : ℕ) (own : SourceBox) (standing : Standing)
+    → AreCorners schedule.funcs boxes.funcs schedule.standings corners
     → slice_get boxes.funcs k ≡ Some (Some own) → slice_get schedule.standings k ≡ Some standing → standing.place ≡ places.Root → HasRootCorner corners k own
 root_corner_at schedule boxes corners k own standing are there stands root =
     let c = corner_at schedule.funcs boxes.funcs schedule.standings corners k (Some own) standing are there stands in
-    let at_root : IsCornerOf schedule.funcs places.Root (Some own) c.corner = subst (λ (p : Place). IsCornerOf schedule.funcs p (Some own) c.corner) root c.is in
+    let at_root : IsCornerOf schedule.funcs places.Root (Some own) c.corner = subst (λ (p : Place). IsCornerOf schedule.funcs p (Some own) c.corner) root c.is
+    in
     record {
       corner = c.corner;
       there = c.there;

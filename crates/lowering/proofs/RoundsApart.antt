@@ -1,5 +1,6 @@
 -- Rounds of a vectorized loop of an update are apart: in each the loop's argument, which is in place, stands elsewhere.
-use Rattle.std.proofs.Common.{◌≡◌, ℕ, zero, suc, ◌+◌, ◌*◌, ◌/◌, ◌%◌, ◌^◌, ◌<◌, ◌≤◌, Bool, true, false, cond, List, [], ◌∷◌, ◌++◌, inl, inr, Option, Some, None, refl, sym, ap, subst, ◌∙◌, arith, true≢false}
+use Rattle.std.proofs.Common.{◌≡◌, ℕ, zero, suc, ◌+◌, ◌*◌, ◌/◌, ◌%◌, ◌^◌, ◌<◌, ◌≤◌, Bool, true, false, cond, List, [], ◌∷◌, ◌++◌, inl, inr, Option, Some, None}
+use Rattle.std.proofs.Common.{refl, sym, ap, subst, ◌∙◌, arith, true≢false}
 use Rattle.std.specs.Prelude.{slice_get}
 use Rattle.std.specs.List.{AllByRecursion}
 use Rattle.std.proofs.lemmas.Bool.{eq-eqb}
@@ -63,7 +64,8 @@ further (suc n) earlier later some before e =
     let m : n * earlier ≤ n * later = mul-le-mul (omega arith) (omega (arith, before)) in
     absurd (omega (arith, m, before, e))
 
-base_other : (splits : List Split) (v : Variable) (id : LoopId) (n : ℕ) (turns : loops.Values) (outside : List Loop) → total (has_id id) outside ≡ 0 → base splits v (loops.with id n turns) outside ≡ base splits v turns outside
+base_other : (splits : List Split) (v : Variable) (id : LoopId) (n : ℕ) (turns : loops.Values) (outside : List Loop) → total (has_id id) outside ≡ 0
+    → base splits v (loops.with id n turns) outside ≡ base splits v turns outside
 base_other splits v id n turns [] none = refl
 base_other splits v id n turns (own ∷ outside) none = elim (cases_id own.id id) [
   | inl e ↦
@@ -79,11 +81,13 @@ base_other splits v id n turns (own ∷ outside) none = elim (cases_id own.id id
 base_own : (splits : List Split) (own : Loop) (n : ℕ) (turns : loops.Values) (outside : List Loop) → total (has_id own.id) outside ≡ 0
     → base splits own.variable (loops.with own.id n turns) (own ∷ outside) ≡ strides splits own.id * n + base splits own.variable turns outside
 base_own splits own n turns outside none =
-    ap (λ (b : Bool). cond {A = ℕ} b (strides splits own.id * loops.with own.id n turns own.id) 0 + base splits own.variable (loops.with own.id n turns) outside) (same_variable-self own.variable)
+    ap (λ (b : Bool). cond {A = ℕ} b (strides splits own.id * loops.with own.id n turns own.id) 0 + base splits own.variable (loops.with own.id n turns)
+    outside) (same_variable-self own.variable)
     ∙ ap (λ (k : ℕ). strides splits own.id * k + base splits own.variable (loops.with own.id n turns) outside) (with_same own.id n turns)
     ∙ ap (λ (k : ℕ). strides splits own.id * n + k) (base_other splits own.variable own.id n turns outside none)
 
-agree_even : (splits : List Split) (all : List Loop) (one other : loops.Values) → ((id : LoopId) → is_uneven splits id ≡ false) → AgreeWhereUneven splits all one other
+agree_even : (splits : List Split) (all : List Loop) (one other : loops.Values) → ((id : LoopId) → is_uneven splits id ≡ false)
+    → AgreeWhereUneven splits all one other
 agree_even splits [] one other even = tt
 agree_even splits (own ∷ all) one other even = (λ e. absurd (true≢false (sym e ∙ even own.id)), agree_even splits all one other even)
 
@@ -94,7 +98,8 @@ module _ (func : Func) (update : Update) where
   start = first_loops func (Some update)
 
   -- a second reduction variable has a loop
-  second_by : (first second : Bool) → is_first_in_place update ≡ first → is_second_in_place update ≡ second → (name : Option (List ℕ)) → func.second_argument ≡ name
+  second_by : (first second : Bool) → is_first_in_place update ≡ first → is_second_in_place update ≡ second → (name : Option (List ℕ))
+      → func.second_argument ≡ name
       → (reduction : Reduction) → update.second ≡ Some reduction → has_variable variables.SecondReduction start ≡ true
   second_by true true ef es None en r er = rw (ef, es, en, er) refl
   second_by true true ef es (Some n) en r er = rw (ef, es, en, er) refl
@@ -110,7 +115,8 @@ module _ (func : Func) (update : Update) where
   second_there true e there = refl
   second_there false e there = absurd (true≢false (sym there ∙ no_second func update e))
 
-module _ (pipeline : Pipeline) (schedule : Schedule) (rules : IsWellFormed pipeline) (place : ℕ) (func : Func) (func_is : slice_get pipeline.funcs place ≡ Some func)
+module _ (pipeline : Pipeline) (schedule : Schedule) (rules : IsWellFormed pipeline) (place : ℕ) (func : Func) (func_is : slice_get pipeline.funcs place
+    ≡ Some func)
     (at : ℕ) (update : Update) (update_is : slice_get func.updates at ≡ Some update) (box : SourceBox) (few : AreFew (update_extents box update))
     (stage : Stage) (is : IsStageOf func (Some update) stage) (corners : List Corner) (corner : Corner) (counted : AreCounted corners place corner)
     (store : Stmt) (sound : IsSoundUpdate corners (flags pipeline schedule) pipeline.funcs place corner update store) where
@@ -122,7 +128,8 @@ module _ (pipeline : Pipeline) (schedule : Schedule) (rules : IsWellFormed pipel
 
   -- ---- a round
 
-  module _ (values : Values) (turns : loops.Values) (are : AreTurns (counts extents stage.splits) stage.loops turns) (inner : loops.Values) (inner_is : wholes extents stage.splits [] turns ≡ inner ∷ []) where
+  module _ (values : Values) (turns : loops.Values) (are : AreTurns (counts extents stage.splits) stage.loops turns) (inner : loops.Values)
+      (inner_is : wholes extents stage.splits [] turns ≡ inner ∷ []) where
     abbrev now : Values
     now = put_loops place inner values
 
@@ -153,13 +160,15 @@ module _ (pipeline : Pipeline) (schedule : Schedule) (rules : IsWellFormed pipel
     second_is None e = refl
     second_is (Some reduction) e =
         add_turned (whole_at now place variables.SecondReduction) reduction.minimum
-        ∙ ap (word.add reduction.minimum) (stands variables.SecondReduction (has_second_reduction func update reduction e) ∙ sym (quotient_is update box_rule first second reduced))
+        ∙ ap (word.add reduction.minimum) (stands variables.SecondReduction (has_second_reduction func update reduction e)
+        ∙ sym (quotient_is update box_rule first second reduced))
 
     first_is : word.add (whole_at now place variables.FirstReduction) update.first.minimum ≡ word.add update.first.minimum (number % update.first.extent)
     unfolding number
     first_is =
         add_turned (whole_at now place variables.FirstReduction) update.first.minimum
-        ∙ ap (word.add update.first.minimum) (stands variables.FirstReduction (has_reduction func update) ∙ sym (remainder_is update box_rule first second reduced))
+        ∙ ap (word.add update.first.minimum) (stands variables.FirstReduction (has_reduction func update)
+        ∙ sym (remainder_is update box_rule first second reduced))
 
     abbrev x : ℕ
     x = word.add (whole_at now place variables.FirstArgument) (linear_value now corner.x)
@@ -178,7 +187,8 @@ module _ (pipeline : Pipeline) (schedule : Schedule) (rules : IsWellFormed pipel
   module _ (own : Loop) (outside : List Loop) (loops_are : stage.loops ≡ own ∷ outside) (vector : IsVectorized func (Some update) extents stage is own outside)
       (reads : Reads) (values : Values) (are : AreTurns (counts extents stage.splits) outside (loops_of place values))
       (earlier later : ℕ) (before : earlier < later) (last : later < counts extents stage.splits own.id) (one other : loops.Values)
-      (one_is : wholes extents stage.splits [] (loops.with own.id earlier (loops_of place values)) ≡ one ∷ []) (other_is : wholes extents stage.splits [] (loops.with own.id later (loops_of place values)) ≡ other ∷ []) where
+      (one_is : wholes extents stage.splits [] (loops.with own.id earlier (loops_of place values)) ≡ one ∷ []) (other_is : wholes extents stage.splits []
+      (loops.with own.id later (loops_of place values)) ≡ other ∷ []) where
     abbrev turned : ℕ → loops.Values
     turned n = loops.with own.id n (loops_of place values)
 
@@ -186,11 +196,13 @@ module _ (pipeline : Pipeline) (schedule : Schedule) (rules : IsWellFormed pipel
     v = own.variable
 
     are_turns : (n : ℕ) → n < counts extents stage.splits own.id → AreTurns (counts extents stage.splits) stage.loops (turned n)
-    are_turns n l = subst (λ (ls : List Loop). AreTurns (counts extents stage.splits) ls (turned n)) (sym loops_are) (turns_more (counts extents stage.splits) own n l outside (loops_of place values) are)
+    are_turns n l = subst (λ (ls : List Loop). AreTurns (counts extents stage.splits) ls (turned n)) (sym loops_are) (turns_more (counts extents stage.splits)
+        own n l outside (loops_of place values) are)
 
     none : total (has_id own.id) outside ≡ 0
     none =
-        let u : total (has_id own.id) (own ∷ outside) ≤ 1 = subst (λ (ls : List Loop). total (has_id own.id) ls ≤ 1) loops_are (unique_loops func (Some update) extents stage is own.id) in
+        let u : total (has_id own.id) (own ∷ outside) ≤ 1 = subst (λ (ls : List Loop). total (has_id own.id) ls ≤ 1) loops_are (unique_loops func (Some update)
+        extents stage is own.id) in
         omega (arith, u, has_same own)
 
     base_of : (n : ℕ) → base stage.splits v (turned n) stage.loops ≡ strides stage.splits own.id * n + base stage.splits v (loops_of place values) outside
@@ -198,7 +210,8 @@ module _ (pipeline : Pipeline) (schedule : Schedule) (rules : IsWellFormed pipel
 
     step : one (ids.Whole v) + base stage.splits v (turned later) stage.loops ≡ other (ids.Whole v) + base stage.splits v (turned earlier) stage.loops
     step =
-        stepped func (Some update) extents stage v (turned earlier) (turned later) one other is vector.there (are_turns earlier (omega (arith, before, last))) (are_turns later last)
+        stepped func (Some update) extents stage v (turned earlier) (turned later) one other is vector.there (are_turns earlier (omega (arith, before, last)))
+        (are_turns later last)
         (agree_even stage.splits stage.loops (turned earlier) (turned later) (all_even func (Some update) extents stage is refl)) one_is other_is
 
     elsewhere : other (ids.Whole v) ≡ one (ids.Whole v) → ⊥
@@ -212,9 +225,11 @@ module _ (pipeline : Pipeline) (schedule : Schedule) (rules : IsWellFormed pipel
 
     stood : whole_at later_now place v ≡ whole_at earlier_now place v → ⊥
     stood e =
-        elsewhere (sym (stands values (turned later) (are_turns later last) other other_is v vector.there) ∙ e ∙ stands values (turned earlier) (are_turns earlier (omega (arith, before, last))) one one_is v vector.there)
+        elsewhere (sym (stands values (turned later) (are_turns later last) other other_is v vector.there) ∙ e
+        ∙ stands values (turned earlier) (are_turns earlier (omega (arith, before, last))) one one_is v vector.there)
 
-    differ_by : (w : Variable) → v ≡ w → Differ pipeline schedule rules place func func_is at update update_is corners corner counted store sound reads earlier_now later_now
+    differ_by : (w : Variable) → v ≡ w → Differ pipeline schedule rules place func func_is at update update_is corners corner counted store sound reads
+        earlier_now later_now
     differ_by variables.FirstArgument e =
         inl (
           sym (has_first func update) ∙ ap (λ (u : Variable). has_variable u (first_loops func (Some update))) (sym e) ∙ vector.there,
@@ -222,7 +237,8 @@ module _ (pipeline : Pipeline) (schedule : Schedule) (rules : IsWellFormed pipel
         )
     differ_by variables.SecondArgument e =
         inr (
-          second_there func update (is_second_in_place update) refl (ap (λ (u : Variable). has_variable u (first_loops func (Some update))) (sym e) ∙ vector.there),
+          second_there func update (is_second_in_place update) refl (ap (λ (u : Variable). has_variable u (first_loops func (Some update))) (sym e)
+              ∙ vector.there),
           subst (λ (u : Variable). whole_at later_now place u ≡ whole_at earlier_now place u → ⊥) e stood,
         )
     differ_by variables.FirstReduction e = absurd (true≢false (ap is_reduction (sym e) ∙ vector.argument))
@@ -231,27 +247,34 @@ module _ (pipeline : Pipeline) (schedule : Schedule) (rules : IsWellFormed pipel
     apart : LoadsNoneOf reads store earlier_now later_now
     apart =
         loads_none pipeline schedule rules place func func_is at update update_is corners corner counted store sound reads earlier_now later_now
-        (number values (turned earlier) (are_turns earlier (omega (arith, before, last))) one one_is) (number values (turned later) (are_turns later last) other other_is)
-        (is_at values (turned earlier) (are_turns earlier (omega (arith, before, last))) one one_is reads) (is_at values (turned later) (are_turns later last) other other_is reads) (differ_by v refl)
+        (number values (turned earlier) (are_turns earlier (omega (arith, before, last))) one one_is) (number values (turned later) (are_turns later last) other
+        other_is)
+        (is_at values (turned earlier) (are_turns earlier (omega (arith, before, last))) one one_is reads) (is_at values (turned later) (are_turns later last)
+        other other_is reads) (differ_by v refl)
 
-  pub update_under : (kept : KeepsRules stage) (inside outside : List Loop) → stage.loops ≡ inside ++ outside → MayBeUnder place extents stage.splits inside outside store
+  pub update_under : (kept : KeepsRules stage) (inside outside : List Loop) → stage.loops ≡ inside ++ outside
+      → MayBeUnder place extents stage.splits inside outside store
   update_under kept [] outside loops_are = tt
   update_under kept (own ∷ inside) outside loops_are = (
     λ e. let vector = vectorized func (Some update) extents stage is kept own (inside ++ outside) loops_are e in record {
       count = vector.count;
-      apart = λ reads values small are earlier later before last one other one_is other_is. apart own (inside ++ outside) loops_are vector reads values are earlier later before last one other one_is other_is;
+      apart = λ reads values small are earlier later before last one other one_is other_is. apart own (inside ++ outside) loops_are vector reads values are
+          earlier later before last one other one_is other_is;
     },
     inside_only inside outside (others_are func (Some update) extents stage is kept own (inside ++ outside) loops_are),
   )
     where
-      inside_only : (inside outside : List Loop) → AllByRecursion (λ other. is_vectorized_loop other ≡ false) (inside ++ outside) → AllByRecursion (λ other. is_vectorized_loop other ≡ false) inside
+      inside_only : (inside outside : List Loop) → AllByRecursion (λ other. is_vectorized_loop other ≡ false) (inside ++ outside)
+          → AllByRecursion (λ other. is_vectorized_loop other ≡ false) inside
       inside_only [] outside all = tt
       inside_only (one ∷ inside) outside all = (all.0, inside_only inside outside all.1)
 
 -- ---- the corner of a Func at root
 
-pub counted_at_root : (schedule : Schedule) (boxes : Boxes) (corners : List Corner) (corner : Corner) (place : ℕ) (own : SourceBox) (standing : Standing) → AreCorners schedule.funcs boxes.funcs schedule.standings corners
-    → slice_get boxes.funcs place ≡ Some (Some own) → slice_get schedule.standings place ≡ Some standing → standing.place ≡ places.Root → IsCorner schedule.funcs places.Root own corner → AreCounted corners place corner
+pub counted_at_root : (schedule : Schedule) (boxes : Boxes) (corners : List Corner) (corner : Corner) (place : ℕ) (own : SourceBox) (standing : Standing)
+    → AreCorners schedule.funcs boxes.funcs schedule.standings corners
+    → slice_get boxes.funcs place ≡ Some (Some own) → slice_get schedule.standings place ≡ Some standing → standing.place ≡ places.Root
+    → IsCorner schedule.funcs places.Root own corner → AreCounted corners place corner
 counted_at_root schedule boxes corners corner place own standing are there stands root is values a b =
     let c = root_corner_at schedule boxes corners place own standing are there stands root in
     rw (c.there, (c.is values).0 ∙ sym ((is values).0 ∙ first_none own.x), (c.is values).1 ∙ sym ((is values).1 ∙ first_none own.y)) refl

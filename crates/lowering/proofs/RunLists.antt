@@ -19,7 +19,8 @@ use Rattle.lowering.proofs.LoopTurns.{contains_upto}
 -- ---- turns of some loops alone
 
 -- one more of them is in a turn
-pub one_more : (own : Loop) (outside : List Loop) (turn : ℕ) (turns : loops.Values) → loops.with own.id turn (turns_of outside turns) ≡ turns_of (own ∷ outside) (loops.with own.id turn turns)
+pub one_more : (own : Loop) (outside : List Loop) (turn : ℕ) (turns : loops.Values) → loops.with own.id turn (turns_of outside turns)
+    ≡ turns_of (own ∷ outside) (loops.with own.id turn turns)
 one_more own outside turn turns = fun_ext (λ id. by_test id (same_id id own.id))
   where
     by_test : (id : LoopId) (b : Bool) → cond b turn (cond (is_among outside id) (turns id) 0) ≡ cond (b || is_among outside id) (cond b turn (turns id)) 0
@@ -27,17 +28,20 @@ one_more own outside turn turns = fun_ext (λ id. by_test id (same_id id own.id)
     by_test id false = refl
 
 -- where it is in its turn already
-own_turn : (own : Loop) (outside : List Loop) (turns : loops.Values) → loops.with own.id (turns own.id) (turns_of outside turns) ≡ turns_of (own ∷ outside) turns
+own_turn : (own : Loop) (outside : List Loop) (turns : loops.Values) → loops.with own.id (turns own.id) (turns_of outside turns)
+    ≡ turns_of (own ∷ outside) turns
 own_turn own outside turns = fun_ext (λ id. elim (cases_id id own.id) [
   | inl e ↦ by_same id e (same_id id own.id)
   | inr d ↦ by_other id (same_id id own.id) d
 ])
   where
-    by_same : (id : LoopId) → id ≡ own.id → (b : Bool) → cond b (turns own.id) (cond (is_among outside id) (turns id) 0) ≡ cond (b || is_among outside id) (turns id) 0
+    by_same : (id : LoopId) → id ≡ own.id → (b : Bool) → cond b (turns own.id) (cond (is_among outside id) (turns id) 0) ≡ cond (b || is_among outside id)
+        (turns id) 0
     by_same id e true = ap turns (sym e)
     by_same id e false = refl
 
-    by_other : (id : LoopId) (b : Bool) → b ≡ false → cond b (turns own.id) (cond (is_among outside id) (turns id) 0) ≡ cond (b || is_among outside id) (turns id) 0
+    by_other : (id : LoopId) (b : Bool) → b ≡ false → cond b (turns own.id) (cond (is_among outside id) (turns id) 0) ≡ cond (b || is_among outside id)
+        (turns id) 0
     by_other id true f = absurd cc
     by_other id false f = refl
 
@@ -90,17 +94,20 @@ record Taken {A : Type 0} (x : A) (counts : loops.Values) (own : List Loop) (bod
   are : AreTurns counts own turns
   there : Contains (body (turns_of own turns)) x
 
-turns_with : (counts : loops.Values) (first : Loop) (turn : ℕ) → turn < counts first.id → (own : List Loop) (turns : loops.Values) → AreTurns counts own turns → AreTurns counts own (loops.with first.id turn turns)
+turns_with : (counts : loops.Values) (first : Loop) (turn : ℕ) → turn < counts first.id → (own : List Loop) (turns : loops.Values) → AreTurns counts own turns
+    → AreTurns counts own (loops.with first.id turn turns)
 turns_with counts first turn below [] turns are = tt
 turns_with counts first turn below (own ∷ others) turns are = (by_id, turns_with counts first turn below others turns are.1)
   where
     by_id : loops.with first.id turn turns own.id < counts own.id
     by_id = elim (cases_id own.id first.id) [
-      | inl e ↦ subst (λ (id : LoopId). loops.with first.id turn turns id < counts id) (sym e) (subst (λ (n : ℕ). n < counts first.id) (sym (with_same first.id turn turns)) below)
+      | inl e ↦ subst (λ (id : LoopId). loops.with first.id turn turns id < counts id) (sym e) (subst (λ (n : ℕ). n < counts first.id)
+          (sym (with_same first.id turn turns)) below)
       | inr d ↦ subst (λ (n : ℕ). n < counts own.id) (sym (with_other first.id turn turns own.id d)) are.0
     ]
 
-taken : {A : Type 0} (x : A) (counts : loops.Values) (own : List Loop) (body : loops.Values → List A) → Contains (nest counts own body zeros) x → Taken x counts own body
+taken : {A : Type 0} (x : A) (counts : loops.Values) (own : List Loop) (body : loops.Values → List A) → Contains (nest counts own body zeros) x
+    → Taken x counts own body
 taken x counts [] body there = record { turns = zeros; are = tt; there = subst (λ (t : loops.Values). Contains (body t) x) (none_begun zeros) there }
 taken {A} x counts (first ∷ outside) body there =
     let list : loops.Values → List A = λ outer. upto (counts first.id) (λ turn. body (loops.with first.id turn outer)) in
@@ -108,7 +115,11 @@ taken {A} x counts (first ∷ outside) body there =
     let inner = listed_upto x (counts first.id) (λ turn. body (loops.with first.id turn (turns_of outside outer.turns))) outer.there in
     record {
       turns = loops.with first.id inner.turn outer.turns;
-      are = (subst (λ (n : ℕ). n < counts first.id) (sym (with_same first.id inner.turn outer.turns)) inner.below, turns_with counts first inner.turn inner.below outside outer.turns outer.are);
+      are = (
+        subst (λ (n : ℕ). n < counts first.id) (sym (with_same first.id inner.turn outer.turns)) inner.below,
+        turns_with counts first inner.turn
+            inner.below outside outer.turns outer.are,
+      );
       there = subst (λ (t : loops.Values). Contains (body t) x) (one_more first outside inner.turn outer.turns) inner.there;
     }
 

@@ -1,5 +1,6 @@
 -- What a consumer's loops ask for with the nests at them, and what all phases do: each Func at a loop stands at one loop of one consumer.
-use Rattle.std.proofs.Common.{◌≡◌, ℕ, zero, suc, ◌+◌, ◌*◌, ◌-◌, ◌<◌, ◌≤◌, Bool, true, false, List, [], ◌∷◌, ◌++◌, length, Option, Some, None, refl, sym, ap, subst, ◌∙◌, arith, inl, inr, length-append, append_assoc, append-nil}
+use Rattle.std.proofs.Common.{◌≡◌, ℕ, zero, suc, ◌+◌, ◌*◌, ◌-◌, ◌<◌, ◌≤◌, Bool, true, false, List, [], ◌∷◌, ◌++◌, length, Option, Some, None, refl, sym, ap}
+use Rattle.std.proofs.Common.{subst, ◌∙◌, arith, inl, inr, length-append, append_assoc, append-nil}
 use Rattle.std.specs.Prelude.{◌==◌, ◌&&◌, if◌then◌else◌, slice_get, not}
 use Rattle.std.proofs.lemmas.Bool.{and_from}
 use Rattle.std.proofs.Math.Nat.{add-mul, mul-add, mul_assoc, mul_comm, mul_right_comm}
@@ -91,14 +92,16 @@ module _ (pipeline : Pipeline) (schedule : Schedule) (boxes : Boxes) where
   share_at at place = loop_share at (slice_get pipeline.funcs place) (slice_get schedule.funcs place) (slice_get schedule.standings place)
 
   abbrev produced_at : ℕ → ℕ → ℕ
-  produced_at consumer place = produced_share flags pipeline.funcs schedule.funcs consumer (slice_get pipeline.funcs place) (slice_get schedule.funcs place) (slice_get schedule.standings place)
+  produced_at consumer place = produced_share flags pipeline.funcs schedule.funcs consumer (slice_get pipeline.funcs place) (slice_get schedule.funcs place)
+      (slice_get schedule.standings place)
 
   abbrev count : ℕ
   count = length schedule.standings
 
   computed-there : (at : LoopPlace) (own : Standing) → own.is_reached ≡ true → own.place ≡ places.At at → is_computed_at at own ≡ true
   computed-there at own reached is =
-      and_from own.is_reached (is_at_loop at own.place) reached (ap (is_at_loop at) is ∙ and_from (at.func == at.func) (same_id at.inside at.inside) (grind (arith, nat_tests)) (same_id-self at.inside))
+      and_from own.is_reached (is_at_loop at own.place) reached (ap (is_at_loop at) is ∙ and_from (at.func == at.func) (same_id at.inside at.inside)
+      (grind (arith, nat_tests)) (same_id-self at.inside))
 
   -- the nests of a Func at a loop, in each copy of the code around them
   module _ (at : LoopPlace) (copied : ℕ) (copied_is : consumer_copies schedule.funcs (places.At at) ≡ copied) where
@@ -109,7 +112,8 @@ module _ (pipeline : Pipeline) (schedule : Schedule) (boxes : Boxes) where
         = ap (λ (f : Option Func). loop_share at f (slice_get schedule.funcs place) (slice_get schedule.standings place)) is.parts.func_is
         ∙ ap (λ (p : Option FuncPlan). loop_share at (Some is.func) p (slice_get schedule.standings place)) is.parts.plan_is
         ∙ ap (λ (o : Option Standing). loop_share at (Some is.func) (Some is.plan) o) is.parts.there.standing
-        ∙ ap (λ (t : Bool). if t then placed_share flags pipeline.funcs schedule.funcs is.func is.plan own else 0) (computed-there at own is.parts.there.reached is.parts.placed_is) in
+        ∙ ap (λ (t : Bool). if t then placed_share flags pipeline.funcs schedule.funcs is.func is.plan own else 0) (computed-there at own is.parts.there.reached
+        is.parts.placed_is) in
         let whole = func_share flags pipeline.funcs is.func is.plan in
         let here : placed_share flags pipeline.funcs schedule.funcs is.func is.plan own ≡ whole * copied
         = ap (λ (p : Place). whole * consumer_copies schedule.funcs p) is.parts.placed_is ∙ ap (λ (n : ℕ). whole * n) copied_is in
@@ -123,7 +127,8 @@ module _ (pipeline : Pipeline) (schedule : Schedule) (boxes : Boxes) where
 
     none-past : (place : ℕ) (found : Option Stmt) → IsNestAt pipeline schedule boxes at place found → count ≤ place → size_first found ≡ 0
     none-past place None is past = refl
-    none-past place (Some made) is past = absurd (let l = slice_get_within schedule.standings place is.parts.standing is.parts.there.standing in omega (arith, l, past))
+    none-past place (Some made) is past = absurd (let l = slice_get_within schedule.standings place is.parts.standing is.parts.there.standing in
+        omega (arith, l, past))
 
     both-size : (made found rest : ℕ) → made ≡ found + rest → made * copied ≡ found * copied + rest * copied
     both-size made found rest e = ap (λ (n : ℕ). n * copied) e ∙ add-mul found rest copied
@@ -150,12 +155,14 @@ module _ (pipeline : Pipeline) (schedule : Schedule) (boxes : Boxes) where
   abbrev around : ℕ → List Loop → ℕ → ℕ
   around consumer own place = sums consumer (slice_get pipeline.funcs place) (slice_get schedule.funcs place) (slice_get schedule.standings place) own
 
-  around-append : (consumer : ℕ) (inside outside : List Loop) (place : ℕ) → around consumer (inside ++ outside) place ≡ around consumer inside place + around consumer outside place
+  around-append : (consumer : ℕ) (inside outside : List Loop) (place : ℕ) → around consumer (inside ++ outside) place ≡ around consumer inside place + around
+      consumer outside place
   around-append consumer [] outside place = omega arith
   around-append consumer (own ∷ inside) outside place = omega (arith, around-append consumer inside outside place)
 
   around-summed : (consumer : ℕ) (inside : List Loop) (own : Loop) (n : ℕ)
-      → summed (around consumer (inside ++ own ∷ [])) 0 n ≤ summed (around consumer inside) 0 n + summed (share_at (record { func = consumer; inside = own.id })) 0 n
+      → summed (around consumer (inside ++ own ∷ [])) 0 n ≤ summed (around consumer inside) 0 n + summed
+      (share_at (record { func = consumer; inside = own.id })) 0 n
   around-summed consumer inside own n =
       let l = summed-most (around consumer (inside ++ own ∷ [])) (λ k. around consumer inside k + share_at (record { func = consumer; inside = own.id }) k)
       (λ k. let e = around-append consumer inside (own ∷ []) k in omega (arith, e)) 0 n in
@@ -163,7 +170,8 @@ module _ (pipeline : Pipeline) (schedule : Schedule) (boxes : Boxes) where
       omega (arith, l, m)
 
   summed-around : (consumer : ℕ) (inside : List Loop) (own : Loop) (n : ℕ)
-      → summed (around consumer inside) 0 n + summed (share_at (record { func = consumer; inside = own.id })) 0 n ≤ summed (around consumer (inside ++ own ∷ [])) 0 n
+      → summed (around consumer inside) 0 n + summed (share_at (record { func = consumer; inside = own.id })) 0 n ≤ summed (around consumer (inside ++ own
+      ∷ [])) 0 n
   summed-around consumer inside own n =
       let l = summed-most (λ k. around consumer inside k + share_at (record { func = consumer; inside = own.id }) k) (around consumer (inside ++ own ∷ []))
       (λ k. let e = around-append consumer inside (own ∷ []) k in omega (arith, e)) 0 n in
@@ -171,20 +179,25 @@ module _ (pipeline : Pipeline) (schedule : Schedule) (boxes : Boxes) where
       omega (arith, l, m)
 
   -- what stands in a loop is made in each of its copies
-  around-paid : (made body inner own outside all leaf loops nests before : ℕ) → made ≤ own * (body + 39) → body * (own * outside) ≤ inner * (own * outside) + nests → own * outside ≤ all
+  around-paid : (made body inner own outside all leaf loops nests before : ℕ) → made ≤ own * (body + 39)
+      → body * (own * outside) ≤ inner * (own * outside) + nests → own * outside ≤ all
       → inner * (own * outside) ≤ all * (leaf + 39 * loops) + before → made * outside ≤ all * (leaf + 39 * suc loops) + (before + nests)
   around-paid made body inner own outside all leaf loops nests before few more some so_far =
       let t = times-most made (own * (body + 39)) outside few in
-      let e : own * (body + 39) * outside ≡ body * (own * outside) + 39 * (own * outside) = mul_right_comm own (body + 39) outside ∙ mul_comm (own * outside) (body + 39) ∙ add-mul body 39 (own * outside) in
+      let e : own * (body + 39) * outside ≡ body * (own * outside) + 39 * (own * outside) = mul_right_comm own (body + 39) outside
+      ∙ mul_comm (own * outside) (body + 39) ∙ add-mul body 39 (own * outside) in
       let f = ap (λ (z : ℕ). all * z) (let g : leaf + 39 * suc loops ≡ leaf + 39 * loops + 39 = omega arith in g) ∙ mul-add all (leaf + 39 * loops) 39 in
       omega (arith, t, e, f, some, more, so_far)
 
-  module _ (consumer : ℕ) (counts : loops.Values) (all : List Loop) (paid : ArePaid counts all) (unique : Unique all) (all_is : pure_loops_of (slice_get schedule.funcs consumer) ≡ all) where
-    copied-here : (inside : List Loop) (own : Loop) (outside : List Loop) → inside ++ own ∷ outside ≡ all → consumer_copies schedule.funcs (places.At (record { func = consumer; inside = own.id })) ≡ copies own * all_copies outside
+  module _ (consumer : ℕ) (counts : loops.Values) (all : List Loop) (paid : ArePaid counts all) (unique : Unique all)
+      (all_is : pure_loops_of (slice_get schedule.funcs consumer) ≡ all) where
+    copied-here : (inside : List Loop) (own : Loop) (outside : List Loop) → inside ++ own ∷ outside ≡ all
+        → consumer_copies schedule.funcs (places.At (record { func = consumer; inside = own.id })) ≡ copies own * all_copies outside
     copied-here inside own outside e =
         ap (copies_from own.id) (all_is ∙ sym e) ∙ copies-at inside own outside (subst Unique (sym e) unique)
 
-    loops-size : (leaf : Stmt) (own : List Loop) (made : Stmt) → HasLoops pipeline schedule boxes consumer counts leaf own made → (outside : List Loop) → own ++ outside ≡ all
+    loops-size : (leaf : Stmt) (own : List Loop) (made : Stmt) → HasLoops pipeline schedule boxes consumer counts leaf own made → (outside : List Loop)
+        → own ++ outside ≡ all
         → whole_size made * all_copies outside ≤ all_copies all * (whole_size leaf + 39 * length own) + 64 * summed (around consumer own) 0 count
     loops-size leaf _ _ No_loops outside e =
         let k : whole_size leaf * all_copies outside ≡ whole_size leaf * all_copies all = ap (λ (ls : List Loop). whole_size leaf * all_copies ls) e in
@@ -196,14 +209,17 @@ module _ (pipeline : Pipeline) (schedule : Schedule) (boxes : Boxes) where
         let all_paid : ArePaid counts (inside ++ own ∷ outside) = subst (ArePaid counts) (sym here) paid in
         let few = loop-paid counts own (whole_size body) (paid-at counts inside own outside all_paid) in
         let size = does.size_is in
-        let n = nests-size (record { func = consumer; inside = own.id }) (copies own * all_copies outside) (copied-here inside own outside here) 0 inner body nests count (omega arith) in
+        let n = nests-size (record { func = consumer; inside = own.id }) (copies own * all_copies outside) (copied-here inside own outside here) 0 inner body
+        nests count (omega arith) in
         let i = loops-size leaf inside inner has (own ∷ outside) here in
         let c = last-copies counts inside (own ∷ outside) all_paid in
         let ca = ap all_copies here in
         let l = length-append inside (own ∷ []) in
         let s = summed-around consumer inside own count in
-        let p = around-paid (whole_size made) (whole_size body) (whole_size inner) (copies own) (all_copies outside) (all_copies all) (whole_size leaf) (length inside)
-        (64 * summed (share_at (record { func = consumer; inside = own.id })) 0 count) (64 * summed (around consumer inside) 0 count) (omega (arith, few, size)) n (omega (arith, c, ca)) i in
+        let p = around-paid (whole_size made) (whole_size body) (whole_size inner) (copies own) (all_copies outside) (all_copies all) (whole_size leaf)
+        (length inside)
+        (64 * summed (share_at (record { func = consumer; inside = own.id })) 0 count) (64 * summed (around consumer inside) 0 count) (omega (arith, few, size))
+        n (omega (arith, c, ca)) i in
         let m : length (inside ++ own ∷ []) ≡ suc (length inside) = omega (arith, l) in
         let f = ap (λ (k : ℕ). all_copies all * (whole_size leaf + 39 * k)) m in
         omega (arith, p, f, s)
@@ -274,16 +290,24 @@ module _ (pipeline : Pipeline) (schedule : Schedule) (boxes : Boxes) where
     among-once places.Inlined own unique = let z = among-nowhere places.Inlined (λ loop. nowhere reached) own in omega (arith, z)
     among-once places.Nowhere own unique = let z = among-nowhere places.Nowhere (λ loop. nowhere reached) own in omega (arith, z)
 
-  sums-none : (consumer : ℕ) (func : Option Func) (plan : Option FuncPlan) (own : Option Standing) → ((at : LoopPlace) → loop_share at func plan own ≡ 0) → (all : List Loop) → sums consumer func plan own all ≡ 0
+  sums-none : (consumer : ℕ) (func : Option Func) (plan : Option FuncPlan) (own : Option Standing) → ((at : LoopPlace) → loop_share at func plan own ≡ 0)
+      → (all : List Loop) → sums consumer func plan own all ≡ 0
   sums-none consumer func plan own none [] = refl
-  sums-none consumer func plan own none (first ∷ others) = omega (arith, none (record { func = consumer; inside = first.id }), sums-none consumer func plan own none others)
+  sums-none consumer func plan own none (first ∷ others) = omega (
+    arith,
+    none (record { func = consumer; inside = first.id }),
+    sums-none consumer func plan own
+        none others,
+  )
 
   sums-are : (consumer : ℕ) (func : Func) (plan : FuncPlan) (own : Standing) (all : List Loop)
-      → sums consumer (Some func) (Some plan) (Some own) all ≡ among consumer (placed_share flags pipeline.funcs schedule.funcs func plan own) own.is_reached own.place all
+      → sums consumer (Some func) (Some plan) (Some own) all ≡ among consumer (placed_share flags pipeline.funcs schedule.funcs func plan own) own.is_reached
+      own.place all
   sums-are consumer func plan own [] = refl
   sums-are consumer func plan own (first ∷ others) = omega (arith, sums-are consumer func plan own others)
 
-  sums-once : (consumer : ℕ) (func : Option Func) (plan : Option FuncPlan) (own : Option Standing) (all : List Loop) → Unique all → sums consumer func plan own all ≤ produced_share flags pipeline.funcs schedule.funcs consumer func plan own
+  sums-once : (consumer : ℕ) (func : Option Func) (plan : Option FuncPlan) (own : Option Standing) (all : List Loop) → Unique all
+      → sums consumer func plan own all ≤ produced_share flags pipeline.funcs schedule.funcs consumer func plan own
   sums-once consumer None plan own all unique = let z = sums-none consumer None plan own (λ at. refl) all in omega (arith, z)
   sums-once consumer (Some func) None own all unique = let z = sums-none consumer (Some func) None own (λ at. refl) all in omega (arith, z)
   sums-once consumer (Some func) (Some plan) None all unique = let z = sums-none consumer (Some func) (Some plan) None (λ at. refl) all in omega (arith, z)
@@ -294,11 +318,13 @@ module _ (pipeline : Pipeline) (schedule : Schedule) (boxes : Boxes) where
 
   around-once : (consumer : ℕ) (all : List Loop) → Unique all → summed (around consumer all) 0 count ≤ produced_shares pipeline schedule consumer
   around-once consumer all unique =
-      summed-most (around consumer all) (produced_at consumer) (λ k. sums-once consumer (slice_get pipeline.funcs k) (slice_get schedule.funcs k) (slice_get schedule.standings k) all unique) 0 count
+      summed-most (around consumer all) (produced_at consumer) (λ k. sums-once consumer (slice_get pipeline.funcs k) (slice_get schedule.funcs k)
+      (slice_get schedule.standings k) all unique) 0 count
 
   -- ---- what a task does
 
-  module _ (consumer : ℕ) (plan : FuncPlan) (extents : Extents) (store body : Stmt) (plan_is : slice_get schedule.funcs consumer ≡ Some plan) (kept : KeepsRules plan.pure) (unique : Unique plan.pure.loops)
+  module _ (consumer : ℕ) (plan : FuncPlan) (extents : Extents) (store body : Stmt) (plan_is : slice_get schedule.funcs consumer ≡ Some plan)
+      (kept : KeepsRules plan.pure) (unique : Unique plan.pure.loops)
       (paid : ArePaid (loops.counts extents plan.pure.splits) plan.pure.loops) (is : IsBody pipeline schedule boxes consumer plan.pure extents store body) where
     abbrev stage : Stage
     stage = plan.pure
@@ -312,7 +338,8 @@ module _ (pipeline : Pipeline) (schedule : Schedule) (boxes : Boxes) where
     all_is : pure_loops_of (slice_get schedule.funcs consumer) ≡ stage.loops
     all_is = ap pure_loops_of plan_is
 
-    ends : (inside outside : List Loop) → inside ++ outside ≡ stage.loops → (n : ℕ) → n ≤ copied * (whole_size is.leaf + 39 * length inside) + 64 * summed (around consumer (inside ++ outside)) 0 count
+    ends : (inside outside : List Loop) → inside ++ outside ≡ stage.loops → (n : ℕ) → n ≤ copied * (whole_size is.leaf + 39 * length inside) + 64 * summed
+        (around consumer (inside ++ outside)) 0 count
         → n ≤ copied * (25 * length stage.splits + whole_size store + 39 * length stage.loops) + 64 * produced_shares pipeline schedule consumer
     ends inside outside e n few =
         let z = is.size_is in
@@ -320,12 +347,14 @@ module _ (pipeline : Pipeline) (schedule : Schedule) (boxes : Boxes) where
         let le = ap (λ (ls : List Loop). length ls) e in
         let s = ap (λ (ls : List Loop). summed (around consumer ls) 0 count) e in
         let o = around-once consumer stage.loops unique in
-        let m = times-most (whole_size is.leaf + 39 * length inside) (25 * length stage.splits + whole_size store + 39 * length stage.loops) copied (omega (arith, z, l, le)) in
+        let m = times-most (whole_size is.leaf + 39 * length inside) (25 * length stage.splits + whole_size store + 39 * length stage.loops) copied
+        (omega (arith, z, l, le)) in
         let c = mul_comm copied (whole_size is.leaf + 39 * length inside) in
         let d = mul_comm copied (25 * length stage.splits + whole_size store + 39 * length stage.loops) in
         omega (arith, few, m, s, o, c, d)
 
-    by-outermost : (found : Option Loop) → HasOutermost pipeline schedule boxes consumer found is.inner body → HasLoops pipeline schedule boxes consumer counted is.leaf (inside_of found stage.loops) is.inner
+    by-outermost : (found : Option Loop) → HasOutermost pipeline schedule boxes consumer found is.inner body
+        → HasLoops pipeline schedule boxes consumer counted is.leaf (inside_of found stage.loops) is.inner
         → inside_of found stage.loops ++ outside_of consumer extents stage kept found ≡ stage.loops
         → whole_size body ≤ copied * (25 * length stage.splits + whole_size store + 39 * length stage.loops) + 64 * produced_shares pipeline schedule consumer
     by-outermost None begun looped e =
@@ -336,14 +365,16 @@ module _ (pipeline : Pipeline) (schedule : Schedule) (boxes : Boxes) where
     by-outermost (Some own) begun looped e =
         let inside = inside_of (Some own) stage.loops in
         let i = loops-size consumer counted stage.loops paid unique all_is is.leaf inside is.inner looped (own ∷ []) e in
-        let n = nests-size (record { func = consumer; inside = own.id }) (copies own * 1) (copied-here consumer counted stage.loops paid unique all_is inside own [] e) 0 is.inner body begun count (omega arith) in
+        let n = nests-size (record { func = consumer; inside = own.id }) (copies own * 1) (copied-here consumer counted stage.loops paid unique all_is inside
+        own [] e) 0 is.inner body begun count (omega arith) in
         let p = paid-at counted inside own [] (subst (ArePaid counted) (sym e) paid) in
         let t = times-some (copies own) (whole_size body) p.some in
         let q = ap (λ (z : ℕ). whole_size body * z) (let g : copies own * 1 ≡ copies own = omega arith in g) ∙ mul_comm (whole_size body) (copies own) in
         let s = summed-around consumer inside own count in
         ends inside (own ∷ []) e (whole_size body) (omega (arith, i, n, t, s, q))
 
-    pub body-size : whole_size body ≤ copied * (25 * length stage.splits + whole_size store + 39 * length stage.loops) + 64 * produced_shares pipeline schedule consumer
+    pub body-size : whole_size body ≤ copied * (25 * length stage.splits + whole_size store + 39 * length stage.loops) + 64 * produced_shares pipeline schedule
+        consumer
     body-size = by-outermost (parallel stage) is.begun is.looped (sym (loops_by consumer extents stage kept (parallel stage) refl))
 
   -- ---- all phases
@@ -356,23 +387,30 @@ module _ (pipeline : Pipeline) (schedule : Schedule) (boxes : Boxes) where
   phases_share place func plan zero = 0
   phases_share place func plan (suc n) = phases_share place func plan n + phase_share pipeline schedule place func plan n
 
-  phases-all : (place : ℕ) (func : Func) (plan : FuncPlan) (n : ℕ) → phases_share place func plan (suc n) ≡ shares flags pipeline.funcs func plan n + produced_shares pipeline schedule place
+  phases-all : (place : ℕ) (func : Func) (plan : FuncPlan) (n : ℕ) → phases_share place func plan (suc n) ≡ shares flags pipeline.funcs func plan n
+      + produced_shares pipeline schedule place
   phases-all place func plan zero = omega arith
   phases-all place func plan (suc n) = omega (arith, phases-all place func plan n)
 
-  stage-light : (place : ℕ) (func : Func) (plan : FuncPlan) (own : SourceBox) (number : ℕ) (phase : Phase) → lowered.IsStagePhase pipeline schedule boxes place func plan own number phase → IsLight pipeline schedule place func plan number phase
+  stage-light : (place : ℕ) (func : Func) (plan : FuncPlan) (own : SourceBox) (number : ℕ) (phase : Phase)
+      → lowered.IsStagePhase pipeline schedule boxes place func plan own number phase → IsLight pipeline schedule place func plan number phase
   stage-light place func plan own _ _ (lowered.Pure phase tasks private_is bytes does touches few stores rounds in_runs) = few.1
   stage-light place func plan own _ _ (lowered.Updating at update stage phase it tasks private_is bytes does touches few stores rounds) = few.1
 
-  pub update-light : (place : ℕ) (func : Func) (plan : FuncPlan) (at : ℕ) (update : Update) (stage : Stage) (phase : Phase) → slice_get func.updates at ≡ Some update → slice_get plan.updates at ≡ Some stage
-      → whole_size phase.body + 24 ≤ 64 * stage_weight (update_nodes flags pipeline.funcs update) stage → IsLight pipeline schedule place func plan (suc at) phase
+  pub update-light : (place : ℕ) (func : Func) (plan : FuncPlan) (at : ℕ) (update : Update) (stage : Stage) (phase : Phase)
+      → slice_get func.updates at ≡ Some update → slice_get plan.updates at ≡ Some stage
+      → whole_size phase.body + 24 ≤ 64 * stage_weight (update_nodes flags pipeline.funcs update) stage
+      → IsLight pipeline schedule place func plan (suc at) phase
   update-light place func plan at update stage phase update-is stage-is light =
-      let own : update_share flags pipeline.funcs (slice_get func.updates at) (slice_get plan.updates at) ≡ stage_weight (update_nodes flags pipeline.funcs update) stage
-      = ap (λ (u : Option Update). update_share flags pipeline.funcs u (slice_get plan.updates at)) update-is ∙ ap (λ (s : Option Stage). update_share flags pipeline.funcs (Some update) s) stage-is in
+      let own : update_share flags pipeline.funcs (slice_get func.updates at) (slice_get plan.updates at)
+      ≡ stage_weight (update_nodes flags pipeline.funcs update) stage
+      = ap (λ (u : Option Update). update_share flags pipeline.funcs u (slice_get plan.updates at)) update-is
+      ∙ ap (λ (s : Option Stage). update_share flags pipeline.funcs (Some update) s) stage-is in
       omega (arith, own, light)
 
   stages-light : (place : ℕ) (func : Func) (plan : FuncPlan) (own : SourceBox) (others phases : List Phase) (number : ℕ)
-      → lowered.ArePhasesOf pipeline schedule boxes place func plan own others number phases → words_of phases ≤ words_of others + 64 * phases_share place func plan number
+      → lowered.ArePhasesOf pipeline schedule boxes place func plan own others number phases
+      → words_of phases ≤ words_of others + 64 * phases_share place func plan number
   stages-light place func plan own others _ _ lowered.None_yet = omega arith
   stages-light place func plan own others _ _ (lowered.One_more number phases phase rest is) =
       let w = words-behind phases phase in
@@ -392,16 +430,19 @@ module _ (pipeline : Pipeline) (schedule : Schedule) (boxes : Boxes) where
   abbrev with_produced : ℕ → ℕ
   with_produced place = root_at place + produced_shares pipeline schedule place
 
-  root-is : (place : ℕ) (func : Func) (plan : FuncPlan) (own : SourceBox) → IsAtRoot pipeline schedule boxes place func plan own → root_at place ≡ func_share flags pipeline.funcs func plan
+  root-is : (place : ℕ) (func : Func) (plan : FuncPlan) (own : SourceBox) → IsAtRoot pipeline schedule boxes place func plan own
+      → root_at place ≡ func_share flags pipeline.funcs func plan
   root-is place func plan own at =
       ap (λ (f : Option Func). root_share place f (slice_get schedule.funcs place) (slice_get schedule.standings place)) at.func_is
       ∙ ap (λ (p : Option FuncPlan). root_share place (Some func) p (slice_get schedule.standings place)) at.plan_is
       ∙ ap (λ (o : Option Standing). root_share place (Some func) (Some plan) o) at.there.standing
-      ∙ ap (λ (t : Bool). if t then placed_share flags pipeline.funcs schedule.funcs func plan at.standing else 0) (and_from at.standing.is_reached (is_root at.standing.place) at.there.reached (ap is_root at.placed_is))
+      ∙ ap (λ (t : Bool). if t then placed_share flags pipeline.funcs schedule.funcs func plan at.standing else 0) (and_from at.standing.is_reached
+      (is_root at.standing.place) at.there.reached (ap is_root at.placed_is))
       ∙ ap (λ (p : Place). func_share flags pipeline.funcs func plan * consumer_copies schedule.funcs p) at.placed_is
       ∙ (let g : func_share flags pipeline.funcs func plan * 1 ≡ func_share flags pipeline.funcs func plan = omega arith in g)
 
-  pub phases-light : (place : ℕ) (phases : List Phase) → lowered.AreLowered pipeline schedule boxes place phases → words_of phases ≤ 64 * summed with_produced 0 place
+  pub phases-light : (place : ℕ) (phases : List Phase) → lowered.AreLowered pipeline schedule boxes place phases
+      → words_of phases ≤ 64 * summed with_produced 0 place
   phases-light _ _ lowered.No_func = omega arith
   phases-light _ _ (lowered.Passed place phases rest none) =
       let l = phases-light place phases rest in
@@ -445,7 +486,8 @@ module _ (pipeline : Pipeline) (schedule : Schedule) (boxes : Boxes) where
 
     by-consumer : (func from n : ℕ) (t : Bool) → (func == from) ≡ t → summed (λ h. if func == h then whole else 0) (suc from) n ≤ whole
         → (if t then whole else 0) + summed (λ h. if func == h then whole else 0) (suc from) n ≤ whole
-    by-consumer func from n true e later = let s : func ≡ from = grind (arith, nat_tests, e) in let z = past func (suc from) n (omega (arith, s)) in omega (arith, z)
+    by-consumer func from n true e later = let s : func ≡ from = grind (arith, nat_tests, e) in let z = past func (suc from) n (omega (arith, s)) in
+        omega (arith, z)
     by-consumer func from n false e later = omega (arith, later)
 
     consumers-once : (func from n : ℕ) → summed (λ h. if func == h then whole else 0) from n ≤ whole
@@ -454,7 +496,8 @@ module _ (pipeline : Pipeline) (schedule : Schedule) (boxes : Boxes) where
 
     -- a Func at root, or at a loop of one consumer
     placed-once : (reached : Bool) (place : Place) (m : ℕ)
-        → (if reached && is_root place then whole else 0) + summed (λ h. if reached && is_at_loop_of h place then whole else 0) 0 m ≤ (if reached && not (is_inlined place) then whole else 0)
+        → (if reached && is_root place then whole else 0) + summed (λ h. if reached && is_at_loop_of h place then whole else 0) 0 m ≤ (if reached
+        && not (is_inlined place) then whole else 0)
     placed-once true (places.At at) m = let l = consumers-once at.func 0 m in omega (arith, l)
     placed-once true places.Root m = let z = summed-none 0 m in omega (arith, z)
     placed-once true places.Inlined m = let z = summed-none 0 m in omega (arith, z)
@@ -470,7 +513,8 @@ module _ (pipeline : Pipeline) (schedule : Schedule) (boxes : Boxes) where
 
   -- past the last standing nothing is
   none-after : (place : ℕ) → count ≤ place → root_at place ≡ 0
-  none-after place past = ap (λ (o : Option Standing). root_share place (slice_get pipeline.funcs place) (slice_get schedule.funcs place) o) (slice_get_past schedule.standings place past) ∙ by-parts (slice_get pipeline.funcs place) (slice_get schedule.funcs place)
+  none-after place past = ap (λ (o : Option Standing). root_share place (slice_get pipeline.funcs place) (slice_get schedule.funcs place) o)
+      (slice_get_past schedule.standings place past) ∙ by-parts (slice_get pipeline.funcs place) (slice_get schedule.funcs place)
     where
       by-parts : (func : Option Func) (plan : Option FuncPlan) → root_share place func plan None ≡ 0
       by-parts None plan = refl
@@ -491,5 +535,6 @@ module _ (pipeline : Pipeline) (schedule : Schedule) (boxes : Boxes) where
       let x = exchanged produced_at 0 count 0 m in
       let r = few-roots 0 m count (omega arith) in
       let b = summed-more root_at (λ k. summed (λ h. produced_at h k) 0 m) 0 count in
-      let c = summed-most (λ k. root_at k + summed (λ h. produced_at h k) 0 m) computed_at (λ k. once-at m k (slice_get pipeline.funcs k) (slice_get schedule.funcs k) (slice_get schedule.standings k)) 0 count in
+      let c = summed-most (λ k. root_at k + summed (λ h. produced_at h k) 0 m) computed_at (λ k. once-at m k (slice_get pipeline.funcs k)
+      (slice_get schedule.funcs k) (slice_get schedule.standings k)) 0 count in
       omega (arith, a, x, r, b, c)

@@ -1,5 +1,6 @@
 -- Stores and nests ask for no more words of code than their share in the weight gives them.
-use Rattle.std.proofs.Common.{◌≡◌, ℕ, suc, ◌+◌, ◌*◌, ◌-◌, ◌≤◌, Bool, true, false, List, [], ◌∷◌, length, Option, Some, None, refl, sym, subst, arith, length-append}
+use Rattle.std.proofs.Common.{◌≡◌, ℕ, suc, ◌+◌, ◌*◌, ◌-◌, ◌≤◌, Bool, true, false, List, [], ◌∷◌, length, Option, Some, None, refl, sym, subst, arith}
+use Rattle.std.proofs.Common.{length-append}
 use Rattle.std.specs.Prelude.{cond, is_some, slice_get}
 use Rattle.halide_pipeline.specs.declared.definitions.Func.{Func}
 use Rattle.halide_pipeline.specs.declared.definitions.Update.{Update}
@@ -47,14 +48,17 @@ pure-size place x y value nodes ex ey given =
     let j = linear_size (e.Linear y) y refl in
     omega (arith, w, i, j, ex, ey, given)
 
-index-size : (flags : List Bool) (funcs : List Func) (place : ℕ) (index : Option Expr) (row y : loop.Expr) → IsGivenIndex flags funcs place index row → size y ≤ size row + 26
+index-size : (flags : List Bool) (funcs : List Func) (place : ℕ) (index : Option Expr) (row y : loop.Expr) → IsGivenIndex flags funcs place index row
+    → size y ≤ size row + 26
     → ((n : ℕ) → row ≡ e.Number n → (kept (size_of y) ≡ 0) × (size y ≤ 22)) → size y ≤ 64 * second_counted flags funcs place index + 22
 index-size flags funcs place None row y is more alone = let l = (alone 0 is).1 in omega (arith, l)
 index-size flags funcs place (Some own) row y is more alone = omega (arith, is, more)
 
 -- at the point that a left side names
-pub update-size : (flags : List Bool) (funcs : List Func) (place : ℕ) (update : Update) (store : Store) (column row : loop.Expr) → IsGiven (size column) (counted flags funcs place update.left_x)
-    → size store.x ≤ size column + 26 → IsGivenIndex flags funcs place update.left_y row → size store.y ≤ size row + 26 → ((n : ℕ) → row ≡ e.Number n → (kept (size_of store.y) ≡ 0) × (size store.y ≤ 22))
+pub update-size : (flags : List Bool) (funcs : List Func) (place : ℕ) (update : Update) (store : Store) (column row : loop.Expr)
+    → IsGiven (size column) (counted flags funcs place update.left_x)
+    → size store.x ≤ size column + 26 → IsGivenIndex flags funcs place update.left_y row → size store.y ≤ size row + 26 → ((n : ℕ) → row ≡ e.Number n
+    → (kept (size_of store.y) ≡ 0) × (size store.y ≤ 22))
     → IsGiven (size store.value) (counted flags funcs (place + 1) update.right) → whole_size (s.Store store) + 12 ≤ 64 * update_counted flags funcs place update
 update-size flags funcs place update store column row fx ex fy ey alone fv =
     let w = whole_store store in
@@ -66,12 +70,16 @@ update-size flags funcs place update store column row fx ex fy ey alone fv =
 module _ (pipeline : Pipeline) (rules : IsWellFormed pipeline) (flags : List Bool) where
   same : (count : ℕ) (has : Variable → Bool) (own : Expr) → count ≤ length pipeline.funcs → keeps (is_read pipeline.inputs pipeline.funcs count) has own ≡ true
       → counted flags pipeline.funcs count own ≡ nodes_in flags pipeline.funcs own
-  same count has own within kept-so = count-same counting (flagged flags) pipeline.inputs pipeline.funcs count (length pipeline.funcs) within has (λ v. 1) own kept-so
+  same count has own within kept-so = count-same counting (flagged flags) pipeline.inputs pipeline.funcs count (length pipeline.funcs) within has (λ v. 1) own
+      kept-so
 
-  pub pure-counted : (place : ℕ) (func : Func) → slice_get pipeline.funcs place ≡ Some func → counted flags pipeline.funcs place func.pure ≡ nodes_in flags pipeline.funcs func.pure
-  pure-counted place func is = let l = at-most pipeline.funcs place func is in same place (is_argument (dimensions func)) func.pure (omega (arith, l)) (rules.funcs place func is).pure
+  pub pure-counted : (place : ℕ) (func : Func) → slice_get pipeline.funcs place ≡ Some func → counted flags pipeline.funcs place func.pure
+      ≡ nodes_in flags pipeline.funcs func.pure
+  pure-counted place func is = let l = at-most pipeline.funcs place func is in same place (is_argument (dimensions func)) func.pure (omega (arith, l))
+      (rules.funcs place func is).pure
 
-  second-same : (place : ℕ) (has : Variable → Bool) (count : ℕ) (index : Option Expr) → place ≤ length pipeline.funcs → keeps_index (is_read pipeline.inputs pipeline.funcs place) has count index ≡ true
+  second-same : (place : ℕ) (has : Variable → Bool) (count : ℕ) (index : Option Expr) → place ≤ length pipeline.funcs
+      → keeps_index (is_read pipeline.inputs pipeline.funcs place) has count index ≡ true
       → second_counted flags pipeline.funcs place index ≡ second_nodes flags pipeline.funcs index
   second-same place has count None within kept-so = refl
   second-same place has count (Some own) within kept-so = same place has own within (and_parts _ _ kept-so).1
@@ -84,7 +92,8 @@ module _ (pipeline : Pipeline) (rules : IsWellFormed pipeline) (flags : List Boo
       let l = at-most pipeline.funcs place func is in
       let x = same place has update.left_x (omega (arith, l)) own.left_x in
       let y = second-same place has (dimensions func) update.left_y (omega (arith, l)) own.left_y in
-      let right : counted flags pipeline.funcs (suc place) update.right ≡ nodes_in flags pipeline.funcs update.right = same (suc place) has update.right (omega (arith, l)) own.right in
+      let right : counted flags pipeline.funcs (suc place) update.right ≡ nodes_in flags pipeline.funcs update.right = same (suc place) has update.right
+      (omega (arith, l)) own.right in
       let more : place + 1 ≡ suc place = omega arith in
       let r = subst (λ (n : ℕ). counted flags pipeline.funcs n update.right ≡ nodes_in flags pipeline.funcs update.right) (sym more) right in
       omega (arith, x, y, r)
@@ -104,7 +113,15 @@ record Grown (start loops : List Loop) (splits : List Split) : Type 0 where
 grown-stays : (is_update : Bool) (start : List Loop) → Stays is_update start (Grown start)
 grown-stays is_update start = record {
   begun = record { count = omega arith };
-  parted = λ before own after splits line is few. record { count = omega (arith, total_parts one before own after (length splits) line, length-append splits (split_by own line ∷ []), few.count) };
+  parted = λ before own after splits line is few. record {
+    count = omega (
+      arith,
+      total_parts one before own after (length splits) line,
+      length-append splits
+          (split_by own line ∷ []),
+      few.count,
+    );
+  };
   marked = λ loops new splits same-so few. record { count = omega (arith, bare_total one (λ own. refl) new loops same-so, few.count) };
   moved = λ loops new splits same-so order few. record { count = omega (arith, same-so one, few.count) };
 }
@@ -117,19 +134,23 @@ has-few : (id : LoopId) (loops : List Loop) → total (has_id id) loops ≤ tota
 has-few id [] = omega arith
 has-few id (own ∷ loops) = omega (arith, has-one (same_id own.id id), has-few id loops)
 
-first-there : (first : List ℕ) (second : Option (List ℕ)) → has_variable variables.FirstArgument (with_second (with_loop [] first variables.FirstArgument) second variables.SecondArgument) ≡ true
+first-there : (first : List ℕ) (second : Option (List ℕ)) → has_variable variables.FirstArgument (with_second (with_loop [] first variables.FirstArgument)
+    second variables.SecondArgument) ≡ true
 first-there first None = refl
 first-there first (Some name) = refl
 
 some-loop : (func : Func) (update : Option Update) → 1 ≤ total one (first_loops func update)
 some-loop func None =
-    let l : 1 ≤ total (has_id (ids.Whole variables.FirstArgument)) (first_loops func None) = there variables.FirstArgument (first_loops func None) (plain func None) (first-there func.first_argument func.second_argument) in
+    let l : 1 ≤ total (has_id (ids.Whole variables.FirstArgument)) (first_loops func None) = there variables.FirstArgument (first_loops func None)
+    (plain func None) (first-there func.first_argument func.second_argument) in
     omega (arith, l, has-few (ids.Whole variables.FirstArgument) (first_loops func None))
 some-loop func (Some update) =
-    let l : 1 ≤ total (has_id (ids.Whole variables.FirstReduction)) (first_loops func (Some update)) = there variables.FirstReduction (first_loops func (Some update)) (plain func (Some update)) (update_start func update).one in
+    let l : 1 ≤ total (has_id (ids.Whole variables.FirstReduction)) (first_loops func (Some update)) = there variables.FirstReduction
+    (first_loops func (Some update)) (plain func (Some update)) (update_start func update).one in
     omega (arith, l, has-few (ids.Whole variables.FirstReduction) (first_loops func (Some update)))
 
 pub more-loops : (func : Func) (update : Option Update) (stage : Stage) → IsStageOf func update stage → length stage.splits + 1 ≤ length stage.loops
 more-loops func update stage is =
-    let grown : Grown (first_loops func update) stage.loops stage.splits = by_making (Grown (first_loops func update)) (grown-stays (is_some update) (first_loops func update)) is.made in
+    let grown : Grown (first_loops func update) stage.loops stage.splits = by_making (Grown (first_loops func update)) (grown-stays (is_some update)
+    (first_loops func update)) is.made in
     omega (arith, grown.count, length-total stage.loops, some-loop func update)

@@ -25,12 +25,14 @@ record Next (test : Bool) (visit : Visit) (later : List Visit) (x y at left : �
 none_left : (visit : Visit) (rest : List Visit) → visit ∷ rest ≡ [] → ⊥
 none_left visit rest e = cc
 
-first_is : (visit : Visit) (rest : List Visit) (x y at left : ℕ) → visit ∷ rest ≡ record { x = x; y = y; number = at } ∷ rising x y (suc at) left → (visit.number ≡ at) × (rest ≡ rising x y (suc at) left)
+first_is : (visit : Visit) (rest : List Visit) (x y at left : ℕ) → visit ∷ rest ≡ record { x = x; y = y; number = at } ∷ rising x y (suc at) left
+    → (visit.number ≡ at) × (rest ≡ rising x y (suc at) left)
 first_is visit rest x y at left e =
     let one : visit ≡ record { x = x; y = y; number = at } = cc in
     (ap (λ (v : Visit). v.number) one, cc)
 
-next_by : (test : Bool) (visit : Visit) (rest : List Visit) (x y at left : ℕ) → cond test (visit ∷ rest) rest ≡ rising x y at left → Next test visit rest x y at left
+next_by : (test : Bool) (visit : Visit) (rest : List Visit) (x y at left : ℕ) → cond test (visit ∷ rest) rest ≡ rising x y at left
+    → Next test visit rest x y at left
 next_by false visit rest x y at left e = record { number = λ f. absurd cc; rest = e; sum = refl }
 next_by true visit rest x y at zero e = absurd (none_left visit rest e)
 next_by true visit rest x y at (suc left) e =
@@ -84,9 +86,11 @@ module _ (own : ℕ) (begin : Planes) (inside : ℕ → ℕ → Bool) (column ro
   module _ {A : Type 0} (visit_of : A → Visit) (step : A → Planes → Planes) where
     -- what is left of each slice comes in order
     abbrev pub Rise : (ℕ → ℕ → ℕ) → (ℕ → ℕ → ℕ) → List A → Type 0
-    Rise at left list = (x y : ℕ) → inside x y ≡ true → slice (column x) (row y) (map visit_of list) ≡ rising (column x) (row y) (at (column x) (row y)) (left (column x) (row y))
+    Rise at left list = (x y : ℕ) → inside x y ≡ true → slice (column x) (row y) (map visit_of list) ≡ rising (column x) (row y) (at (column x) (row y))
+        (left (column x) (row y))
 
-    module _ (a : A) (others : List A) (at left : ℕ → ℕ → ℕ) (funcs : Planes) (goes : Goes (visit_of a) (step a)) (rise : Rise at left (a ∷ others)) (ready : Others funcs) (stand : Stand at funcs) where
+    module _ (a : A) (others : List A) (at left : ℕ → ℕ → ℕ) (funcs : Planes) (goes : Goes (visit_of a) (step a)) (rise : Rise at left (a ∷ others))
+        (ready : Others funcs) (stand : Stand at funcs) where
       abbrev visit : Visit
       visit = visit_of a
 
@@ -96,8 +100,10 @@ module _ (own : ℕ) (begin : Planes) (inside : ℕ → ℕ → Bool) (column ro
       abbrev left_next : ℕ → ℕ → ℕ
       left_next x y = less (is_slice x y visit) (left x y)
 
-      next : (x y : ℕ) → inside x y ≡ true → Next (is_on visit x y) visit (slice (column x) (row y) (map visit_of others)) (column x) (row y) (at (column x) (row y)) (left (column x) (row y))
-      next x y e = next_by (is_on visit x y) visit (slice (column x) (row y) (map visit_of others)) (column x) (row y) (at (column x) (row y)) (left (column x) (row y)) (rise x y e)
+      next : (x y : ℕ) → inside x y ≡ true → Next (is_on visit x y) visit (slice (column x) (row y) (map visit_of others)) (column x) (row y)
+          (at (column x) (row y)) (left (column x) (row y))
+      next x y e = next_by (is_on visit x y) visit (slice (column x) (row y) (map visit_of others)) (column x) (row y) (at (column x) (row y))
+          (left (column x) (row y)) (rise x y e)
 
       holds : HoldsAt visit visit.number funcs
       holds x y e on = stand x y e ∙ ap (λ (n : ℕ). stands n x y) (sym ((next x y e).number on))
@@ -108,7 +114,8 @@ module _ (own : ℕ) (begin : Planes) (inside : ℕ → ℕ → Bool) (column ro
       ready_next : Others (step a funcs)
       ready_next place x y other = goes.keeps funcs ready holds place x y (λ e. absurd (other e)) ∙ ready place x y other
 
-      stand_by : (x y : ℕ) → inside x y ≡ true → (test : Bool) → is_on visit x y ≡ test → step a funcs own x y ≡ stands (further test visit (at (column x) (row y))) x y
+      stand_by : (x y : ℕ) → inside x y ≡ true → (test : Bool) → is_on visit x y ≡ test
+          → step a funcs own x y ≡ stands (further test visit (at (column x) (row y))) x y
       stand_by x y e true on = goes.does funcs ready holds x y e on
       stand_by x y e false off = goes.keeps funcs ready holds own x y (λ s. and_right (inside x y) (is_on visit x y) off) ∙ stand x y e
 
@@ -122,7 +129,8 @@ module _ (own : ℕ) (begin : Planes) (inside : ℕ → ℕ → Bool) (column ro
       }
 
     -- What each visit takes on, all visits take through, if those of each slice come in order.
-    pub slices_go : (list : List A) (at left : ℕ → ℕ → ℕ) (funcs : Planes) → AllByRecursion (λ a. Goes (visit_of a) (step a)) list → Rise at left list → Others funcs → Stand at funcs
+    pub slices_go : (list : List A) (at left : ℕ → ℕ → ℕ) (funcs : Planes) → AllByRecursion (λ a. Goes (visit_of a) (step a)) list → Rise at left list
+        → Others funcs → Stand at funcs
         → Gone at left funcs (all step list funcs)
     slices_go [] at left funcs goes rise ready stand = record {
       does = λ x y e.
@@ -133,8 +141,10 @@ module _ (own : ℕ) (begin : Planes) (inside : ℕ → ℕ → Bool) (column ro
     }
     slices_go (a ∷ others) at left funcs goes rise ready stand =
         gone_more a others at left funcs goes.0 rise ready stand (all step others (step a funcs))
-        (slices_go others (at_next a others at left funcs goes.0 rise ready stand) (left_next a others at left funcs goes.0 rise ready stand) (step a funcs) goes.1
-        (rise_next a others at left funcs goes.0 rise ready stand) (ready_next a others at left funcs goes.0 rise ready stand) (stand_next a others at left funcs goes.0 rise ready stand))
+        (slices_go others (at_next a others at left funcs goes.0 rise ready stand) (left_next a others at left funcs goes.0 rise ready stand) (step a funcs)
+        goes.1
+        (rise_next a others at left funcs goes.0 rise ready stand) (ready_next a others at left funcs goes.0 rise ready stand) (stand_next a others at left
+        funcs goes.0 rise ready stand))
 
     -- ---- beside a trace
 
@@ -145,13 +155,15 @@ module _ (own : ℕ) (begin : Planes) (inside : ℕ → ℕ → Bool) (column ro
           → ((traced a so_far).funcs ≡ step a so_far.funcs) × ((traced a so_far).is_stored ≡ (so_far.is_stored || hit a))
 
       -- So the point is stored at if one of the visits hits.
-      pub slices_mark : (list : List A) (at left : ℕ → ℕ → ℕ) (so_far : Trace) → AllByRecursion (λ a. Goes (visit_of a) (step a)) list → AllByRecursion Marks list → Rise at left list
+      pub slices_mark : (list : List A) (at left : ℕ → ℕ → ℕ) (so_far : Trace) → AllByRecursion (λ a. Goes (visit_of a) (step a)) list
+          → AllByRecursion Marks list → Rise at left list
           → Others so_far.funcs → Stand at so_far.funcs → (all traced list so_far).is_stored ≡ (so_far.is_stored || list_any hit list)
       slices_mark [] at left so_far goes marks rise ready stand = or_none so_far.is_stored
       slices_mark (a ∷ others) at left so_far goes marks rise ready stand =
           let funcs = so_far.funcs in
           let made = marks.0 so_far ready (holds a others at left funcs goes.0 rise ready stand) in
-          slices_mark others (at_next a others at left funcs goes.0 rise ready stand) (left_next a others at left funcs goes.0 rise ready stand) (traced a so_far) goes.1 marks.1
+          slices_mark others (at_next a others at left funcs goes.0 rise ready stand) (left_next a others at left funcs goes.0 rise ready stand)
+          (traced a so_far) goes.1 marks.1
           (rise_next a others at left funcs goes.0 rise ready stand)
           (subst Others (sym made.0) (ready_next a others at left funcs goes.0 rise ready stand))
           (subst (Stand (at_next a others at left funcs goes.0 rise ready stand)) (sym made.0) (stand_next a others at left funcs goes.0 rise ready stand))

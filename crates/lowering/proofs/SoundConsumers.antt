@@ -82,16 +82,19 @@ unfolding every
 every_passes zero test all = refl
 every_passes (suc n) test all = and_from (every n test) (test n) (every_passes n test (λ k l. all k (omega (arith, l)))) (all n (omega arith))
 
-module _ (pipeline : Pipeline) (schedule : Schedule) (boxes : Boxes) (rules : IsWellFormed pipeline) (accepted : IsAccepted pipeline schedule) (is : inferred pipeline schedule ≡ Ok boxes)
+module _ (pipeline : Pipeline) (schedule : Schedule) (boxes : Boxes) (rules : IsWellFormed pipeline) (accepted : IsAccepted pipeline schedule)
+    (is : inferred pipeline schedule ≡ Ok boxes)
     (consumer : ℕ) (func : Func) (plan : FuncPlan) (own : SourceBox) (at : IsAtRoot pipeline schedule boxes consumer func plan own)
     (store : Stmt) (store_of : IsStoreOf pipeline schedule boxes places.Root consumer func own store)
     (reads : Reads) (words : AnswerWords pipeline.inputs reads) (written : Points) (loaded : Point → Bool)
     (inputs_load : (k x y : ℕ) → is_within (slice_get pipeline.inputs k) x y ≡ true → loaded (record { source = sources.Input k; x = x; y = y }) ≡ true)
     (roots_load : (k : ℕ) (standing : Standing) → k < consumer → IsReached schedule.standings k standing → standing.place ≡ places.Root
     → (x y : ℕ) → box_points boxes.funcs k x y ≡ true → loaded (record { source = sources.Func k; x = x; y = y }) ≡ true)
-    (produced_writes : (k : ℕ) (standing : Standing) (loop : LoopPlace) → IsReached schedule.standings k standing → standing.place ≡ places.At loop → loop.func ≡ consumer
+    (produced_writes : (k : ℕ) (standing : Standing) (loop : LoopPlace) → IsReached schedule.standings k standing → standing.place ≡ places.At loop
+    → loop.func ≡ consumer
     → (x y : ℕ) → box_points boxes.funcs k x y ≡ true → written k x y ≡ true)
-    (produced_loads : (k : ℕ) (standing : Standing) (loop : LoopPlace) → IsReached schedule.standings k standing → standing.place ≡ places.At loop → loop.func ≡ consumer
+    (produced_loads : (k : ℕ) (standing : Standing) (loop : LoopPlace) → IsReached schedule.standings k standing → standing.place ≡ places.At loop
+    → loop.func ≡ consumer
     → (x y : ℕ) → box_points boxes.funcs k x y ≡ true → loaded (record { source = sources.Func k; x = x; y = y }) ≡ true) where
   abbrev extents : Extents
   extents = extents_of own
@@ -113,11 +116,13 @@ module _ (pipeline : Pipeline) (schedule : Schedule) (boxes : Boxes) (rules : Is
 
   -- a visit that may be written
   abbrev pub Good : loops.Values → Type 0
-  Good inner = IsVisitOf func None extents (visit_of extents inner) × (written consumer (inner (ids.Whole variables.FirstArgument)) (inner (ids.Whole variables.SecondArgument)) ≡ true)
+  Good inner = IsVisitOf func None extents (visit_of extents inner) × (written consumer (inner (ids.Whole variables.FirstArgument))
+      (inner (ids.Whole variables.SecondArgument)) ≡ true)
 
   -- ---- nests at a loop
 
-  module _ (inside : List Loop) (mid : Loop) (outside : List Loop) (loops_are : loops_in ≡ inside ++ mid ∷ outside) (turned : loops.Values) (are : AreTurns counts (mid ∷ outside) turned) where
+  module _ (inside : List Loop) (mid : Loop) (outside : List Loop) (loops_are : loops_in ≡ inside ++ mid ∷ outside) (turned : loops.Values)
+      (are : AreTurns counts (mid ∷ outside) turned) where
     abbrev loop_here : LoopPlace
     loop_here = record { func = consumer; inside = mid.id }
 
@@ -127,12 +132,15 @@ module _ (pipeline : Pipeline) (schedule : Schedule) (boxes : Boxes) (rules : Is
     values_are : values ≡ values_in plan mid.id turned
     values_are = consumers.turns_are pipeline schedule boxes rules accepted is consumer func plan own at dark begun inside mid outside loops_are turned are
 
-    module _ (g : ℕ) (nested : Func) (nested_plan : FuncPlan) (box : SourceBox) (parts : IsComputedAt pipeline schedule boxes (places.At loop_here) g nested nested_plan box) where
+    module _ (g : ℕ) (nested : Func) (nested_plan : FuncPlan) (box : SourceBox) (parts : IsComputedAt pipeline schedule boxes (places.At loop_here) g nested
+        nested_plan box) where
       below : Below (values_in plan mid.id turned) box.lasts
-      below = consumers.below pipeline schedule boxes rules accepted is consumer func plan own at dark begun inside mid outside loops_are turned are g nested nested_plan box parts
+      below = consumers.below pipeline schedule boxes rules accepted is consumer func plan own at dark begun inside mid outside loops_are turned are g nested
+          nested_plan box parts
 
       before : g < consumer
-      before = consumers.g_before pipeline schedule boxes rules accepted is consumer func plan own at dark begun inside mid outside loops_are turned are g nested nested_plan box parts
+      before = consumers.g_before pipeline schedule boxes rules accepted is consumer func plan own at dark begun inside mid outside loops_are turned are g
+          nested nested_plan box parts
 
       points_are : (x y : ℕ) → box_points boxes.funcs g x y ≡ has_point (Some box) x y
       points_are x y = ap (λ (o : Option (Option SourceBox)). has_point (box_in o) x y) parts.box_is
@@ -144,33 +152,48 @@ module _ (pipeline : Pipeline) (schedule : Schedule) (boxes : Boxes) (rules : Is
         pure = λ corners are_corners counters counters_are x y lies.
             let lies_here : LiesIn (values_in plan mid.id turned) box x y = subst (λ (l : List ℕ). LiesIn l box x y) values_are lies in
             pure_loads pipeline schedule boxes rules accepted is (places.At loop_here) g nested nested_plan box before parts consumer func plan own at turned
-            (consumers.of_consumer pipeline schedule boxes rules accepted is consumer func plan own at dark begun inside mid outside loops_are turned are g nested nested_plan box parts)
+            (consumers.of_consumer pipeline schedule boxes rules accepted is consumer func plan own at dark begun inside mid outside loops_are turned are g
+            nested nested_plan box parts)
             counters (λ id. ap (values_in plan id) counters_are) corners are_corners reads words loaded inputs_load
             (λ k standing earlier there root. roots_load k standing (omega (arith, earlier, before)) there root)
             (λ k w loop placed. produced_loads k w.own loop w.there placed
-            (consumers.of_consumer pipeline schedule boxes rules accepted is consumer func plan own at dark begun inside mid outside loops_are turned are g nested nested_plan box parts k w loop placed))
+            (consumers.of_consumer pipeline schedule boxes rules accepted is consumer func plan own at dark begun inside mid outside loops_are turned are g
+            nested nested_plan box parts k w loop placed))
             (values_in plan mid.id turned) below x y lies_here
-            (λ k w loop placed. (consumers.turns_here pipeline schedule boxes rules accepted is consumer func plan own at dark begun inside mid outside loops_are turned are, lies_here));
+            (λ k w loop placed. (
+              consumers.turns_here pipeline schedule boxes rules accepted is consumer func plan own at dark begun inside mid outside
+                  loops_are turned are,
+              lies_here,
+            ));
         updates = λ corners are_corners counters counters_are number_at update update_is number x y few_points lies.
             let lies_here : LiesIn (values_in plan mid.id turned) box x y = subst (λ (l : List ℕ). LiesIn l box x y) values_are lies in
             update_loads pipeline schedule boxes rules accepted is (places.At loop_here) g nested nested_plan box before parts consumer func plan own at turned
-            (consumers.of_consumer pipeline schedule boxes rules accepted is consumer func plan own at dark begun inside mid outside loops_are turned are g nested nested_plan box parts)
+            (consumers.of_consumer pipeline schedule boxes rules accepted is consumer func plan own at dark begun inside mid outside loops_are turned are g
+            nested nested_plan box parts)
             counters (λ id. ap (values_in plan id) counters_are) corners are_corners reads words loaded inputs_load
             (λ k standing earlier there root. roots_load k standing (omega (arith, earlier, before)) there root)
             (λ k w loop placed. produced_loads k w.own loop w.there placed
-            (consumers.of_consumer pipeline schedule boxes rules accepted is consumer func plan own at dark begun inside mid outside loops_are turned are g nested nested_plan box parts k w loop placed))
+            (consumers.of_consumer pipeline schedule boxes rules accepted is consumer func plan own at dark begun inside mid outside loops_are turned are g
+            nested nested_plan box parts k w loop placed))
             (values_in plan mid.id turned) below x y lies_here
-            (λ k w loop placed. (consumers.turns_here pipeline schedule boxes rules accepted is consumer func plan own at dark begun inside mid outside loops_are turned are, lies_here))
+            (λ k w loop placed. (
+              consumers.turns_here pipeline schedule boxes rules accepted is consumer func plan own at dark begun inside mid outside
+                  loops_are turned are,
+              lies_here,
+            ))
             number_at update update_is number few_points;
       }
 
-      sound_one : (made : Stmt) → IsSoundNest pipeline schedule boxes loop_here g nested box made → is_sound reads written loaded made (consuming consumer turned) ≡ true
+      sound_one : (made : Stmt) → IsSoundNest pipeline schedule boxes loop_here g nested box made
+          → is_sound reads written loaded made (consuming consumer turned) ≡ true
       sound_one made sound = sound reads words written loaded turned (subst (λ (l : List ℕ). Below l box.lasts) (sym values_are) below) may
 
-    pub sound_nests : (from : ℕ) (inner body : Stmt) → HasNests pipeline schedule boxes loop_here from inner body → is_sound reads written loaded inner (consuming consumer turned) ≡ true
+    pub sound_nests : (from : ℕ) (inner body : Stmt) → HasNests pipeline schedule boxes loop_here from inner body
+        → is_sound reads written loaded inner (consuming consumer turned) ≡ true
         → is_sound reads written loaded body (consuming consumer turned) ≡ true
     sound_nests from inner _ (None_left _ _ all_seen) sound = sound
-    sound_nests from inner body (One_more _ None _ rest _ none more does) sound = does.sound reads written loaded (consuming consumer turned) ∙ sound_nests (suc from) inner rest more sound
+    sound_nests from inner body (One_more _ None _ rest _ none more does) sound = does.sound reads written loaded (consuming consumer turned)
+        ∙ sound_nests (suc from) inner rest more sound
     sound_nests from inner body (One_more _ (Some first) _ rest _ nest_of more does) sound =
         does.sound reads written loaded (consuming consumer turned)
         ∙ and_from (is_sound reads written loaded first (consuming consumer turned)) (is_sound reads written loaded rest (consuming consumer turned))
@@ -191,23 +214,33 @@ module _ (pipeline : Pipeline) (schedule : Schedule) (boxes : Boxes) (rules : Is
     one_sound : (inner : loops.Values) → Contains (wholes extents plan.pure.splits [] turned) inner → IsSoundAt inner
     one_sound inner listed =
         let g = of_all Good (wholes extents plan.pure.splits [] turned) good inner listed in
-        writing.sound pipeline schedule boxes rules accepted is places.Root consumer func plan own tt at store store_of dark no_loops no_turns_below (consuming consumer turned) (λ i. refl) inner g.0 reads written loaded g.1
+        writing.sound pipeline schedule boxes rules accepted is places.Root consumer func plan own tt at store store_of dark no_loops no_turns_below
+        (consuming consumer turned) (λ i. refl) inner g.0 reads written loaded g.1
         (pure_loads pipeline schedule boxes rules accepted is places.Root consumer func plan own tt at consumer func plan own at turned
         (consumers.of_root pipeline schedule boxes rules accepted is consumer func plan own at dark begun store store_of turned are visited)
-        (put_loops consumer inner (consuming consumer turned)) (λ id. ap (values_in plan id) (loops_put consumer inner (consuming consumer turned)) ∙ turns_kept func plan.pure stage_is extents turned inner listed (inner_count id loops_in))
+        (put_loops consumer inner (consuming consumer turned)) (λ id. ap (values_in plan id) (loops_put consumer inner (consuming consumer turned))
+        ∙ turns_kept func plan.pure stage_is extents turned inner listed (inner_count id loops_in))
         store_of.corners store_of.are_corners reads words loaded inputs_load roots_load
-        (λ k w loop placed. produced_loads k w.own loop w.there placed (consumers.of_root pipeline schedule boxes rules accepted is consumer func plan own at dark begun store store_of turned are visited k w loop placed))
+        (λ k w loop placed. produced_loads k w.own loop w.there placed (consumers.of_root pipeline schedule boxes rules accepted is consumer func plan own at
+        dark begun store store_of turned are visited k w loop placed))
         no_loops no_turns_below
-        (writing.across pipeline schedule boxes rules accepted is places.Root consumer func plan own tt at store store_of dark no_loops no_turns_below (consuming consumer turned) (λ i. refl) inner)
-        (writing.down pipeline schedule boxes rules accepted is places.Root consumer func plan own tt at store store_of dark no_loops no_turns_below (consuming consumer turned) (λ i. refl) inner)
-        (writing.lies pipeline schedule boxes rules accepted is places.Root consumer func plan own tt at store store_of dark no_loops no_turns_below (consuming consumer turned) (λ i. refl) inner g.0)
-        (λ k w loop placed. consumers.reached pipeline schedule boxes rules accepted is consumer func plan own at dark begun store store_of turned are visited inner listed loop.inside))
+        (writing.across pipeline schedule boxes rules accepted is places.Root consumer func plan own tt at store store_of dark no_loops no_turns_below
+        (consuming consumer turned) (λ i. refl) inner)
+        (writing.down pipeline schedule boxes rules accepted is places.Root consumer func plan own tt at store store_of dark no_loops no_turns_below
+        (consuming consumer turned) (λ i. refl) inner)
+        (writing.lies pipeline schedule boxes rules accepted is places.Root consumer func plan own tt at store store_of dark no_loops no_turns_below
+        (consuming consumer turned) (λ i. refl) inner g.0)
+        (λ k w loop placed. consumers.reached pipeline schedule boxes rules accepted is consumer func plan own at dark begun store store_of turned are visited
+        inner listed loop.inside))
 
-    sound_leaf : (leaf : Stmt) → Repeats consumer leaf store (wholes extents plan.pure.splits []) → AreSmall turned → is_sound reads written loaded leaf (consuming consumer turned) ≡ true
+    sound_leaf : (leaf : Stmt) → Repeats consumer leaf store (wholes extents plan.pure.splits []) → AreSmall turned
+        → is_sound reads written loaded leaf (consuming consumer turned) ≡ true
     sound_leaf leaf bound small =
         bound.sound reads written loaded (consuming consumer turned) (subst AreSmall (sym (loops_consuming consumer turned)) small)
-        ∙ ap (λ (t : loops.Values). list_all (λ inner. is_sound reads written loaded store (put_loops consumer inner (consuming consumer turned))) (wholes extents plan.pure.splits [] t)) (loops_consuming consumer turned)
-        ∙ all_pass (λ inner. is_sound reads written loaded store (put_loops consumer inner (consuming consumer turned))) (wholes extents plan.pure.splits [] turned)
+        ∙ ap (λ (t : loops.Values). list_all (λ inner. is_sound reads written loaded store (put_loops consumer inner (consuming consumer turned)))
+        (wholes extents plan.pure.splits [] t)) (loops_consuming consumer turned)
+        ∙ all_pass (λ inner. is_sound reads written loaded store (put_loops consumer inner (consuming consumer turned))) (wholes extents plan.pure.splits []
+        turned)
         (all_contained IsSoundAt (wholes extents plan.pure.splits [] turned) one_sound)
 
   -- ---- loops
@@ -216,7 +249,8 @@ module _ (pipeline : Pipeline) (schedule : Schedule) (boxes : Boxes) (rules : Is
   AreSound inside made = (outside : List Loop) → loops_in ≡ inside ++ outside → (turned : loops.Values) → AreSmall turned → AreTurns counts outside turned
       → AllByRecursion Good (wholes extents plan.pure.splits inside turned) → is_sound reads written loaded made (consuming consumer turned) ≡ true
 
-  module _ (inside : List Loop) (mid : Loop) (outside : List Loop) (loops_are : loops_in ≡ inside ++ mid ∷ outside) (turned : loops.Values) (small : AreSmall turned) (are : AreTurns counts outside turned) (n : ℕ) (few_so : n < counts mid.id) where
+  module _ (inside : List Loop) (mid : Loop) (outside : List Loop) (loops_are : loops_in ≡ inside ++ mid ∷ outside) (turned : loops.Values)
+      (small : AreSmall turned) (are : AreTurns counts outside turned) (n : ℕ) (few_so : n < counts mid.id) where
     mid_turns : AreTurns counts (mid ∷ outside) (loops.with mid.id n turned)
     mid_turns = (
       subst (λ (m : ℕ). m < counts mid.id) (sym (with_same mid.id n turned)) few_so,
@@ -224,19 +258,28 @@ module _ (pipeline : Pipeline) (schedule : Schedule) (boxes : Boxes) (rules : Is
     )
 
     small_at : AreSmall (loops.with mid.id n turned)
-    small_at = small_with mid.id n turned (omega (arith, few_so, few_turns extents plan.pure.splits (few pipeline schedule boxes consumer func plan own accepted is places.Root tt at) (splits pipeline schedule boxes consumer func plan own accepted is places.Root tt at) mid.id)) small
+    small_at = small_with mid.id n turned (omega (
+      arith,
+      few_so,
+      few_turns extents plan.pure.splits (few pipeline schedule boxes consumer func plan own accepted
+          is places.Root tt at) (splits pipeline schedule boxes consumer func plan own accepted is places.Root tt at) mid.id,
+    )) small
 
-  pub sound_loops : (leaf : Stmt) (bound : Repeats consumer leaf store (wholes extents plan.pure.splits [])) (inside : List Loop) (made : Stmt) → HasLoops pipeline schedule boxes consumer counts leaf inside made → AreSound inside made
+  pub sound_loops : (leaf : Stmt) (bound : Repeats consumer leaf store (wholes extents plan.pure.splits [])) (inside : List Loop) (made : Stmt)
+      → HasLoops pipeline schedule boxes consumer counts leaf inside made → AreSound inside made
   sound_loops leaf bound _ _ No_loops outside loops_are turned small are good =
       sound_leaf turned (subst (λ (l : List Loop). AreTurns counts l turned) (sym loops_are) are) good leaf bound small
   sound_loops leaf bound _ made (One_outside inside mid inner body _ within nested does around run_around) outside loops_are turned small are good =
       let further : loops_in ≡ inside ++ mid ∷ outside = loops_are ∙ append_assoc inside (mid ∷ []) outside in
       let list_is = nest-append counts inside (mid ∷ []) (over_loops extents plan.pure.splits (λ (whole : loops.Values). whole ∷ [])) turned in
-      let seen : AllByRecursion Good (upto (counts mid.id) (λ turn. wholes extents plan.pure.splits inside (loops.with mid.id turn turned))) = subst (λ (l : List loops.Values). AllByRecursion Good l) list_is good in
+      let seen : AllByRecursion Good (upto (counts mid.id) (λ turn. wholes extents plan.pure.splits inside (loops.with mid.id turn turned))) =
+      subst (λ (l : List loops.Values). AllByRecursion Good l) list_is good in
       does.sound reads written loaded (consuming consumer turned)
-      ∙ every_passes (counts mid.id) (λ turn. is_sound reads written loaded body (with (record { func = consumer; id = mid.id }) turn (consuming consumer turned)))
+      ∙ every_passes (counts mid.id) (λ turn. is_sound reads written loaded body (with (record { func = consumer; id = mid.id }) turn
+      (consuming consumer turned)))
       (λ n l.
       ap (is_sound reads written loaded body) (consuming_with consumer mid.id n turned)
       ∙ sound_nests inside mid outside further (loops.with mid.id n turned) (mid_turns inside mid outside further turned small are n l) 0 inner body nested
-      (sound_loops leaf bound inside inner within (mid ∷ outside) further (loops.with mid.id n turned) (small_at inside mid outside further turned small are n l) (mid_turns inside mid outside further turned small are n l)
+      (sound_loops leaf bound inside inner within (mid ∷ outside) further (loops.with mid.id n turned) (small_at inside mid outside further turned small are n
+      l) (mid_turns inside mid outside further turned small are n l)
       (all_upto Good (λ turn. wholes extents plan.pure.splits inside (loops.with mid.id turn turned)) (counts mid.id) seen n l)))

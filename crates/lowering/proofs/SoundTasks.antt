@@ -1,5 +1,6 @@
 -- What each task of a pure definition touches.
-use Rattle.std.proofs.Common.{◌≡◌, ℕ, zero, suc, ◌+◌, ◌<◌, Bool, true, false, cond, List, [], ◌∷◌, map, Option, Some, None, refl, sym, ap, subst, ◌∙◌, arith, append-nil}
+use Rattle.std.proofs.Common.{◌≡◌, ℕ, zero, suc, ◌+◌, ◌<◌, Bool, true, false, cond, List, [], ◌∷◌, map, Option, Some, None, refl, sym, ap, subst, ◌∙◌, arith}
+use Rattle.std.proofs.Common.{append-nil}
 use Rattle.std.specs.Prelude.{◌==◌, ◌&&◌, ◌||◌, slice_get, Ok}
 use Rattle.std.specs.List.{AllByRecursion, list_any}
 use Rattle.std.proofs.lemmas.Bool.{and_from, eq-eqb, ne_eqb}
@@ -57,15 +58,18 @@ use Rattle.lowering.proofs.UpdateRuns.{members, all_and, all_so}
 -- ---- which Funcs may be touched
 
 -- a Func at a loop of the consumer is among its private ones
-pub listed_from : (consumer at : ℕ) (standings : List Standing) (k : ℕ) (own : Standing) → slice_get standings k ≡ Some own → is_produced consumer own ≡ true → is_listed (produced_from consumer at standings) (at + k) ≡ true
+pub listed_from : (consumer at : ℕ) (standings : List Standing) (k : ℕ) (own : Standing) → slice_get standings k ≡ Some own → is_produced consumer own ≡ true
+    → is_listed (produced_from consumer at standings) (at + k) ≡ true
 listed_from consumer at [] k own there produced = absurd cc
 listed_from consumer at (first ∷ others) zero own there produced =
     let same : first ≡ own = cc in
-    ap (λ (b : Bool). is_listed (cond b (at ∷ produced_from consumer (suc at) others) (produced_from consumer (suc at) others)) (at + 0)) (ap (is_produced consumer) same ∙ produced)
+    ap (λ (b : Bool). is_listed (cond b (at ∷ produced_from consumer (suc at) others) (produced_from consumer (suc at) others)) (at + 0))
+    (ap (is_produced consumer) same ∙ produced)
     ∙ or_left (at == at + 0) (is_listed (produced_from consumer (suc at) others) (at + 0)) (eq-eqb at (at + 0) (omega arith))
 listed_from consumer at (first ∷ others) (suc k) own there produced =
     let next : suc at + k ≡ at + suc k = omega arith in
-    by_test (is_produced consumer first) (subst (λ (n : ℕ). is_listed (produced_from consumer (suc at) others) n ≡ true) next (listed_from consumer (suc at) others k own there produced))
+    by_test (is_produced consumer first) (subst (λ (n : ℕ). is_listed (produced_from consumer (suc at) others) n ≡ true) next (listed_from consumer (suc at)
+    others k own there produced))
   where
     by_test : (b : Bool) → is_listed (produced_from consumer (suc at) others) (at + suc k) ≡ true
         → is_listed (cond b (at ∷ produced_from consumer (suc at) others) (produced_from consumer (suc at) others)) (at + suc k) ≡ true
@@ -76,18 +80,29 @@ module _ (pipeline : Pipeline) (schedule : Schedule) (boxes : Boxes) (place : �
   pub own_writes : (x y : ℕ) → owned x y ≡ true → may_write boxes.funcs place owned private place x y ≡ true
   own_writes x y e = ap (λ (b : Bool). cond b (owned x y) (is_listed private place && box_points boxes.funcs place x y)) (eq-eqb place place refl) ∙ e
 
-  pub own_loads : (x y : ℕ) → owned x y ≡ true → may_load pipeline schedule boxes place owned private (record { source = sources.Func place; x = x; y = y }) ≡ true
-  own_loads x y e = ap (λ (b : Bool). cond b (owned x y) ((is_root_at schedule.standings place || is_listed private place) && box_points boxes.funcs place x y)) (eq-eqb place place refl) ∙ e
+  pub own_loads : (x y : ℕ) → owned x y ≡ true → may_load pipeline schedule boxes place owned private (record { source = sources.Func place; x = x; y = y })
+      ≡ true
+  own_loads x y e = ap (λ (b : Bool). cond b (owned x y) ((is_root_at schedule.standings place || is_listed private place) && box_points boxes.funcs place x y))
+      (eq-eqb place place refl) ∙ e
 
   pub roots_load : (k : ℕ) (standing : Standing) → k < place → IsReached schedule.standings k standing → standing.place ≡ places.Root
-      → (x y : ℕ) → box_points boxes.funcs k x y ≡ true → may_load pipeline schedule boxes place owned private (record { source = sources.Func k; x = x; y = y }) ≡ true
+      → (x y : ℕ) → box_points boxes.funcs k x y ≡ true → may_load pipeline schedule boxes place owned private (record {
+        source = sources.Func k;
+        x = x;
+        y =
+            y;
+      }) ≡ true
   roots_load k standing before there root x y e =
-      ap (λ (b : Bool). cond b (owned x y) ((is_root_at schedule.standings k || is_listed private k) && box_points boxes.funcs k x y)) (ne_eqb k place (λ (same : k ≡ place). omega (arith, before, same)))
+      ap (λ (b : Bool). cond b (owned x y) ((is_root_at schedule.standings k || is_listed private k) && box_points boxes.funcs k x y))
+      (ne_eqb k place (λ (same : k ≡ place). omega (arith, before, same)))
       ∙ and_from (is_root_at schedule.standings k || is_listed private k) (box_points boxes.funcs k x y)
-      (or_left (is_root_at schedule.standings k) (is_listed private k) (ap is_root_in there.standing ∙ and_from standing.is_reached (is_root standing.place) there.reached (ap is_root root))) e
+      (or_left (is_root_at schedule.standings k) (is_listed private k) (ap is_root_in there.standing
+      ∙ and_from standing.is_reached (is_root standing.place) there.reached (ap is_root root))) e
 
-  module _ (private_is : private ≡ produced_from place 0 schedule.standings) (accepted : IsAccepted pipeline schedule) (k : ℕ) (standing : Standing) (loop : LoopPlace)
-      (there : IsReached schedule.standings k standing) (placed : standing.place ≡ places.At loop) (same : loop.func ≡ place) (x y : ℕ) (inside : box_points boxes.funcs k x y ≡ true) where
+  module _ (private_is : private ≡ produced_from place 0 schedule.standings) (accepted : IsAccepted pipeline schedule) (k : ℕ) (standing : Standing)
+      (loop : LoopPlace)
+      (there : IsReached schedule.standings k standing) (placed : standing.place ≡ places.At loop) (same : loop.func ≡ place) (x y : ℕ)
+      (inside : box_points boxes.funcs k x y ≡ true) where
     is_private : is_listed private k ≡ true
     is_private =
         let here : 0 + k ≡ k = omega arith in
@@ -100,16 +115,19 @@ module _ (pipeline : Pipeline) (schedule : Schedule) (boxes : Boxes) (place : �
     other = ne_eqb k place (λ (e : k ≡ place). omega (arith, e, same, produced_before pipeline schedule accepted k standing there loop placed))
 
     pub produced_writes : may_write boxes.funcs place owned private k x y ≡ true
-    produced_writes = ap (λ (b : Bool). cond b (owned x y) (is_listed private k && box_points boxes.funcs k x y)) other ∙ and_from (is_listed private k) (box_points boxes.funcs k x y) is_private inside
+    produced_writes = ap (λ (b : Bool). cond b (owned x y) (is_listed private k && box_points boxes.funcs k x y)) other
+        ∙ and_from (is_listed private k) (box_points boxes.funcs k x y) is_private inside
 
     pub produced_loads : may_load pipeline schedule boxes place owned private (record { source = sources.Func k; x = x; y = y }) ≡ true
     produced_loads =
         ap (λ (b : Bool). cond b (owned x y) ((is_root_at schedule.standings k || is_listed private k) && box_points boxes.funcs k x y)) other
-        ∙ and_from (is_root_at schedule.standings k || is_listed private k) (box_points boxes.funcs k x y) (or_right (is_root_at schedule.standings k) (is_listed private k) is_private) inside
+        ∙ and_from (is_root_at schedule.standings k || is_listed private k) (box_points boxes.funcs k x y) (or_right (is_root_at schedule.standings k)
+        (is_listed private k) is_private) inside
 
 -- ---- a task
 
-module _ (pipeline : Pipeline) (schedule : Schedule) (boxes : Boxes) (rules : IsWellFormed pipeline) (accepted : IsAccepted pipeline schedule) (is : inferred pipeline schedule ≡ Ok boxes)
+module _ (pipeline : Pipeline) (schedule : Schedule) (boxes : Boxes) (rules : IsWellFormed pipeline) (accepted : IsAccepted pipeline schedule)
+    (is : inferred pipeline schedule ≡ Ok boxes)
     (place : ℕ) (func : Func) (plan : FuncPlan) (own : SourceBox) (at : IsAtRoot pipeline schedule boxes place func plan own)
     (store : Stmt) (store_of : IsStoreOf pipeline schedule boxes places.Root place func own store)
     (phase : Phase) (tasks_are : phase.tasks ≡ iteration_count (extents_of own) plan.pure) (counter_is : phase.counter ≡ counter_of place (parallel plan.pure))
@@ -152,7 +170,8 @@ module _ (pipeline : Pipeline) (schedule : Schedule) (boxes : Boxes) (rules : Is
     visited : AllByRecursion IsVisited list
     visited =
         all_map (IsVisitOf func None extents) IsVisited (visit_of extents) (λ inner v. v) list
-        (subst (λ (l : List Visit). AllByRecursion (IsVisitOf func None extents) l) visits_are (all_visits func extents stage facts.0 facts.1 place number below_count))
+        (subst (λ (l : List Visit). AllByRecursion (IsVisitOf func None extents) l) visits_are (all_visits func extents stage facts.0 facts.1 place number
+        below_count))
 
     abbrev x_of : loops.Values → ℕ
     x_of inner = inner (ids.Whole variables.FirstArgument)
@@ -180,22 +199,28 @@ module _ (pipeline : Pipeline) (schedule : Schedule) (boxes : Boxes) (rules : Is
     AreSound =
         consumers.AreSound pipeline schedule boxes rules accepted is place func plan own at store store_of reads words written loaded
         (λ k x y e. e) (roots_load pipeline schedule boxes place owned phase.private)
-        (λ k standing loop there placed same x y e. produced_writes pipeline schedule boxes place owned phase.private private_is accepted k standing loop there placed same x y e)
-        (λ k standing loop there placed same x y e. produced_loads pipeline schedule boxes place owned phase.private private_is accepted k standing loop there placed same x y e)
+        (λ k standing loop there placed same x y e. produced_writes pipeline schedule boxes place owned phase.private private_is accepted k standing loop there
+        placed same x y e)
+        (λ k standing loop there placed same x y e. produced_loads pipeline schedule boxes place owned phase.private private_is accepted k standing loop there
+        placed same x y e)
 
     inner_sound : AreSound (inside_of (parallel stage) stage.loops) body.inner
     inner_sound =
         consumers.sound_loops pipeline schedule boxes rules accepted is place func plan own at store store_of reads words written loaded
         (λ k x y e. e) (roots_load pipeline schedule boxes place owned phase.private)
-        (λ k standing loop there placed same x y e. produced_writes pipeline schedule boxes place owned phase.private private_is accepted k standing loop there placed same x y e)
-        (λ k standing loop there placed same x y e. produced_loads pipeline schedule boxes place owned phase.private private_is accepted k standing loop there placed same x y e)
+        (λ k standing loop there placed same x y e. produced_writes pipeline schedule boxes place owned phase.private private_is accepted k standing loop there
+        placed same x y e)
+        (λ k standing loop there placed same x y e. produced_loads pipeline schedule boxes place owned phase.private private_is accepted k standing loop there
+        placed same x y e)
         body.leaf body.bound (inside_of (parallel stage) stage.loops) body.inner body.looped
 
     small : (found : Option Loop) → number < count_of (counts extents stage.splits) found → AreSmall (turned found)
     small found l =
-        small_by func extents stage facts.0 facts.1 place (few pipeline schedule boxes place func plan own accepted is places.Root tt at) (splits pipeline schedule boxes place func plan own accepted is places.Root tt at) found number l
+        small_by func extents stage facts.0 facts.1 place (few pipeline schedule boxes place func plan own accepted is places.Root tt at)
+        (splits pipeline schedule boxes place func plan own accepted is places.Root tt at) found number l
 
-    sound_by : (found : Option Loop) → parallel stage ≡ found → number < count_of (counts extents stage.splits) found → (inner made : Stmt) → HasOutermost pipeline schedule boxes place found inner made
+    sound_by : (found : Option Loop) → parallel stage ≡ found → number < count_of (counts extents stage.splits) found → (inner made : Stmt)
+        → HasOutermost pipeline schedule boxes place found inner made
         → AreSound (inside_of found stage.loops) inner → AllByRecursion Good (wholes extents stage.splits (inside_of found stage.loops) (turned found))
         → is_sound reads written loaded made (consuming place (turned found)) ≡ true
     sound_by None e l inner made same sound good =
@@ -205,13 +230,20 @@ module _ (pipeline : Pipeline) (schedule : Schedule) (boxes : Boxes) (rules : Is
         let inside = o.last.inside in
         let same : inside_of (Some loop) stage.loops ≡ inside = inside_last func extents stage facts.0 facts.1 place loop inside o.last.loops_are in
         let values = loops.with loop.id number zeros in
-        let turns : AreTurns (counts extents stage.splits) (loop ∷ []) values = (subst (λ (n : ℕ). n < counts extents stage.splits loop.id) (sym (with_same loop.id number zeros)) l, tt) in
+        let turns : AreTurns (counts extents stage.splits) (loop ∷ []) values = (
+          subst (λ (n : ℕ). n < counts extents stage.splits loop.id)
+              (sym (with_same loop.id number zeros)) l,
+          tt,
+        ) in
         consumers.sound_nests pipeline schedule boxes rules accepted is place func plan own at store store_of reads words written loaded
         (λ k x y e. e) (roots_load pipeline schedule boxes place owned phase.private)
-        (λ k standing loop there placed same x y e. produced_writes pipeline schedule boxes place owned phase.private private_is accepted k standing loop there placed same x y e)
-        (λ k standing loop there placed same x y e. produced_loads pipeline schedule boxes place owned phase.private private_is accepted k standing loop there placed same x y e)
+        (λ k standing loop there placed same x y e. produced_writes pipeline schedule boxes place owned phase.private private_is accepted k standing loop there
+        placed same x y e)
+        (λ k standing loop there placed same x y e. produced_loads pipeline schedule boxes place owned phase.private private_is accepted k standing loop there
+        placed same x y e)
         inside loop [] o.last.loops_are values turns 0 inner made nested
-        (subst (λ (ls : List Loop). AreSound ls inner) same sound (loop ∷ []) o.last.loops_are values (small (Some loop) l) turns (subst (λ (ls : List Loop). AllByRecursion Good (wholes extents stage.splits ls values)) same good))
+        (subst (λ (ls : List Loop). AreSound ls inner) same sound (loop ∷ []) o.last.loops_are values (small (Some loop) l) turns
+        (subst (λ (ls : List Loop). AllByRecursion Good (wholes extents stage.splits ls values)) same good))
 
     task_sound : is_sound reads written loaded phase.body (task_values phase.counter number) ≡ true
     task_sound =

@@ -1,5 +1,6 @@
 -- Loops that stand around splits keep their turns behind them.
-use Rattle.std.proofs.Common.{◌≡◌, ℕ, zero, suc, ◌<◌, ◌≤◌, Bool, true, false, cond, List, [], ◌∷◌, ◌++◌, length, Option, Some, None, refl, sym, ap, subst, ◌∙◌, arith, inl, inr, length-append}
+use Rattle.std.proofs.Common.{◌≡◌, ℕ, zero, suc, ◌<◌, ◌≤◌, Bool, true, false, cond, List, [], ◌∷◌, ◌++◌, length, Option, Some, None, refl, sym, ap, subst, ◌∙◌}
+use Rattle.std.proofs.Common.{arith, inl, inr, length-append}
 use Rattle.std.specs.Prelude.{nat_lt, slice_get, slice_index_or, Contains}
 use Rattle.std.specs.List.{AllByRecursion}
 use Rattle.std.proofs.lemmas.Bool.{eq-eqb}
@@ -19,7 +20,8 @@ use Rattle.schedule_loops.specs.Reach.{wholes}
 use Rattle.schedule_loops.specs.Stages.{IsStageOf, first_loops}
 use Rattle.schedule_loops.proofs.FirstLoops.{plain, sound}
 use Rattle.schedule_loops.proofs.Ids.{cases_id, is_old, old_apart, inner_new, outer_new, older, turned_id, with_other}
-use Rattle.schedule_loops.proofs.Making.{Sound, Stays, by_making, sound_stays, split_by, IsInner, IsOuter, IsNeither, part_of, total-append, total_parts, parts_neither, bare_total}
+use Rattle.schedule_loops.proofs.Making.{Sound, Stays, by_making, sound_stays, split_by, IsInner, IsOuter, IsNeither, part_of, total-append, total_parts}
+use Rattle.schedule_loops.proofs.Making.{parts_neither, bare_total}
 use Rattle.schedule_loops.proofs.Nesting.{has_id, has_same}
 use Rattle.schedule_loops.proofs.Resting.{SplitsApart}
 use Rattle.bounds_laws.specs.ConsumerLaws.{turn_of, turn_at, turns_from}
@@ -49,7 +51,8 @@ new_apart : (place : ℕ) (id : LoopId) → is_old place id ≡ false → (split
 new_apart place id new [] are = tt
 new_apart place id new (first ∷ splits) are = (turned_id first.of id (old_apart place first.of id are.0 new), new_apart place id new splits are.1)
 
-apart_parted : (before : List Loop) (own : Loop) (after : List Loop) (splits : List Split) (line : SplitLine) → Sound (before ++ (parts own (length splits) line ++ after)) (splits ++ split_by own line ∷ [])
+apart_parted : (before : List Loop) (own : Loop) (after : List Loop) (splits : List Split) (line : SplitLine)
+    → Sound (before ++ (parts own (length splits) line ++ after)) (splits ++ split_by own line ∷ [])
     → IsApart (before ++ own ∷ after) splits → IsApart (before ++ (parts own (length splits) line ++ after)) (splits ++ split_by own line ∷ [])
 apart_parted before own after splits line now is =
     let own_old : is_old (length splits) own.id ≡ true = is.sound.old own.id (omega (arith, total-append (has_id own.id) before (own ∷ after), has_same own)) in
@@ -58,10 +61,12 @@ apart_parted before own after splits line now is =
       sound = now;
       apart = λ id there. elim (part_of (length splits) id) [
         | IsInner e ↦ subst (λ (i : LoopId). SplitsApart i (splits ++ split_by own line ∷ [])) (sym e)
-            (apart_more (ids.Inner (length splits)) splits (split_by own line) (new_apart (length splits) (ids.Inner (length splits)) (inner_new (length splits)) splits is.olds)
+            (apart_more (ids.Inner (length splits)) splits (split_by own line) (new_apart (length splits) (ids.Inner (length splits))
+            (inner_new (length splits)) splits is.olds)
             (turned_id own.id (ids.Inner (length splits)) (old_apart (length splits) own.id (ids.Inner (length splits)) own_old (inner_new (length splits)))))
         | IsOuter e ↦ subst (λ (i : LoopId). SplitsApart i (splits ++ split_by own line ∷ [])) (sym e)
-            (apart_more (ids.Outer (length splits)) splits (split_by own line) (new_apart (length splits) (ids.Outer (length splits)) (outer_new (length splits)) splits is.olds)
+            (apart_more (ids.Outer (length splits)) splits (split_by own line) (new_apart (length splits) (ids.Outer (length splits))
+            (outer_new (length splits)) splits is.olds)
             (turned_id own.id (ids.Outer (length splits)) (old_apart (length splits) own.id (ids.Outer (length splits)) own_old (outer_new (length splits)))))
         | IsNeither d f ↦
             let sum = total_parts (has_id id) before own after (length splits) line in
@@ -82,7 +87,8 @@ apart_stays is_update start begun =
     let stays = sound_stays is_update start begun in
     record {
       begun = record { sound = begun; apart = λ id there. tt; olds = tt };
-      parted = λ before own after splits line line_is is. apart_parted before own after splits line (stays.parted before own after splits line line_is is.sound) is;
+      parted = λ before own after splits line line_is is. apart_parted before own after splits line (stays.parted before own after splits line line_is is.sound)
+          is;
       marked = λ loops new splits same is. record {
         sound = stays.marked loops new splits same is.sound;
         apart = λ id there. is.apart id (omega (arith, bare_total (has_id id) (λ own. refl) new loops same, there));
@@ -100,17 +106,20 @@ stage_apart func stage is = by_making IsApart (apart_stays false (first_loops fu
 
 -- ---- what is listed behind splits
 
-kept_by : (id : LoopId) (split : Split) (n : ℕ) (body : Values → List Values) → ((values inner : Values) → Contains (body values) inner → inner id ≡ values id) → same_id id split.of ≡ false
+kept_by : (id : LoopId) (split : Split) (n : ℕ) (body : Values → List Values) → ((values inner : Values) → Contains (body values) inner → inner id ≡ values id)
+    → same_id id split.of ≡ false
     → (values inner : Values) (test : Bool) → Contains (cond test (body (with split.of n values)) []) inner → inner id ≡ values id
 kept_by id split n body kept d values inner true there = kept (with split.of n values) inner there ∙ with_other split.of n values id d
 kept_by id split n body kept d values inner false there = absurd (omega (arith, there.1))
 
-kept_behind : (id : LoopId) (splits : List Split) (counts : Values) (place : ℕ) (body : Values → List Values) → ((values inner : Values) → Contains (body values) inner → inner id ≡ values id)
+kept_behind : (id : LoopId) (splits : List Split) (counts : Values) (place : ℕ) (body : Values → List Values) → ((values inner : Values)
+    → Contains (body values) inner → inner id ≡ values id)
     → SplitsApart id splits → (values inner : Values) → Contains (split_bodies counts place splits body values) inner → inner id ≡ values id
 kept_behind id [] counts place body kept apart values inner there = kept values inner there
 kept_behind id (split ∷ others) counts place body kept apart values inner there =
     kept_behind id others (more_counts counts place split) (suc place) (split_body counts place split body)
-    (λ v i c. kept_by id split (whole_of counts place split v) body kept apart.0 v i (nat_lt (whole_of counts place split v) (counts split.of)) c) apart.1 values inner there
+    (λ v i c. kept_by id split (whole_of counts place split v) body kept apart.0 v i (nat_lt (whole_of counts place split v) (counts split.of)) c) apart.1
+    values inner there
 
 one_listed : (values inner : Values) → Contains (values ∷ []) inner → values ≡ inner
 one_listed values inner there = at there.0 there.1 there.2
@@ -124,13 +133,16 @@ among_at [] at l e = absurd cc
 among_at (first ∷ others) zero l e = let same : first ≡ l = cc in omega (arith, ap (λ (k : Loop). has_id l.id k) same, has_same l)
 among_at (first ∷ others) (suc at) l e = omega (arith, among_at others at l e)
 
-module _ (func : Func) (stage : Stage) (is : IsStageOf func None stage) (extents : Extents) (turns inner : Values) (listed : Contains (wholes extents stage.splits [] turns) inner) where
+module _ (func : Func) (stage : Stage) (is : IsStageOf func None stage) (extents : Extents) (turns inner : Values)
+    (listed : Contains (wholes extents stage.splits [] turns) inner) where
   same_loop : (at : ℕ) (l : Loop) → slice_get stage.loops at ≡ Some l → inner l.id ≡ turns l.id
   same_loop at l e =
-      kept_behind l.id stage.splits (whole_counts extents) 0 (λ whole. whole ∷ []) (λ values other there. ap (λ (v : Values). v l.id) (sym (one_listed values other there)))
+      kept_behind l.id stage.splits (whole_counts extents) 0 (λ whole. whole ∷ []) (λ values other there. ap (λ (v : Values). v l.id)
+      (sym (one_listed values other there)))
       ((stage_apart func stage is).apart l.id (among_at stage.loops at l e)) turns inner listed
 
-  turn_by : (at : ℕ) (test : Bool) (found : Option Loop) → slice_get stage.loops at ≡ found → cond test 0 (turn_of inner found) ≡ cond test 0 (turn_of turns found)
+  turn_by : (at : ℕ) (test : Bool) (found : Option Loop) → slice_get stage.loops at ≡ found
+      → cond test 0 (turn_of inner found) ≡ cond test 0 (turn_of turns found)
   turn_by at true found e = refl
   turn_by at false None e = refl
   turn_by at false (Some l) e = same_loop at l e

@@ -48,11 +48,14 @@ AreWords inner = (x_of inner < 2 ^ 32) × (y_of inner < 2 ^ 32)
 abbrev pub is_at : ℕ → ℕ → loops.Values → Bool
 is_at x y inner = x_of inner == x && y_of inner == y
 
-pub whole_put : (place : ℕ) (inner : loops.Values) (values : Values) (v : Variable) → inner (ids.Whole v) < 2 ^ 32 → whole_at (put_loops place inner values) place v ≡ inner (ids.Whole v)
+pub whole_put : (place : ℕ) (inner : loops.Values) (values : Values) (v : Variable) → inner (ids.Whole v) < 2 ^ 32
+    → whole_at (put_loops place inner values) place v ≡ inner (ids.Whole v)
 whole_put place inner values v small =
-    ap (λ (b : Bool). cond b (inner (ids.Whole v)) (values (record { func = place; id = ids.Whole v })) % 2 ^ 32) (eq-eqb place place refl) ∙ mod-eq_of_lt {n = inner (ids.Whole v)} {m = 2 ^ 32} small
+    ap (λ (b : Bool). cond b (inner (ids.Whole v)) (values (record { func = place; id = ids.Whole v })) % 2 ^ 32) (eq-eqb place place refl)
+    ∙ mod-eq_of_lt {n = inner (ids.Whole v)} {m = 2 ^ 32} small
 
-module _ (pipeline : Pipeline) (schedule : Schedule) (boxes : Boxes) (accepted : IsAccepted pipeline schedule) (points : Points) (inputs : Planes) (consumer x y : ℕ) where
+module _ (pipeline : Pipeline) (schedule : Schedule) (boxes : Boxes) (accepted : IsAccepted pipeline schedule) (points : Points) (inputs : Planes)
+    (consumer x y : ℕ) where
   abbrev traced : Stmt → Values → Trace → Trace
   traced made values = trace points inputs consumer x y made values
 
@@ -62,21 +65,27 @@ module _ (pipeline : Pipeline) (schedule : Schedule) (boxes : Boxes) (accepted :
 
   module _ (at : LoopPlace) (same : at.func ≡ consumer) (turned : loops.Values) where
     -- a nest in front stores elsewhere
-    before_alone : (place : ℕ) (first : Stmt) → IsNestOf pipeline schedule boxes at place first → (so_far : Trace) → (traced first (consuming consumer turned) so_far).is_stored ≡ so_far.is_stored
+    before_alone : (place : ℕ) (first : Stmt) → IsNestOf pipeline schedule boxes at place first → (so_far : Trace)
+        → (traced first (consuming consumer turned) so_far).is_stored ≡ so_far.is_stored
     before_alone place first nest_of so_far =
-        let earlier : place < at.func = produced_before pipeline schedule accepted place nest_of.parts.standing nest_of.parts.there at nest_of.parts.placed_is in
+        let earlier : place < at.func = produced_before pipeline schedule accepted place nest_of.parts.standing nest_of.parts.there at nest_of.parts.placed_is
+        in
         nest_of.alone points inputs consumer x y (λ e. omega (arith, e, earlier, same)) (consuming consumer turned)
         (subst AreSmall (sym (no_other_loops consumer place turned (λ e. omega (arith, e, earlier, same)))) (λ id. omega arith)) so_far
 
-    pub nests : (from : ℕ) (inner body : Stmt) → HasNests pipeline schedule boxes at from inner body → (hit : Bool) → Told inner turned hit → Told body turned hit
+    pub nests : (from : ℕ) (inner body : Stmt) → HasNests pipeline schedule boxes at from inner body → (hit : Bool) → Told inner turned hit
+        → Told body turned hit
     nests from inner _ (None_left _ _ all_seen) hit told so_far = told so_far
     nests from inner body (One_more _ None _ rest _ none more does) hit told so_far =
-        ap (λ (t : Trace). t.is_stored) (does.traces points inputs consumer x y (consuming consumer turned) so_far) ∙ nests (suc from) inner rest more hit told so_far
+        ap (λ (t : Trace). t.is_stored) (does.traces points inputs consumer x y (consuming consumer turned) so_far)
+        ∙ nests (suc from) inner rest more hit told so_far
     nests from inner body (One_more _ (Some first) _ rest _ nest_of more does) hit told so_far =
         ap (λ (t : Trace). t.is_stored) (does.traces points inputs consumer x y (consuming consumer turned) so_far)
-        ∙ nests (suc from) inner rest more hit told (traced first (consuming consumer turned) so_far) ∙ ap (λ (b : Bool). b || hit) (before_alone from first nest_of so_far)
+        ∙ nests (suc from) inner rest more hit told (traced first (consuming consumer turned) so_far)
+        ∙ ap (λ (b : Bool). b || hit) (before_alone from first nest_of so_far)
 
-  module _ (extents : Extents) (splits : List Split) (few : AreFew extents) (are_splits : loops.AreSplits splits) (store : Stmt) (hits : HitsPure consumer store) where
+  module _ (extents : Extents) (splits : List Split) (few : AreFew extents) (are_splits : loops.AreSplits splits) (store : Stmt) (hits : HitsPure consumer
+      store) where
     abbrev counts : loops.Values
     counts = loops.counts extents splits
 
@@ -90,30 +99,41 @@ module _ (pipeline : Pipeline) (schedule : Schedule) (boxes : Boxes) (accepted :
     store_tells turned inner small so_far =
         let values = put_loops consumer inner (consuming consumer turned) in
         hits points inputs consumer x y values so_far
-        ∙ ap (λ (b : Bool). so_far.is_stored || (b && (whole_at values consumer variables.FirstArgument == x && whole_at values consumer variables.SecondArgument == y))) (eq-eqb consumer consumer refl)
-        ∙ ap (λ (n : ℕ). so_far.is_stored || (n == x && whole_at values consumer variables.SecondArgument == y)) (whole_put consumer inner (consuming consumer turned) variables.FirstArgument small.0)
-        ∙ ap (λ (n : ℕ). so_far.is_stored || (x_of inner == x && n == y)) (whole_put consumer inner (consuming consumer turned) variables.SecondArgument small.1)
+        ∙ ap (λ (b : Bool). so_far.is_stored || (b && (whole_at values consumer variables.FirstArgument == x
+        && whole_at values consumer variables.SecondArgument == y))) (eq-eqb consumer consumer refl)
+        ∙ ap (λ (n : ℕ). so_far.is_stored || (n == x && whole_at values consumer variables.SecondArgument == y)) (whole_put consumer inner
+        (consuming consumer turned) variables.FirstArgument small.0)
+        ∙ ap (λ (n : ℕ). so_far.is_stored || (x_of inner == x && n == y)) (whole_put consumer inner (consuming consumer turned) variables.SecondArgument
+        small.1)
 
-    leaf_tells : (leaf : Stmt) → Repeats consumer leaf store (wholes extents splits []) → (turned : loops.Values) → AreSmall turned → AllByRecursion AreWords (listed [] turned) → Told leaf turned (list_any (is_at x y) (listed [] turned))
+    leaf_tells : (leaf : Stmt) → Repeats consumer leaf store (wholes extents splits []) → (turned : loops.Values) → AreSmall turned
+        → AllByRecursion AreWords (listed [] turned) → Told leaf turned (list_any (is_at x y) (listed [] turned))
     leaf_tells leaf bound turned small words so_far =
-        ap (λ (t : Trace). t.is_stored) (bound.traces points inputs consumer x y (consuming consumer turned) so_far (subst AreSmall (sym (loops_consuming consumer turned)) small))
+        ap (λ (t : Trace). t.is_stored) (bound.traces points inputs consumer x y (consuming consumer turned) so_far
+        (subst AreSmall (sym (loops_consuming consumer turned)) small))
         ∙ ap (λ (t : loops.Values). (all (step turned) (listed [] t) so_far).is_stored) (loops_consuming consumer turned)
-        ∙ list_tells (step turned) (is_at x y) (listed [] turned) (all_so AreWords (λ inner. Tells (step turned inner) (is_at x y inner)) (λ inner w. store_tells turned inner w) (listed [] turned) words) so_far
+        ∙ list_tells (step turned) (is_at x y) (listed [] turned) (all_so AreWords (λ inner. Tells (step turned inner) (is_at x y inner))
+        (λ inner w. store_tells turned inner w) (listed [] turned) words) so_far
 
     -- loops store where they list the point
-    pub loops_tell : (leaf : Stmt) → Repeats consumer leaf store (wholes extents splits []) → (inside : List Loop) (made : Stmt) → HasLoops pipeline schedule boxes consumer counts leaf inside made
-        → (turned : loops.Values) → AreSmall turned → AllByRecursion AreWords (listed inside turned) → Told made turned (list_any (is_at x y) (listed inside turned))
+    pub loops_tell : (leaf : Stmt) → Repeats consumer leaf store (wholes extents splits []) → (inside : List Loop) (made : Stmt)
+        → HasLoops pipeline schedule boxes consumer counts leaf inside made
+        → (turned : loops.Values) → AreSmall turned → AllByRecursion AreWords (listed inside turned)
+        → Told made turned (list_any (is_at x y) (listed inside turned))
     loops_tell leaf bound _ _ No_loops turned small words so_far = leaf_tells leaf bound turned small words so_far
     loops_tell leaf bound _ made (One_outside inside mid inner body _ within nested does around run_around) turned small words so_far =
         let lists : ℕ → List loops.Values = λ turn. listed inside (loops.with mid.id turn turned) in
-        let list_is : listed (inside ++ mid ∷ []) turned ≡ upto (counts mid.id) lists = nest-append counts inside (mid ∷ []) (over_loops extents splits (λ (whole : loops.Values). whole ∷ [])) turned in
+        let list_is : listed (inside ++ mid ∷ []) turned ≡ upto (counts mid.id) lists = nest-append counts inside (mid ∷ []) (over_loops extents splits
+        (λ (whole : loops.Values). whole ∷ [])) turned in
         let all_words : AllByRecursion AreWords (upto (counts mid.id) lists) = subst (λ (l : List loops.Values). AllByRecursion AreWords l) list_is words in
         ap (λ (t : Trace). t.is_stored) (does.traces points inputs consumer x y (consuming consumer turned) so_far)
-        ∙ turns_tell (counts mid.id) (counts mid.id) (omega arith) (λ turn. traced body (with (record { func = consumer; id = mid.id }) turn (consuming consumer turned))) (is_at x y) lists
+        ∙ turns_tell (counts mid.id) (counts mid.id) (omega arith) (λ turn. traced body (with (record { func = consumer; id = mid.id }) turn
+        (consuming consumer turned))) (is_at x y) lists
         (λ turn below.
         subst (λ (v : Values). Tells (traced body v) (list_any (is_at x y) (lists turn))) (sym (consuming_with consumer mid.id turn turned))
         (nests (record { func = consumer; inside = mid.id }) refl (loops.with mid.id turn turned) 0 inner body nested (list_any (is_at x y) (lists turn))
-        (loops_tell leaf bound inside inner within (loops.with mid.id turn turned) (small_with mid.id turn turned (omega (arith, below, few_turns extents splits few are_splits mid.id)) small)
+        (loops_tell leaf bound inside inner within (loops.with mid.id turn turned) (small_with mid.id turn turned
+        (omega (arith, below, few_turns extents splits few are_splits mid.id)) small)
         (all_upto AreWords lists (counts mid.id) all_words turn below))))
         so_far
         ∙ ap (λ (l : List loops.Values). so_far.is_stored || list_any (is_at x y) l) (sym list_is)

@@ -1,5 +1,6 @@
 -- Each task of a pure definition stores at the points that its iteration visits, and at no other of its Func.
-use Rattle.std.proofs.Common.{◌≡◌, ℕ, ◌<◌, ◌^◌, Bool, true, false, cond, List, [], ◌∷◌, ◌++◌, map, Option, Some, None, refl, sym, ap, subst, ◌∙◌, arith, true≢false}
+use Rattle.std.proofs.Common.{◌≡◌, ℕ, ◌<◌, ◌^◌, Bool, true, false, cond, List, [], ◌∷◌, ◌++◌, map, Option, Some, None, refl, sym, ap, subst, ◌∙◌, arith}
+use Rattle.std.proofs.Common.{true≢false}
 use Rattle.std.specs.Prelude.{Ok}
 use Rattle.std.specs.List.{AllByRecursion, list_any}
 use Rattle.halide_pipeline.specs.declared.definitions.Func.{Func}
@@ -77,7 +78,8 @@ never_parallel {own} first e found = by_test (is_marked marks.Parallel first) re
     by_test true f = not_both first e f
     by_test false f = let none : None ≡ Some own = sym (ap (λ (b : Bool). cond b (Some first) None) f) ∙ found in cc
 
-module _ (pipeline : Pipeline) (schedule : Schedule) (boxes : Boxes) (rules : IsWellFormed pipeline) (accepted : IsAccepted pipeline schedule) (is : inferred pipeline schedule ≡ Ok boxes)
+module _ (pipeline : Pipeline) (schedule : Schedule) (boxes : Boxes) (rules : IsWellFormed pipeline) (accepted : IsAccepted pipeline schedule)
+    (is : inferred pipeline schedule ≡ Ok boxes)
     (place : ℕ) (func : Func) (plan : FuncPlan) (own : SourceBox) (at : IsAtRoot pipeline schedule boxes place func plan own)
     (store : Stmt) (store_of : IsStoreOf pipeline schedule boxes places.Root place func own store)
     (phase : Phase) (tasks_are : phase.tasks ≡ iteration_count (extents_of own) plan.pure) (counter_is : phase.counter ≡ counter_of place (parallel plan.pure))
@@ -117,84 +119,107 @@ module _ (pipeline : Pipeline) (schedule : Schedule) (boxes : Boxes) (rules : Is
     words : AllByRecursion AreWords (list (parallel stage))
     words =
         all_map (IsVisitOf func None extents) AreWords (visit_of extents) (λ inner v. few_values (visit_of extents inner) v) (list (parallel stage))
-        (subst (λ (l : List Visit). AllByRecursion (IsVisitOf func None extents) l) visits_are (all_visits func extents stage facts.0 facts.1 place number below_count))
+        (subst (λ (l : List Visit). AllByRecursion (IsVisitOf func None extents) l) visits_are (all_visits func extents stage facts.0 facts.1 place number
+        below_count))
 
     owned_is : owns extents stage number x y ≡ list_any (is_at x y) (list (parallel stage))
     owned_is = ap (list_any (is_slice x y)) visits_are ∙ any_map (is_slice x y) (visit_of extents) (list (parallel stage))
 
     small : (found : Option Loop) → number < count_of (loops.counts extents stage.splits) found → AreSmall (turned found)
     small found l =
-        small_by func extents stage facts.0 facts.1 place (few pipeline schedule boxes place func plan own accepted is places.Root tt at) (splits pipeline schedule boxes place func plan own accepted is places.Root tt at) found number l
+        small_by func extents stage facts.0 facts.1 place (few pipeline schedule boxes place func plan own accepted is places.Root tt at)
+        (splits pipeline schedule boxes place func plan own accepted is places.Root tt at) found number l
 
     abbrev Told : Option Loop → Stmt → Type 0
     Told found made = consumers.Told pipeline schedule boxes accepted points inputs place x y made (turned found) (list_any (is_at x y) (list found))
 
-    inner_tells : (found : Option Loop) → parallel stage ≡ found → number < count_of (loops.counts extents stage.splits) found → AllByRecursion AreWords (list found) → Told found body.inner
+    inner_tells : (found : Option Loop) → parallel stage ≡ found → number < count_of (loops.counts extents stage.splits) found
+        → AllByRecursion AreWords (list found) → Told found body.inner
     inner_tells found e l words_so =
-        consumers.loops_tell pipeline schedule boxes accepted points inputs place x y extents stage.splits (few pipeline schedule boxes place func plan own accepted is places.Root tt at)
-        (splits pipeline schedule boxes place func plan own accepted is places.Root tt at) store store_of.hits body.leaf body.bound (inside_of found stage.loops) body.inner
-        (subst (λ (o : Option Loop). HasLoops pipeline schedule boxes place (loops.counts extents stage.splits) body.leaf (inside_of o stage.loops) body.inner) e body.looped) (turned found) (small found l) words_so
+        consumers.loops_tell pipeline schedule boxes accepted points inputs place x y extents stage.splits (few pipeline schedule boxes place func plan own
+        accepted is places.Root tt at)
+        (splits pipeline schedule boxes place func plan own accepted is places.Root tt at) store store_of.hits body.leaf body.bound
+        (inside_of found stage.loops) body.inner
+        (subst (λ (o : Option Loop). HasLoops pipeline schedule boxes place (loops.counts extents stage.splits) body.leaf (inside_of o stage.loops) body.inner)
+        e body.looped) (turned found) (small found l) words_so
 
     told_by : (found : Option Loop) (made : Stmt) → HasOutermost pipeline schedule boxes place found body.inner made → Told found body.inner → Told found made
     told_by None made same told = subst (Told None) (sym same) told
     told_by (Some loop) made nested told =
-        consumers.nests pipeline schedule boxes accepted points inputs place x y (record { func = place; inside = loop.id }) refl (turned (Some loop)) 0 body.inner made nested (list_any (is_at x y) (list (Some loop))) told
+        consumers.nests pipeline schedule boxes accepted points inputs place x y (record { func = place; inside = loop.id }) refl (turned (Some loop)) 0
+        body.inner made nested (list_any (is_at x y) (list (Some loop))) told
 
     task_stores : (funcs : Planes) → is_stored_by_task points inputs phase number place x y funcs ≡ owns extents stage number x y
     task_stores funcs =
         ap (λ (c : Option Counter). is_stored_by points inputs place x y phase.body (task_values c number) funcs) counter_is
-        ∙ ap (λ (v : Values). is_stored_by points inputs place x y phase.body v funcs) (before_by func extents stage facts.0 facts.1 place (parallel stage) number)
-        ∙ told_by (parallel stage) phase.body body.begun (inner_tells (parallel stage) refl below_count words) (record { funcs = funcs; is_stored = false }) ∙ sym owned_is
+        ∙ ap (λ (v : Values). is_stored_by points inputs place x y phase.body v funcs) (before_by func extents stage facts.0 facts.1 place (parallel stage)
+        number)
+        ∙ told_by (parallel stage) phase.body body.begun (inner_tells (parallel stage) refl below_count words) (record { funcs = funcs; is_stored = false })
+        ∙ sym owned_is
 
   pub stores_its_own : StoresItsOwn boxes place (owns extents stage) phase
   stores_its_own inputs funcs number below x y = task_stores inputs number below x y funcs
 
   -- ---- by runs of its vectorized loop
 
-  module _ (store_is : IsLeaf store) (first : is_vectorized_first stage.loops ≡ true) (number : ℕ) (below : number < phase.tasks) (reads : Reads) (x y : ℕ) where
-    unread : Planes
-    unread place x y = 0
+  module _ (store_is : IsLeaf store) (first : is_vectorized_first stage.loops ≡ true) (number : ℕ) (below : number < phase.tasks) (reads : Reads) (x y : ℕ)
+    where
+      unread : Planes
+      unread place x y = 0
 
-    abbrev now : Option Loop → loops.Values
-    now found = turned_by func extents stage facts.0 facts.1 place found number
+      abbrev now : Option Loop → loops.Values
+      now found = turned_by func extents stage facts.0 facts.1 place found number
 
-    few_so : (id : LoopId) → loops.counts extents stage.splits id < 2 ^ 25
-    few_so id =
-        few_turns extents stage.splits (few pipeline schedule boxes place func plan own accepted is places.Root tt at) (splits pipeline schedule boxes place func plan own accepted is places.Root tt at) id
+      few_so : (id : LoopId) → loops.counts extents stage.splits id < 2 ^ 25
+      few_so id =
+          few_turns extents stage.splits (few pipeline schedule boxes place func plan own accepted is places.Root tt at) (splits pipeline schedule boxes place
+          func plan own accepted is places.Root tt at) id
 
-    -- a task is a turn of the parallel loop
-    task_turns : (found : Option Loop) → number < count_of (loops.counts extents stage.splits) found → AreTurns (loops.counts extents stage.splits) (outside_of place extents stage facts.1 found) (now found)
-    task_turns None l = tt
-    task_turns (Some own) l = turns_more (loops.counts extents stage.splits) own number l [] zeros tt
+      -- a task is a turn of the parallel loop
+      task_turns : (found : Option Loop) → number < count_of (loops.counts extents stage.splits) found
+          → AreTurns (loops.counts extents stage.splits) (outside_of place extents stage facts.1 found) (now found)
+      task_turns None l = tt
+      task_turns (Some own) l = turns_more (loops.counts extents stage.splits) own number l [] zeros tt
 
-    -- and no other loop has begun
-    task_alone : (found : Option Loop) → now found ≡ turns_of (outside_of place extents stage facts.1 found) (now found)
-    task_alone None = none_begun zeros
-    task_alone (Some own) = ap (loops.with own.id number) (none_begun zeros) ∙ one_more own [] number zeros
+      -- and no other loop has begun
+      task_alone : (found : Option Loop) → now found ≡ turns_of (outside_of place extents stage facts.1 found) (now found)
+      task_alone None = none_begun zeros
+      task_alone (Some own) = ap (loops.with own.id number) (none_begun zeros) ∙ one_more own [] number zeros
 
-    inside_first : (found : Option Loop) → parallel stage ≡ found → is_vectorized_first (inside_of found stage.loops) ≡ true
-    inside_first found e = by_lists found (inside_of found stage.loops) e (loops_by place extents stage facts.1 found e)
-      where
-        by_lists : (found : Option Loop) (inside : List Loop) → parallel stage ≡ found → stage.loops ≡ inside ++ outside_of place extents stage facts.1 found → is_vectorized_first inside ≡ true
-        by_lists found (one ∷ inside) e loops_are = subst (λ (ls : List Loop). is_vectorized_first ls ≡ true) loops_are first
-        by_lists None [] e loops_are = absurd (true≢false (sym first ∙ ap is_vectorized_first loops_are))
-        by_lists (Some own) [] e loops_are =
-            absurd (never_parallel own (subst (λ (ls : List Loop). is_vectorized_first ls ≡ true) loops_are first) (subst (λ (ls : List Loop). find_marked marks.Parallel ls ≡ Some own) loops_are e))
+      inside_first : (found : Option Loop) → parallel stage ≡ found → is_vectorized_first (inside_of found stage.loops) ≡ true
+      inside_first found e = by_lists found (inside_of found stage.loops) e (loops_by place extents stage facts.1 found e)
+        where
+          by_lists : (found : Option Loop) (inside : List Loop) → parallel stage ≡ found → stage.loops ≡ inside ++ outside_of place extents stage facts.1 found
+              → is_vectorized_first inside ≡ true
+          by_lists found (one ∷ inside) e loops_are = subst (λ (ls : List Loop). is_vectorized_first ls ≡ true) loops_are first
+          by_lists None [] e loops_are = absurd (true≢false (sym first ∙ ap is_vectorized_first loops_are))
+          by_lists (Some own) [] e loops_are =
+              absurd (never_parallel own (subst (λ (ls : List Loop). is_vectorized_first ls ≡ true) loops_are first)
+              (subst (λ (ls : List Loop). find_marked marks.Parallel ls ≡ Some own) loops_are e))
 
-    run_by : (found : Option Loop) → parallel stage ≡ found → number < count_of (loops.counts extents stage.splits) found → AllByRecursion AreWords (wholes extents stage.splits (inside_of found stage.loops) (now found))
-        → HasOutermost pipeline schedule boxes place found body.inner phase.body → stores_in_runs reads place x y (is_in_run extents stage place x y) phase.body (consuming place (now found)) ≡ true
-    run_by found e l words_so begun =
-        runs.begun_runs pipeline schedule boxes accepted reads place x y func plan at.plan_is extents facts.0 facts.1 few_so store store_of.misses body.leaf body.bound store_is (body.leaf_is store_is) found body.inner phase.body begun (now found)
-        (runs.loops_run pipeline schedule boxes accepted reads place x y func plan at.plan_is extents facts.0 facts.1 few_so store store_of.misses body.leaf body.bound store_is (body.leaf_is store_is) (inside_of found stage.loops) body.inner
-        (subst (λ (o : Option Loop). HasLoops pipeline schedule boxes place (loops.counts extents stage.splits) body.leaf (inside_of o stage.loops) body.inner) e body.looped)
-        (outside_of place extents stage facts.1 found) (loops_by place extents stage facts.1 found e) (inside_first found e) (now found) (small unread number below x y found l)
-        (task_turns found l) (task_alone found) words_so)
+      run_by : (found : Option Loop) → parallel stage ≡ found → number < count_of (loops.counts extents stage.splits) found
+          → AllByRecursion AreWords (wholes extents stage.splits (inside_of found stage.loops) (now found))
+          → HasOutermost pipeline schedule boxes place found body.inner phase.body
+          → stores_in_runs reads place x y (is_in_run extents stage place x y) phase.body
+          (consuming place (now found)) ≡ true
+      run_by found e l words_so begun =
+          runs.begun_runs pipeline schedule boxes accepted reads place x y func plan at.plan_is extents facts.0 facts.1 few_so store store_of.misses body.leaf
+          body.bound store_is (body.leaf_is store_is) found body.inner phase.body begun (now found)
+          (runs.loops_run pipeline schedule boxes accepted reads place x y func plan at.plan_is extents facts.0 facts.1 few_so store store_of.misses body.leaf
+          body.bound store_is (body.leaf_is store_is) (inside_of found stage.loops) body.inner
+          (subst (λ (o : Option Loop). HasLoops pipeline schedule boxes place (loops.counts extents stage.splits) body.leaf (inside_of o stage.loops)
+          body.inner)
+          e body.looped)
+          (outside_of place extents stage facts.1 found) (loops_by place extents stage facts.1 found e) (inside_first found e) (now found)
+          (small unread number below x y found l)
+          (task_turns found l) (task_alone found) words_so)
 
-    task_runs : stores_in_runs reads place x y (is_in_run extents stage place x y) phase.body (task_values phase.counter number) ≡ true
-    task_runs =
-        ap (λ (c : Option Counter). stores_in_runs reads place x y (is_in_run extents stage place x y) phase.body (task_values c number)) counter_is
-        ∙ ap (stores_in_runs reads place x y (is_in_run extents stage place x y) phase.body) (before_by func extents stage facts.0 facts.1 place (parallel stage) number)
-        ∙ run_by (parallel stage) refl (below_count unread number below x y) (words unread number below x y) body.begun
+      task_runs : stores_in_runs reads place x y (is_in_run extents stage place x y) phase.body (task_values phase.counter number) ≡ true
+      task_runs =
+          ap (λ (c : Option Counter). stores_in_runs reads place x y (is_in_run extents stage place x y) phase.body (task_values c number)) counter_is
+          ∙ ap (stores_in_runs reads place x y (is_in_run extents stage place x y) phase.body) (before_by func extents stage facts.0 facts.1 place
+          (parallel stage) number)
+          ∙ run_by (parallel stage) refl (below_count unread number below x y) (words unread number below x y) body.begun
 
   pub stores_in_its_runs : IsLeaf store → StoresInRuns place extents stage phase
   stores_in_its_runs store_is first number below reads x y = task_runs store_is first number below reads x y

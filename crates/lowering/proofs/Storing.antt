@@ -44,12 +44,15 @@ unfolding value
 value_linear reads values own =
     ap (λ (t : expressions.Expr). value reads values t) (sym (rolls-Linear own)) ∙ fold-roll-Expr ℕ (value_at reads values) (layer.Linear own)
 
-pub stores_pure : (corners : List Corner) (flags : ℕ → Bool) (funcs : List Func) (place : ℕ) (corner : Corner) (pure : Expr) (x y : Linear) (made : expressions.Expr) (arguments : Arguments)
+pub stores_pure : (corners : List Corner) (flags : ℕ → Bool) (funcs : List Func) (place : ℕ) (corner : Corner) (pure : Expr) (x y : Linear)
+    (made : expressions.Expr) (arguments : Arguments)
     → ((values : Values) → environment values arguments
-    ≡ at_point (word.add (whole_at values place variables.FirstArgument) (linear_value values corner.x)) (word.add (whole_at values place variables.SecondArgument) (linear_value values corner.y)))
+    ≡ at_point (word.add (whole_at values place variables.FirstArgument) (linear_value values corner.x))
+    (word.add (whole_at values place variables.SecondArgument) (linear_value values corner.y)))
     → ((values : Values) → linear_value values x ≡ whole_at values place variables.FirstArgument)
     → ((values : Values) → linear_value values y ≡ whole_at values place variables.SecondArgument)
-    → ((reads : Reads) (values : Values) → value reads values made ≡ inlined (valuing (placed corners values reads)) flags funcs place (variable (environment values arguments)) pure)
+    → ((reads : Reads) (values : Values) → value reads values made ≡ inlined (valuing (placed corners values reads)) flags funcs place
+    (variable (environment values arguments)) pure)
     → StoresPure corners flags funcs place corner pure (s.Store (record { func = place; x = e.Linear x; y = e.Linear y; value = made }))
 stores_pure corners flags funcs place corner pure x y made arguments environment_is x_is y_is value_is points inputs values buffers =
     let reads = reads_of inputs buffers in
@@ -57,29 +60,35 @@ stores_pure corners flags funcs place corner pure x y made arguments environment
     let at_y = value_linear reads values y ∙ y_is values in
     let written : value reads values made
     ≡ inlined (valuing (placed corners values reads)) flags funcs place
-    (variable (at_point (word.add (whole_at values place variables.FirstArgument) (linear_value values corner.x)) (word.add (whole_at values place variables.SecondArgument) (linear_value values corner.y)))) pure =
-    value_is reads values ∙ ap (λ (v : Environment). inlined (valuing (placed corners values reads)) flags funcs place (variable v) pure) (environment_is values) in
+    (variable (at_point (word.add (whole_at values place variables.FirstArgument) (linear_value values corner.x))
+    (word.add (whole_at values place variables.SecondArgument) (linear_value values corner.y)))) pure =
+    value_is reads values ∙ ap (λ (v : Environment). inlined (valuing (placed corners values reads)) flags funcs place (variable v) pure)
+    (environment_is values) in
     run_store points inputs (record { func = place; x = e.Linear x; y = e.Linear y; value = made }) values buffers
     ∙ ap (λ (n : ℕ). put points place n (value reads values (e.Linear y)) (value reads values made) buffers) at_x
     ∙ ap (λ (n : ℕ). put points place (whole_at values place variables.FirstArgument) n (value reads values made) buffers) at_y
     ∙ ap (λ (n : ℕ). put points place (whole_at values place variables.FirstArgument) (whole_at values place variables.SecondArgument) n buffers) written
 
-pub hits_pure : (place : ℕ) (x y : Linear) (made : expressions.Expr) → ((values : Values) → linear_value values x ≡ whole_at values place variables.FirstArgument)
+pub hits_pure : (place : ℕ) (x y : Linear) (made : expressions.Expr)
+    → ((values : Values) → linear_value values x ≡ whole_at values place variables.FirstArgument)
     → ((values : Values) → linear_value values y ≡ whole_at values place variables.SecondArgument)
     → HitsPure place (s.Store (record { func = place; x = e.Linear x; y = e.Linear y; value = made }))
 hits_pure place x y made x_is y_is points inputs func p q values so_far =
     let reads = reads_of inputs so_far.funcs in
     ap (λ (t : Trace). t.is_stored) (trace_store points inputs func p q (record { func = place; x = e.Linear x; y = e.Linear y; value = made }) values so_far)
     ∙ ap (λ (n : ℕ). so_far.is_stored || (place == func && (n == p && value reads values (e.Linear y) == q))) (value_linear reads values x ∙ x_is values)
-    ∙ ap (λ (n : ℕ). so_far.is_stored || (place == func && (whole_at values place variables.FirstArgument == p && n == q))) (value_linear reads values y ∙ y_is values)
+    ∙ ap (λ (n : ℕ). so_far.is_stored || (place == func && (whole_at values place variables.FirstArgument == p && n == q))) (value_linear reads values y
+    ∙ y_is values)
 
-pub misses_pure : (place : ℕ) (x y : Linear) (made : expressions.Expr) → ((values : Values) → linear_value values x ≡ whole_at values place variables.FirstArgument)
+pub misses_pure : (place : ℕ) (x y : Linear) (made : expressions.Expr)
+    → ((values : Values) → linear_value values x ≡ whole_at values place variables.FirstArgument)
     → ((values : Values) → linear_value values y ≡ whole_at values place variables.SecondArgument)
     → MissesPure place (s.Store (record { func = place; x = e.Linear x; y = e.Linear y; value = made }))
 misses_pure place x y made x_is y_is reads p q values =
     let own : Store = record { func = place; x = e.Linear x; y = e.Linear y; value = made } in
     sound_store reads (all_but (point_of place p q)) all_points own values
-    ∙ ap (λ (b : Bool). all_but (point_of place p q) place (value reads values (e.Linear x)) (value reads values (e.Linear y)) && b) (all_of (store_loads reads values own))
+    ∙ ap (λ (b : Bool). all_but (point_of place p q) place (value reads values (e.Linear x)) (value reads values (e.Linear y)) && b)
+    (all_of (store_loads reads values own))
     ∙ and_true (all_but (point_of place p q) place (value reads values (e.Linear x)) (value reads values (e.Linear y)))
     ∙ ap (λ (b : Bool). not (b && (p == value reads values (e.Linear x) && q == value reads values (e.Linear y)))) (eq-eqb place place refl)
     ∙ ap (λ (n : ℕ). not (p == n && q == value reads values (e.Linear y))) (value_linear reads values x ∙ x_is values)
@@ -96,21 +105,28 @@ misses_pure place x y made x_is y_is reads p q values =
 -- ---- what it touches
 
 -- A store is sound whose point may be written, and all of whose loads may be made.
-pub store_sound : (reads : Reads) (written : Points) (loaded : Point → Bool) (store : Store) (values : Values) → written store.func (value reads values store.x) (value reads values store.y) ≡ true
-    → Hold loaded (loads reads values store.x) → Hold loaded (loads reads values store.y) → Hold loaded (loads reads values store.value) → is_sound reads written loaded (s.Store store) values ≡ true
+pub store_sound : (reads : Reads) (written : Points) (loaded : Point → Bool) (store : Store) (values : Values)
+    → written store.func (value reads values store.x) (value reads values store.y) ≡ true
+    → Hold loaded (loads reads values store.x) → Hold loaded (loads reads values store.y) → Hold loaded (loads reads values store.value)
+    → is_sound reads written loaded (s.Store store) values ≡ true
 store_sound reads written loaded store values writes first second stored =
     let passes : Point → Type 0 = λ point. loaded point ≡ true in
     sound_store reads written loaded store values
     ∙ and_from (written store.func (value reads values store.x) (value reads values store.y)) (list_all loaded (store_loads reads values store)) writes
     (all_pass loaded (store_loads reads values store)
-    (all_both passes (loads reads values store.x) (loads reads values store.y ++ loads reads values store.value) first (all_both passes (loads reads values store.y) (loads reads values store.value) second stored)))
+    (all_both passes (loads reads values store.x) (loads reads values store.y ++ loads reads values store.value) first
+    (all_both passes (loads reads values store.y) (loads reads values store.value) second stored)))
 
-pub sound_pure : (corners : List Corner) (flags : ℕ → Bool) (funcs : List Func) (place : ℕ) (corner : Corner) (pure : Expr) (x y : Linear) (made : expressions.Expr) (arguments : Arguments)
+pub sound_pure : (corners : List Corner) (flags : ℕ → Bool) (funcs : List Func) (place : ℕ) (corner : Corner) (pure : Expr) (x y : Linear)
+    (made : expressions.Expr) (arguments : Arguments)
     → ((values : Values) → environment values arguments
-    ≡ at_point (word.add (whole_at values place variables.FirstArgument) (linear_value values corner.x)) (word.add (whole_at values place variables.SecondArgument) (linear_value values corner.y)))
+    ≡ at_point (word.add (whole_at values place variables.FirstArgument) (linear_value values corner.x))
+    (word.add (whole_at values place variables.SecondArgument) (linear_value values corner.y)))
     → ((values : Values) → linear_value values x ≡ whole_at values place variables.FirstArgument)
     → ((values : Values) → linear_value values y ≡ whole_at values place variables.SecondArgument)
-    → ((reads : Reads) (values : Values) (test : Point → Bool) → Hold (λ point. test (place_in corners values point)) (inlined (seeing (placed corners values reads)) flags funcs place (seen_variable (environment values arguments)) pure).points
+    → ((reads : Reads) (values : Values) (test : Point → Bool)
+    → Hold (λ point. test (place_in corners values point)) (inlined (seeing (placed corners values reads)) flags funcs place
+    (seen_variable (environment values arguments)) pure).points
     → Hold test (loads reads values made))
     → IsSoundPure corners flags funcs place corner pure (s.Store (record { func = place; x = e.Linear x; y = e.Linear y; value = made }))
 sound_pure corners flags funcs place corner pure x y made arguments environment_is x_is y_is loads_are reads written loaded values writes all_loaded =
@@ -119,4 +135,5 @@ sound_pure corners flags funcs place corner pure x y made arguments environment_
     ∙ ap (λ (n : ℕ). written place (whole_at values place variables.FirstArgument) n) (value_linear reads values y ∙ y_is values) ∙ writes)
     (linear_passes reads values x loaded) (linear_passes reads values y loaded)
     (loads_are reads values loaded
-    (subst (λ (v : Environment). Hold (λ point. loaded (place_in corners values point)) (inlined (seeing (placed corners values reads)) flags funcs place (seen_variable v) pure).points) (sym (environment_is values)) all_loaded))
+    (subst (λ (v : Environment). Hold (λ point. loaded (place_in corners values point)) (inlined (seeing (placed corners values reads)) flags funcs place
+    (seen_variable v) pure).points) (sym (environment_is values)) all_loaded))

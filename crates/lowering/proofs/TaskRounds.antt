@@ -32,20 +32,24 @@ module _ (place : ℕ) (extents : Extents) (stage : Stage) (kept : KeepsRules st
   loops_by None e = sym (append-nil stage.loops)
   loops_by (Some own) e =
       let o = outermost stage own kept e in
-      let inside : inside_of (Some own) stage.loops ≡ o.last.inside = ap (λ (ls : List Loop). take (length ls - 1) ls) o.last.loops_are ∙ before_last o.last.inside own in
+      let inside : inside_of (Some own) stage.loops ≡ o.last.inside = ap (λ (ls : List Loop). take (length ls - 1) ls) o.last.loops_are
+      ∙ before_last o.last.inside own in
       o.last.loops_are ∙ ap (λ (ls : List Loop). ls ++ own ∷ []) (sym inside)
 
-  module _ (few : (id : LoopId) → counts extents stage.splits id < 2 ^ 25) (phase : Phase) (tasks_are : phase.tasks ≡ iteration_count extents stage) (counter_is : phase.counter ≡ counter_of place (parallel stage)) where
+  module _ (few : (id : LoopId) → counts extents stage.splits id < 2 ^ 25) (phase : Phase) (tasks_are : phase.tasks ≡ iteration_count extents stage)
+      (counter_is : phase.counter ≡ counter_of place (parallel stage)) where
     no_values_small : AllAreSmall no_values
     no_values_small counter = omega arith
 
-    task_by : (found : Option Loop) → MayBeAtOnce place (counts extents stage.splits) (outside_of found) phase.body → (task : ℕ) → task < count_of (counts extents stage.splits) found
+    task_by : (found : Option Loop) → MayBeAtOnce place (counts extents stage.splits) (outside_of found) phase.body → (task : ℕ)
+        → task < count_of (counts extents stage.splits) found
         → (reads : Reads) → may_be_at_once reads phase.body (task_values (counter_of place found) task) ≡ true
     task_by None at_once task l reads = at_once reads no_values no_values_small tt
     task_by (Some own) at_once task l reads =
         at_once reads (with (record { func = place; id = own.id }) task no_values)
         (small_with (record { func = place; id = own.id }) task no_values (omega (arith, l, few own.id)) no_values_small)
-        (subst (AreTurns (counts extents stage.splits) (own ∷ [])) (sym (loops_with place own.id task no_values)) (turns_more (counts extents stage.splits) own task l [] (loops_of place no_values) tt))
+        (subst (AreTurns (counts extents stage.splits) (own ∷ [])) (sym (loops_with place own.id task no_values)) (turns_more (counts extents stage.splits) own
+        task l [] (loops_of place no_values) tt))
 
     pub tasks_at_once : MayBeAtOnce place (counts extents stage.splits) (outside_of (parallel stage)) phase.body → RoundsMayBeAtOnce phase
     tasks_at_once at_once task below reads =

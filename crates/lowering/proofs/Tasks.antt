@@ -12,7 +12,8 @@ use Rattle.schedule.specs.declared.plans.FuncPlan.{FuncPlan}
 use Rattle.schedule.specs.declared.schedules.Schedule.{Schedule}
 use Rattle.schedule.specs.Accepted.{IsAccepted}
 use Rattle.schedule_loops.specs.declared.extents.Extents.{Extents}
-use Rattle.schedule_loops.specs.Visits.{AreSplits, counts, Visit, nest, over_loops, zeros, visit_of, visits, slice, is_slice, parallel, is_turn, iteration, iteration_count, count_of, owns}
+use Rattle.schedule_loops.specs.Visits.{AreSplits, counts, Visit, nest, over_loops, zeros, visit_of, visits, slice, is_slice, parallel, is_turn, iteration}
+use Rattle.schedule_loops.specs.Visits.{iteration_count, count_of, owns}
 use Rattle.schedule_loops.specs.Visits as loops
 use Rattle.schedule_loops.specs.Reach.{wholes}
 use Rattle.schedule_loops.specs.Stages.{IsStageOf, KeepsRules, IsVisitOf, is_slice_of}
@@ -32,7 +33,8 @@ use Rattle.loop_ir.specs.declared.statements.Stmt.{Stmt}
 use Rattle.loop_ir.specs.Running.{run, task_values, run_task}
 use Rattle.lowering_nests.proofs.Few.{few_turns}
 use Rattle.lowering.specs.Phases.{Hold, DoesTask, DoesPhase}
-use Rattle.std.proofs.Common.{◌≡◌, ℕ, suc, ◌-◌, ◌<◌, ◌≤◌, Bool, true, false, cond, List, [], ◌∷◌, ◌++◌, length, take, map, Option, Some, None, refl, sym, ap, subst, ◌∙◌, arith, inl, inr, true≢false, append-nil, length-append}
+use Rattle.std.proofs.Common.{◌≡◌, ℕ, suc, ◌-◌, ◌<◌, ◌≤◌, Bool, true, false, cond, List, [], ◌∷◌, ◌++◌, length, take, map, Option, Some, None, refl, sym, ap}
+use Rattle.std.proofs.Common.{subst, ◌∙◌, arith, inl, inr, true≢false, append-nil, length-append}
 use Rattle.std.proofs.lemmas.Bool.{and_parts, and_from, lt-ltb, eq-eqb, ne_eqb, eqb-true, cases_eq}
 use Rattle.halide_pipeline.specs.Pixel as pixel
 use Rattle.schedule.specs.declared.standings.Place.TheVariants as places
@@ -70,7 +72,8 @@ module _ (func : Func) (extents : Extents) (stage : Stage) (stage_is : IsStageOf
   listed None is number l =
       let first : number ≡ 0 = omega (arith, l) in
       ap (iteration extents stage) first
-      ∙ ap (λ (p : Option Loop). nest (counts extents stage.splits) stage.loops (λ values. cond (is_turn p 0 values) (over_loops extents stage.splits (λ whole. visit_of extents whole ∷ []) values) []) zeros) is
+      ∙ ap (λ (p : Option Loop). nest (counts extents stage.splits) stage.loops (λ values. cond (is_turn p 0 values) (over_loops extents stage.splits
+      (λ whole. visit_of extents whole ∷ []) values) []) zeros) is
       ∙ visits_of_wholes extents stage.splits stage.loops zeros
   listed (Some own) is number l =
       let o = outermost stage own legal is in
@@ -84,44 +87,55 @@ module _ (func : Func) (extents : Extents) (stage : Stage) (stage_is : IsStageOf
   before_by None number = consuming_none place
   before_by (Some loop) number = ap (with (record { func = place; id = loop.id }) number) (consuming_none place) ∙ consuming_with place loop.id number zeros
 
-  pub small_by : AreFew extents → AreSplits stage.splits → (found : Option Loop) (number : ℕ) → number < count_of (counts extents stage.splits) found → AreSmall (turned_by found number)
+  pub small_by : AreFew extents → AreSplits stage.splits → (found : Option Loop) (number : ℕ) → number < count_of (counts extents stage.splits) found
+      → AreSmall (turned_by found number)
   small_by few_so splits_so None number l = λ id. omega arith
-  small_by few_so splits_so (Some loop) number l = small_with loop.id number zeros (omega (arith, l, few_turns extents stage.splits few_so splits_so loop.id)) (λ id. omega arith)
+  small_by few_so splits_so (Some loop) number l = small_with loop.id number zeros (omega (arith, l, few_turns extents stage.splits few_so splits_so loop.id))
+      (λ id. omega arith)
 
   pub all_visits : (number : ℕ) → number < iteration_count extents stage → AllByRecursion (IsVisitOf func None extents) (iteration extents stage number)
   all_visits number l =
       all_upto (IsVisitOf func None extents) (iteration extents stage) (iteration_count extents stage)
-      (subst (λ (v : List Visit). AllByRecursion (IsVisitOf func None extents) v) (all_iterations func None extents stage stage_is legal) (visits_within func None extents stage stage_is)) number l
+      (subst (λ (v : List Visit). AllByRecursion (IsVisitOf func None extents) v) (all_iterations func None extents stage stage_is legal)
+      (visits_within func None extents stage stage_is)) number l
 
-  owned_slice : (number : ℕ) → number < iteration_count extents stage → (x y : ℕ) → owns extents stage number x y ≡ true → is_slice_of func None extents x y ≡ true
+  owned_slice : (number : ℕ) → number < iteration_count extents stage → (x y : ℕ) → owns extents stage number x y ≡ true
+      → is_slice_of func None extents x y ≡ true
   owned_slice number l x y e =
       any_gives (IsVisitOf func None extents) (is_slice_of func None extents x y ≡ true) (is_slice x y)
       (λ visit is here.
       let p = and_parts (visit.x == x) (visit.y == y) here in
-      ap (λ (n : ℕ). is_slice_of func None extents n y) (sym (eqb-true visit.x x p.0)) ∙ ap (λ (n : ℕ). is_slice_of func None extents visit.x n) (sym (eqb-true visit.y y p.1)) ∙ is.slice)
+      ap (λ (n : ℕ). is_slice_of func None extents n y) (sym (eqb-true visit.x x p.0))
+      ∙ ap (λ (n : ℕ). is_slice_of func None extents visit.x n) (sym (eqb-true visit.y y p.1)) ∙ is.slice)
       (iteration extents stage number) (all_visits number l) e
 
-  owner_is : (first owner x y : ℕ) → first < iteration_count extents stage → ((n : ℕ) → n < iteration_count extents stage → (n ≡ owner → ⊥) → slice x y (iteration extents stage n) ≡ []) → owns extents stage first x y ≡ true → first ≡ owner
+  owner_is : (first owner x y : ℕ) → first < iteration_count extents stage → ((n : ℕ) → n < iteration_count extents stage → (n ≡ owner → ⊥)
+      → slice x y (iteration extents stage n) ≡ []) → owns extents stage first x y ≡ true → first ≡ owner
   owner_is first owner x y l no_other e = elim (cases_eq first owner) [
     | inl same ↦ same
     | inr other ↦ absurd (true≢false (sym e ∙ none_kept (is_slice x y) (iteration extents stage first) (no_other first l other)))
   ]
 
-  one_owner : (x y first second : ℕ) → first < iteration_count extents stage → second < iteration_count extents stage → owns extents stage first x y ≡ true → owns extents stage second x y ≡ true → first ≡ second
+  one_owner : (x y first second : ℕ) → first < iteration_count extents stage → second < iteration_count extents stage → owns extents stage first x y ≡ true
+      → owns extents stage second x y ≡ true → first ≡ second
   one_owner x y first second lf ls ef es =
       let h = slice_owner func None extents stage stage_is legal x y (owned_slice first lf x y ef) in
       owner_is first h.owner x y lf h.no_other ef ∙ sym (owner_is second h.owner x y ls h.no_other es)
 
   -- each point is owned
-  pub some_owner : loops.shifts_fit extents stage.splits ≡ true → (x y : ℕ) → is_slice_of func None extents x y ≡ true → ((number : ℕ) → number < iteration_count extents stage → owns extents stage number x y ≡ false) → ⊥
+  pub some_owner : loops.shifts_fit extents stage.splits ≡ true → (x y : ℕ) → is_slice_of func None extents x y ≡ true
+      → ((number : ℕ) → number < iteration_count extents stage → owns extents stage number x y ≡ false) → ⊥
   some_owner fit x y there none =
       let contains = visited func extents x y there stage stage_is fit in
       let never : list_any (is_slice x y) (visits extents stage) ≡ false =
-      ap (list_any (is_slice x y)) (all_iterations func None extents stage stage_is legal) ∙ none_upto (is_slice x y) (iteration extents stage) (iteration_count extents stage) none in
-      let not_here = of_all (λ (v : Visit). is_slice x y v ≡ false) (visits extents stage) (none_passes (is_slice x y) (visits extents stage) never) (record { x = x; y = y; number = 0 }) contains in
+      ap (list_any (is_slice x y)) (all_iterations func None extents stage stage_is legal)
+      ∙ none_upto (is_slice x y) (iteration extents stage) (iteration_count extents stage) none in
+      let not_here = of_all (λ (v : Visit). is_slice x y v ≡ false) (visits extents stage) (none_passes (is_slice x y) (visits extents stage) never)
+      (record { x = x; y = y; number = 0 }) contains in
       true≢false (sym (and_from (x == x) (y == y) (eq-eqb x x refl) (eq-eqb y y refl)) ∙ not_here)
 
-module _ (pipeline : Pipeline) (schedule : Schedule) (boxes : Boxes) (rules : IsWellFormed pipeline) (accepted : IsAccepted pipeline schedule) (is : inferred pipeline schedule ≡ Ok boxes)
+module _ (pipeline : Pipeline) (schedule : Schedule) (boxes : Boxes) (rules : IsWellFormed pipeline) (accepted : IsAccepted pipeline schedule)
+    (is : inferred pipeline schedule ≡ Ok boxes)
     (place : ℕ) (func : Func) (plan : FuncPlan) (own : SourceBox) (at : IsAtRoot pipeline schedule boxes place func plan own)
     (store : Stmt) (store_of : IsStoreOf pipeline schedule boxes places.Root place func own store)
     (phase : Phase) (tasks_are : phase.tasks ≡ iteration_count (extents_of own) plan.pure) (counter_is : phase.counter ≡ counter_of place (parallel plan.pure))
@@ -188,7 +202,8 @@ module _ (pipeline : Pipeline) (schedule : Schedule) (boxes : Boxes) (rules : Is
 
     ran : (funcs : Planes) → run_task points inputs phase number funcs ≡ run points inputs phase.body (consuming place turned) funcs
     ran funcs =
-        ap (λ (c : Option Counter). run points inputs phase.body (task_values c number) funcs) counter_is ∙ ap (λ (v : Values). run points inputs phase.body v funcs) (before_by func extents stage stage_facts.0 stage_facts.1 place (parallel stage) number)
+        ap (λ (c : Option Counter). run points inputs phase.body (task_values c number) funcs) counter_is
+        ∙ ap (λ (v : Values). run points inputs phase.body v funcs) (before_by func extents stage stage_facts.0 stage_facts.1 place (parallel stage) number)
 
     abbrev IsVisited : loops.Values → Type 0
     IsVisited inner = IsVisitOf func None extents (visit_of extents inner)
@@ -196,7 +211,8 @@ module _ (pipeline : Pipeline) (schedule : Schedule) (boxes : Boxes) (rules : Is
     all_visited : AllByRecursion IsVisited list
     all_visited =
         all_map (IsVisitOf func None extents) IsVisited (visit_of extents) (λ inner v. v) list
-        (subst (λ (l : List Visit). AllByRecursion (IsVisitOf func None extents) l) visits_are (all_visits func extents stage stage_facts.0 stage_facts.1 place number below_count))
+        (subst (λ (l : List Visit). AllByRecursion (IsVisitOf func None extents) l) visits_are (all_visits func extents stage stage_facts.0 stage_facts.1 place
+        number below_count))
 
     owned_is : (x y : ℕ) → owns extents stage number x y ≡ list_any (hits x y) list
     owned_is x y = ap (list_any (is_slice x y)) visits_are ∙ any_map (is_slice x y) (visit_of extents) list
@@ -209,8 +225,10 @@ module _ (pipeline : Pipeline) (schedule : Schedule) (boxes : Boxes) (rules : Is
       begins : (inner : ℕ) → length stage.loops ≤ inner → (values : loops.Values) → State inner values funcs
       begins inner most values = record {
         shared = λ k standing before there root box box_is x y lx ly.
-            let inside : points k x y ≡ true = rw box_is (and_from (nat_lt x (extent box.x)) (nat_lt y (extent box.y)) (lt-ltb x (extent box.x) lx) (lt-ltb y (extent box.y) ly)) in
-            let held_so : start k x y ≡ pixels pipeline.funcs inputs place k (word.add (word_at box.x.low) x) (word.add (word_at box.y.low) y) = rw box_is refl in
+            let inside : points k x y ≡ true = rw box_is (and_from (nat_lt x (extent box.x)) (nat_lt y (extent box.y)) (lt-ltb x (extent box.x) lx)
+            (lt-ltb y (extent box.y) ly)) in
+            let held_so : start k x y ≡ pixels pipeline.funcs inputs place k (word.add (word_at box.x.low) x) (word.add (word_at box.y.low) y) =
+            rw box_is refl in
             hold k x y (shared k standing there root) inside (λ e. absurd (omega (arith, e, before))) ∙ held_so
             ∙ ap (λ (n : ℕ). pixels pipeline.funcs inputs place k (word.add n x) (word.add (word_at box.y.low) y)) (sym (first_none box.x))
             ∙ ap (λ (n : ℕ). pixels pipeline.funcs inputs place k (word.add (first_of box.x no_loops) x) (word.add n y)) (sym (first_none box.y));
@@ -218,7 +236,8 @@ module _ (pipeline : Pipeline) (schedule : Schedule) (boxes : Boxes) (rules : Is
             absurd (omega (arith, further, most, consumers.few_inside pipeline schedule boxes rules accepted is place func plan own at inputs begun k loop h));
       }
 
-      public_outer : (inner k : ℕ) → is_private k ≡ false → consumers.IsOuter pipeline schedule boxes rules accepted is place func plan own at inputs begun inner k
+      public_outer : (inner k : ℕ) → is_private k ≡ false → consumers.IsOuter pipeline schedule boxes rules accepted is place func plan own at inputs begun
+          inner k
       public_outer inner k public_so loop h = absurd (true≢false (sym (produced_private k h.standing loop h.there h.placed_is h.same) ∙ public_so))
 
       record Done (list : List loops.Values) (after : Planes) : Type 0 where
@@ -229,30 +248,49 @@ module _ (pipeline : Pipeline) (schedule : Schedule) (boxes : Boxes) (rules : Is
       DoesLoops = consumers.DoesLoops pipeline schedule boxes rules accepted is place func plan own at inputs begun store store_of
 
       inner_does : DoesLoops (inside_of (parallel stage) stage.loops) body.inner
-      inner_does = consumers.all_loops pipeline schedule boxes rules accepted is place func plan own at inputs begun store store_of body.leaf body.bound (inside_of (parallel stage) stage.loops) body.inner body.looped
+      inner_does = consumers.all_loops pipeline schedule boxes rules accepted is place func plan own at inputs begun store store_of body.leaf body.bound
+          (inside_of (parallel stage) stage.loops) body.inner body.looped
 
-      done_by : (found : Option Loop) → parallel stage ≡ found → number < count_of (counts extents stage.splits) found → (inner made : Stmt) → HasOutermost pipeline schedule boxes place found inner made
+      done_by : (found : Option Loop) → parallel stage ≡ found → number < count_of (counts extents stage.splits) found → (inner made : Stmt)
+          → HasOutermost pipeline schedule boxes place found inner made
           → DoesLoops (inside_of found stage.loops) inner
-          → AllByRecursion IsVisited (wholes extents stage.splits (inside_of found stage.loops) (turned_by func extents stage stage_facts.0 stage_facts.1 place found number))
+          → AllByRecursion IsVisited (wholes extents stage.splits (inside_of found stage.loops) (turned_by func extents stage stage_facts.0 stage_facts.1 place
+          found number))
           → Done (wholes extents stage.splits (inside_of found stage.loops) (turned_by func extents stage stage_facts.0 stage_facts.1 place found number))
           (run points inputs made (consuming place (turned_by func extents stage stage_facts.0 stage_facts.1 place found number)) funcs)
       done_by None e l inner made same does visited =
-          let d = does [] (sym (append-nil stage.loops)) zeros (small_by func extents stage stage_facts.0 stage_facts.1 place (few pipeline schedule boxes place func plan own accepted is places.Root tt at) (splits pipeline schedule boxes place func plan own accepted is places.Root tt at) None number l) tt visited funcs (begins (length stage.loops) (omega arith) zeros) in
+          let d = does [] (sym (append-nil stage.loops)) zeros (small_by func extents stage stage_facts.0 stage_facts.1 place (few pipeline schedule boxes place
+          func plan own accepted is places.Root tt at) (splits pipeline schedule boxes place func plan own accepted is places.Root tt at) None number l) tt
+          visited funcs (begins (length stage.loops) (omega arith) zeros) in
           record {
             there = λ x y t. ap (λ (s : Stmt). run points inputs s (consuming place zeros) funcs place x y) same ∙ d.there x y t;
-            keeps = λ k x y public_so free. ap (λ (s : Stmt). run points inputs s (consuming place zeros) funcs k x y) same ∙ d.keeps k x y (public_outer (length stage.loops) k public_so) free;
+            keeps = λ k x y public_so free. ap (λ (s : Stmt). run points inputs s (consuming place zeros) funcs k x y) same
+                ∙ d.keeps k x y (public_outer (length stage.loops) k public_so) free;
           }
       done_by (Some loop) e l inner made nested does visited =
           let o = outermost stage loop stage_facts.1 e in
           let inside = o.last.inside in
-          let same : inside_of (Some loop) stage.loops ≡ inside = inside_last func extents stage stage_facts.0 stage_facts.1 place loop inside o.last.loops_are in
+          let same : inside_of (Some loop) stage.loops ≡ inside = inside_last func extents stage stage_facts.0 stage_facts.1 place loop inside o.last.loops_are
+          in
           let values = loops.with loop.id number zeros in
           let most : length stage.loops ≤ suc (length inside) = omega (arith, ap length o.last.loops_are, length-append inside (loop ∷ [])) in
-          let turns : AreTurns (counts extents stage.splits) (loop ∷ []) values = (subst (λ (n : ℕ). n < counts extents stage.splits loop.id) (sym (with_same loop.id number zeros)) l, tt) in
-          let there = consumers.turn_there pipeline schedule boxes rules accepted is place func plan own at inputs begun store store_of inside loop inner made nested (subst (λ (ls : List Loop). DoesLoops ls inner) same does) [] o.last.loops_are
-          values (small_by func extents stage stage_facts.0 stage_facts.1 place (few pipeline schedule boxes place func plan own accepted is places.Root tt at) (splits pipeline schedule boxes place func plan own accepted is places.Root tt at) (Some loop) number l) turns (subst (λ (ls : List Loop). AllByRecursion IsVisited (wholes extents stage.splits ls values)) same visited) funcs (begins (suc (length inside)) most values) in
-          let keeps = consumers.turn_keeps pipeline schedule boxes rules accepted is place func plan own at inputs begun store store_of inside loop inner made nested (subst (λ (ls : List Loop). DoesLoops ls inner) same does) [] o.last.loops_are
-          values (small_by func extents stage stage_facts.0 stage_facts.1 place (few pipeline schedule boxes place func plan own accepted is places.Root tt at) (splits pipeline schedule boxes place func plan own accepted is places.Root tt at) (Some loop) number l) turns (subst (λ (ls : List Loop). AllByRecursion IsVisited (wholes extents stage.splits ls values)) same visited) funcs (begins (suc (length inside)) most values) in
+          let turns : AreTurns (counts extents stage.splits) (loop ∷ []) values = (
+            subst (λ (n : ℕ). n < counts extents stage.splits loop.id)
+                (sym (with_same loop.id number zeros)) l,
+            tt,
+          ) in
+          let there = consumers.turn_there pipeline schedule boxes rules accepted is place func plan own at inputs begun store store_of inside loop inner made
+          nested (subst (λ (ls : List Loop). DoesLoops ls inner) same does) [] o.last.loops_are
+          values (small_by func extents stage stage_facts.0 stage_facts.1 place (few pipeline schedule boxes place func plan own accepted is places.Root tt at)
+          (splits pipeline schedule boxes place func plan own accepted is places.Root tt at) (Some loop) number l) turns
+          (subst (λ (ls : List Loop). AllByRecursion IsVisited (wholes extents stage.splits ls values)) same visited) funcs (begins (suc (length inside))
+          most values) in
+          let keeps = consumers.turn_keeps pipeline schedule boxes rules accepted is place func plan own at inputs begun store store_of inside loop inner made
+          nested (subst (λ (ls : List Loop). DoesLoops ls inner) same does) [] o.last.loops_are
+          values (small_by func extents stage stage_facts.0 stage_facts.1 place (few pipeline schedule boxes place func plan own accepted is places.Root tt at)
+          (splits pipeline schedule boxes place func plan own accepted is places.Root tt at) (Some loop) number l) turns
+          (subst (λ (ls : List Loop). AllByRecursion IsVisited (wholes extents stage.splits ls values)) same visited) funcs (begins (suc (length inside))
+          most values) in
           subst (λ (ls : List Loop). Done (wholes extents stage.splits ls values) (run points inputs made (consuming place values) funcs)) (sym same)
           (record { there = there; keeps = λ k x y public_so free. keeps k x y (public_outer (suc (length inside)) k public_so) free })
 
@@ -262,7 +300,8 @@ module _ (pipeline : Pipeline) (schedule : Schedule) (boxes : Boxes) (rules : Is
       task_does : (x y : ℕ) → owns extents stage number x y ≡ true → run_task points inputs phase number funcs place x y ≡ result place x y
       task_does x y e = ap (λ (f : Planes). f place x y) (ran funcs) ∙ done.there x y (sym (owned_is x y) ∙ e) ∙ plane_is x y
 
-      task_keeps : (other x y : ℕ) → is_private other ≡ false → (other ≡ place → owns extents stage number x y ≡ false) → run_task points inputs phase number funcs other x y ≡ funcs other x y
+      task_keeps : (other x y : ℕ) → is_private other ≡ false → (other ≡ place → owns extents stage number x y ≡ false)
+          → run_task points inputs phase number funcs other x y ≡ funcs other x y
       task_keeps other x y public_so free = ap (λ (f : Planes). f other x y) (ran funcs) ∙ done.keeps other x y public_so (λ e. sym (owned_is x y) ∙ free e)
 
     owned_there : (x y : ℕ) → owns extents stage number x y ≡ true → points place x y ≡ true
@@ -287,9 +326,11 @@ module _ (pipeline : Pipeline) (schedule : Schedule) (boxes : Boxes) (rules : Is
   does_phase = record {
     not_private = shared place at.standing at.there at.placed_is;
     each = task;
-    one_owner = λ x y first second lf ls ef es. one_owner func extents stage stage_facts.0 stage_facts.1 place x y first second (in_count first lf) (in_count second ls) ef es;
+    one_owner = λ x y first second lf ls ef es. one_owner func extents stage stage_facts.0 stage_facts.1 place x y first second (in_count first lf)
+        (in_count second ls) ef es;
     unowned = λ x y there none.
-        absurd (some_owner func extents stage stage_facts.0 stage_facts.1 place (fits pipeline schedule boxes place func plan own accepted is places.Root tt at) x y
+        absurd (some_owner func extents stage stage_facts.0 stage_facts.1 place (fits pipeline schedule boxes place func plan own accepted is places.Root tt at)
+        x y
         (slice_there pipeline schedule boxes rules accepted is places.Root place func plan own tt at x y there)
         (λ number l. none number (subst (λ (n : ℕ). number < n) (sym tasks_are) l)));
     others = result_other;

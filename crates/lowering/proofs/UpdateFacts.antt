@@ -9,7 +9,8 @@ use Rattle.halide_pipeline.specs.declared.definitions.Reduction.{Reduction}
 use Rattle.halide_pipeline.specs.declared.definitions.Update.{Update}
 use Rattle.halide_pipeline.specs.declared.expressions.Expr.{Expr}
 use Rattle.halide_pipeline.specs.declared.expressions.Variable.TheVariants as variables
-use Rattle.halide_pipeline.specs.WellFormed.{dimensions, is_first_in_place, is_second, is_second_in_place, IsWellFormed, IsUpdate, is_width, is_height, is_box, keeps_index, is_read, is_update_variable, most_points}
+use Rattle.halide_pipeline.specs.WellFormed.{dimensions, is_first_in_place, is_second, is_second_in_place, IsWellFormed, IsUpdate, is_width, is_height, is_box}
+use Rattle.halide_pipeline.specs.WellFormed.{keeps_index, is_read, is_update_variable, most_points}
 use Rattle.halide_pipeline.specs.WellFormed as formed
 use Rattle.halide_pipeline.specs.Pixel.{points, second_extent}
 use Rattle.schedule_lines.specs.declared.stages.Loop.{Loop}
@@ -28,9 +29,11 @@ module _ (func : Func) (update : Update) where
   Tests =
       (has_variable variables.FirstArgument start ≡ is_first_in_place update)
       × ((is_second_in_place update ≡ false → has_variable variables.SecondArgument start ≡ false)
-      × ((has_variable variables.FirstReduction start ≡ true) × (cond (has_variable variables.SecondReduction start) (second_extent update.second) 1 ≡ second_extent update.second)))
+      × ((has_variable variables.FirstReduction start ≡ true) × (cond (has_variable variables.SecondReduction start) (second_extent update.second) 1
+      ≡ second_extent update.second)))
 
-  tests_by : (first second : Bool) → is_first_in_place update ≡ first → is_second_in_place update ≡ second → (name : Option (List ℕ)) → func.second_argument ≡ name → (reduction : Option Reduction) → update.second ≡ reduction → Tests
+  tests_by : (first second : Bool) → is_first_in_place update ≡ first → is_second_in_place update ≡ second → (name : Option (List ℕ))
+      → func.second_argument ≡ name → (reduction : Option Reduction) → update.second ≡ reduction → Tests
   tests_by true true ef es None en None er = rw (ef, es, en, er) (refl, (λ e. absurd cc, (refl, refl)))
   tests_by true true ef es (Some n) en None er = rw (ef, es, en, er) (refl, (λ e. absurd cc, (refl, refl)))
   tests_by true true ef es None en (Some r) er = rw (ef, es, en, er) (refl, (λ e. absurd cc, (refl, refl)))
@@ -68,7 +71,8 @@ module _ (func : Func) (update : Update) where
       turned : (a b : ℕ) → a * b ≡ b * a
       turned a b = omega arith
 
-  second_by : (first : Bool) → is_first_in_place update ≡ first → (name : List ℕ) → func.second_argument ≡ Some name → (reduction : Option Reduction) → update.second ≡ reduction
+  second_by : (first : Bool) → is_first_in_place update ≡ first → (name : List ℕ) → func.second_argument ≡ Some name → (reduction : Option Reduction)
+      → update.second ≡ reduction
       → is_second_in_place update ≡ true → has_variable variables.SecondArgument start ≡ true
   second_by true ef name en None er es = rw (ef, es, en, er) refl
   second_by true ef name en (Some r) er es = rw (ef, es, en, er) refl
@@ -76,10 +80,12 @@ module _ (func : Func) (update : Update) where
   second_by false ef name en (Some r) er es = rw (ef, es, en, er) refl
 
   -- a second argument in place is there
-  pub second_there : (inputs : List Input) (funcs : List Func) (place : ℕ) → IsUpdate inputs funcs place (dimensions func) update → is_second_in_place update ≡ true → has_variable variables.SecondArgument start ≡ true
+  pub second_there : (inputs : List Input) (funcs : List Func) (place : ℕ) → IsUpdate inputs funcs place (dimensions func) update
+      → is_second_in_place update ≡ true → has_variable variables.SecondArgument start ≡ true
   second_there inputs funcs place rules es = by_name func.second_argument refl update.left_y refl
     where
-      by_name : (name : Option (List ℕ)) → func.second_argument ≡ name → (index : Option Expr) → update.left_y ≡ index → has_variable variables.SecondArgument start ≡ true
+      by_name : (name : Option (List ℕ)) → func.second_argument ≡ name → (index : Option Expr) → update.left_y ≡ index
+          → has_variable variables.SecondArgument start ≡ true
       by_name (Some name) en index ei = second_by (is_first_in_place update) refl name en update.second refl es
       by_name None en None ei = let wrong : false ≡ true = sym (ap is_second ei) ∙ es in absurd cc
       by_name None en (Some index) ei =

@@ -38,7 +38,8 @@ use Rattle.lowering.specs.Corners.{first_of, turns_for, IsCorner, AreCorners}
 use Rattle.lowering.specs.Consuming.{consuming, Leaves, DoesFirst, DoesNest, DoesNests, IsSoundNest}
 use Rattle.lowering.specs.Planes.{box_points}
 use Rattle.bounds.specs.Stages.{IsComputedAt}
-use Rattle.lowering.specs.Updates.{IsComputedIn, IsUpdateAt, IsCornerAt, IsBegin, ReadsPixels, LoadsOthers, DoesUpdate, AreSoundLoops, produced_turns, consumer_at}
+use Rattle.lowering.specs.Updates.{IsComputedIn, IsUpdateAt, IsCornerAt, IsBegin, ReadsPixels, LoadsOthers, DoesUpdate, AreSoundLoops, produced_turns}
+use Rattle.lowering.specs.Updates.{consumer_at}
 use Rattle.lowering.specs.Updates as updates
 use Rattle.lowering.proofs.Facts as facts
 use Rattle.lowering.proofs.Facts.{is_box, produced_before}
@@ -72,7 +73,8 @@ unfolding word.add
 add_none n few = omega (arith, few)
 
 module _ (pipeline : Pipeline) (schedule : Schedule) (boxes : Boxes) (accepted : IsAccepted pipeline schedule) (is : inferred pipeline schedule ≡ Ok boxes)
-    (loop : LoopPlace) (place : ℕ) (func : Func) (plan : FuncPlan) (own : SourceBox) (parts : IsComputedAt pipeline schedule boxes (places.At loop) place func plan own) where
+    (loop : LoopPlace) (place : ℕ) (func : Func) (plan : FuncPlan) (own : SourceBox) (parts : IsComputedAt pipeline schedule boxes (places.At loop) place func
+    plan own) where
   here : place < loop.func
   here = produced_before pipeline schedule accepted place parts.standing parts.there loop parts.placed_is
 
@@ -94,15 +96,18 @@ module _ (pipeline : Pipeline) (schedule : Schedule) (boxes : Boxes) (accepted :
       let c = corner_at schedule.funcs boxes.funcs schedule.standings corners place (Some own) parts.standing are parts.box_is parts.there.standing in
       record { value = c.corner; is = c.there }
 
-  corner_so : (corners : List Corner) → AreCorners schedule.funcs boxes.funcs schedule.standings corners → (corner : Corner) → slice_get corners place ≡ Some corner → IsCorner schedule.funcs (places.At loop) own corner
+  corner_so : (corners : List Corner) → AreCorners schedule.funcs boxes.funcs schedule.standings corners → (corner : Corner)
+      → slice_get corners place ≡ Some corner → IsCorner schedule.funcs (places.At loop) own corner
   corner_so corners are corner there =
       let c = corner_at schedule.funcs boxes.funcs schedule.standings corners place (Some own) parts.standing are parts.box_is parts.there.standing in
       let same : c.corner ≡ corner = let e = c.there in cc in
-      subst (λ (k : Corner). IsCorner schedule.funcs (places.At loop) own k) same (subst (λ (p : Place). IsCorner schedule.funcs p own c.corner) parts.placed_is c.is)
+      subst (λ (k : Corner). IsCorner schedule.funcs (places.At loop) own k) same (subst (λ (p : Place). IsCorner schedule.funcs p own c.corner) parts.placed_is
+      c.is)
 
   pub stage_there : (at : ℕ) (update : Update) → slice_get func.updates at ≡ Some update → IsSome (slice_get plan.updates at)
   stage_there at update found =
-      pair_there (IsUpdateStage func) func.updates plan.updates at update (pair_at IsPlan pipeline.funcs schedule.funcs place func plan accepted.plans parts.func_is parts.plan_is).updates found
+      pair_there (IsUpdateStage func) func.updates plan.updates at update (pair_at IsPlan pipeline.funcs schedule.funcs place func plan accepted.plans
+      parts.func_is parts.plan_is).updates found
 
   -- ---- one more stage
 
@@ -111,7 +116,8 @@ module _ (pipeline : Pipeline) (schedule : Schedule) (boxes : Boxes) (accepted :
       facts.lasts_are pipeline schedule boxes place func plan own accepted is (places.At loop) here parts
       ∙ ap (λ (p : Place). lasts_of (consumer_in schedule boxes.funcs p)) (sym parts.placed_is)
 
-  module _ (corners : List Corner) (are : AreCorners schedule.funcs boxes.funcs schedule.standings corners) (corner : Corner) (corner_is : slice_get corners place ≡ Some corner) where
+  module _ (corners : List Corner) (are : AreCorners schedule.funcs boxes.funcs schedule.standings corners) (corner : Corner) (corner_is : slice_get corners
+      place ≡ Some corner) where
     -- while loops of the consumer are in these turns
     module _ (turned : loops.Values) (below : Below (turns_for schedule.funcs (places.At loop) (consuming loop.func turned)) own.lasts) where
       abbrev counters : Values
@@ -136,12 +142,15 @@ module _ (pipeline : Pipeline) (schedule : Schedule) (boxes : Boxes) (accepted :
       begins =
           subst (λ (l : List ℕ). IsBegin l own begin) (sym turns_so)
           (record {
-            x = subst (λ (n : ℕ). IsFrom values own.x 0 n) (add_none (first_of own.x values) (first_small own.x values)) (from_first_on own.lasts values own.x 0 box_facts.x below (omega (arith, box_facts.x.ordered)));
-            y = subst (λ (n : ℕ). IsFrom values own.y 0 n) (add_none (first_of own.y values) (first_small own.y values)) (from_first_on own.lasts values own.y 0 box_facts.y below (omega (arith, box_facts.y.ordered)));
+            x = subst (λ (n : ℕ). IsFrom values own.x 0 n) (add_none (first_of own.x values) (first_small own.x values)) (from_first_on own.lasts values own.x 0
+                box_facts.x below (omega (arith, box_facts.x.ordered)));
+            y = subst (λ (n : ℕ). IsFrom values own.y 0 n) (add_none (first_of own.y values) (first_small own.y values)) (from_first_on own.lasts values own.y 0
+                box_facts.y below (omega (arith, box_facts.y.ordered)));
           })
 
       turns_stay : (inner : loops.Values) → turns_for schedule.funcs (places.At loop) (put_loops place inner counters) ≡ values
-      turns_stay inner = turns_by loop (slice_get schedule.funcs loop.func) (put_loops place inner counters) counters (loops_put_other place loop.func inner counters (λ e. omega (arith, e, here)))
+      turns_stay inner = turns_by loop (slice_get schedule.funcs loop.func) (put_loops place inner counters) counters (loops_put_other place loop.func inner
+          counters (λ e. omega (arith, e, here)))
 
       begins_at : IsCornerAt place counters corner begin
       begins_at inner =
@@ -154,38 +163,56 @@ module _ (pipeline : Pipeline) (schedule : Schedule) (boxes : Boxes) (accepted :
       not_begun : (id : LoopId) → loops_of place counters id ≡ 0
       not_begun id = ap (λ (t : loops.Values). t id) (no_other_loops loop.func place turned (λ e. omega (arith, e, here)))
 
-    module _ (at : ℕ) (update : Update) (update_is : slice_get func.updates at ≡ Some update) (first next made : Stmt) (both : DoesFirst (Some first) next made) where
-      pub one_more_stage : DoesNests pipeline schedule boxes loop place func own at first → DoesUpdate pipeline schedule boxes corners place func corner own at update next
-          → DoesNests pipeline schedule boxes loop place func own (suc at) made
-      one_more_stage does goes_on inputs begun turned below funcs answered all_answered =
-          let points = box_points boxes.funcs in
-          let between = run points inputs first (counters turned below) funcs in
-          let left : Leaves place own (values turned below) (stage place func inputs (pixels pipeline.funcs inputs place) at) funcs between = does inputs begun turned below funcs answered all_answered in
-          let reads : ReadsPixels pipeline schedule corners place update (values turned below) own inputs (counters turned below) between = λ inner number x y few lies plane words.
-          all_answered corners are (put_loops place inner (counters turned below)) (loops_stay turned below inner) between left.keeps at update update_is number x y few lies plane words in
-          let after : updates.Leaves place own (updates.stage_from pipeline inputs place func (begin turned below) (suc at)) between (run points inputs next (counters turned below) between) =
-          goes_on inputs begun parts.standing parts.there (values turned below) (below_so turned below) (begin turned below) (begins turned below) (counters turned below) (begins_at turned below) (not_begun turned below) between
-          (subst (λ (l : List ℕ). ReadsPixels pipeline schedule corners place update l own inputs (counters turned below) between) (sym (turns_so turned below)) reads)
-          (λ x y there.
-          let p = and_parts (nat_lt x (extent own.x)) (nat_lt y (extent own.y)) there in
-          left.holds x y (ltb-true x (extent own.x) p.0) (ltb-true y (extent own.y) p.1)) in
-          let ran : run points inputs made (counters turned below) funcs ≡ run points inputs next (counters turned below) between = both.runs points inputs (counters turned below) funcs in
-          record {
-            holds = λ x y lx ly.
-                ap (λ (f : Planes). f place x y) ran
-                ∙ after.does x y (and_from (nat_lt x (extent own.x)) (nat_lt y (extent own.y)) (lt-ltb x (extent own.x) lx) (lt-ltb y (extent own.y) ly));
-            keeps = λ other x y d. ap (λ (f : Planes). f other x y) ran ∙ (after.keeps other x y (λ e. absurd (d e)) ∙ left.keeps other x y d);
-          }
+    module _ (at : ℕ) (update : Update) (update_is : slice_get func.updates at ≡ Some update) (first next made : Stmt) (both : DoesFirst (Some first) next made)
+      where
+        pub one_more_stage : DoesNests pipeline schedule boxes loop place func own at first
+            → DoesUpdate pipeline schedule boxes corners place func corner own at
+            update next
+            → DoesNests pipeline schedule boxes loop place func own (suc at) made
+        one_more_stage does goes_on inputs begun turned below funcs answered all_answered =
+            let points = box_points boxes.funcs in
+            let between = run points inputs first (counters turned below) funcs in
+            let left : Leaves place own (values turned below) (stage place func inputs (pixels pipeline.funcs inputs place) at) funcs between =
+            does inputs begun turned below funcs answered all_answered in
+            let reads : ReadsPixels pipeline schedule corners place update (values turned below) own inputs (counters turned below) between =
+            λ inner number x y few lies plane words.
+            all_answered corners are (put_loops place inner (counters turned below)) (loops_stay turned below inner) between left.keeps at update update_is
+            number
+            x y few lies plane words in
+            let after : updates.Leaves place own (updates.stage_from pipeline inputs place func (begin turned below) (suc at)) between
+            (run points inputs next (counters turned below) between) =
+            goes_on inputs begun parts.standing parts.there (values turned below) (below_so turned below) (begin turned below) (begins turned below)
+            (counters turned below) (begins_at turned below) (not_begun turned below) between
+            (subst (λ (l : List ℕ). ReadsPixels pipeline schedule corners place update l own inputs (counters turned below) between)
+            (sym (turns_so turned below))
+            reads)
+            (λ x y there.
+            let p = and_parts (nat_lt x (extent own.x)) (nat_lt y (extent own.y)) there in
+            left.holds x y (ltb-true x (extent own.x) p.0) (ltb-true y (extent own.y) p.1)) in
+            let ran : run points inputs made (counters turned below) funcs ≡ run points inputs next (counters turned below) between =
+            both.runs points inputs (counters turned below) funcs in
+            record {
+              holds = λ x y lx ly.
+                  ap (λ (f : Planes). f place x y) ran
+                  ∙ after.does x y (and_from (nat_lt x (extent own.x)) (nat_lt y (extent own.y)) (lt-ltb x (extent own.x) lx) (lt-ltb y (extent own.y) ly));
+              keeps = λ other x y d. ap (λ (f : Planes). f other x y) ran ∙ (after.keeps other x y (λ e. absurd (d e)) ∙ left.keeps other x y d);
+            }
 
-      pub one_more_sound : IsSoundNest pipeline schedule boxes loop place func own first → AreSoundLoops pipeline schedule boxes corners place corner own update next
-          → IsSoundNest pipeline schedule boxes loop place func own made
-      one_more_sound first_sound next_sound reads words written loaded turned below may =
-          let loads : LoadsOthers pipeline schedule corners place update (values turned below) own reads loaded (counters turned below) = λ inner number x y few lies.
-          may.updates corners are (put_loops place inner (counters turned below)) (loops_stay turned below inner) at update update_is number x y few lies in
-          both.sound reads written loaded (counters turned below)
-          ∙ and_from (is_sound reads written loaded first (counters turned below)) (is_sound reads written loaded next (counters turned below)) (first_sound reads words written loaded turned below may)
-          (next_sound reads words written loaded may.writes may.loads parts.standing parts.there (values turned below) (below_so turned below) (begin turned below) (begins turned below) (counters turned below)
-          (begins_at turned below) (not_begun turned below) (subst (λ (l : List ℕ). LoadsOthers pipeline schedule corners place update l own reads loaded (counters turned below)) (sym (turns_so turned below)) loads))
+        pub one_more_sound : IsSoundNest pipeline schedule boxes loop place func own first
+            → AreSoundLoops pipeline schedule boxes corners place corner own update
+            next
+            → IsSoundNest pipeline schedule boxes loop place func own made
+        one_more_sound first_sound next_sound reads words written loaded turned below may =
+            let loads : LoadsOthers pipeline schedule corners place update (values turned below) own reads loaded (counters turned below) =
+            λ inner number x y few lies.
+            may.updates corners are (put_loops place inner (counters turned below)) (loops_stay turned below inner) at update update_is number x y few lies in
+            both.sound reads written loaded (counters turned below)
+            ∙ and_from (is_sound reads written loaded first (counters turned below)) (is_sound reads written loaded next (counters turned below))
+            (first_sound reads words written loaded turned below may)
+            (next_sound reads words written loaded may.writes may.loads parts.standing parts.there (values turned below) (below_so turned below)
+            (begin turned below) (begins turned below) (counters turned below)
+            (begins_at turned below) (not_begun turned below) (subst (λ (l : List ℕ). LoadsOthers pipeline schedule corners place update l own reads loaded
+            (counters turned below)) (sym (turns_so turned below)) loads))
 
   -- the pure definition alone
   pub pure_stage : (made : Stmt) → DoesNest pipeline schedule boxes loop place func own 0 made → DoesNests pipeline schedule boxes loop place func own 0 made
@@ -193,10 +220,12 @@ module _ (pipeline : Pipeline) (schedule : Schedule) (boxes : Boxes) (accepted :
 
 -- ---- for the code
 
-pub same_corners : (plans plans' : List FuncPlan) (own own' : List (Option SourceBox)) (standings standings' : List Standing) (corners : List Corner) → plans' ≡ plans → own' ≡ own → standings' ≡ standings
+pub same_corners : (plans plans' : List FuncPlan) (own own' : List (Option SourceBox)) (standings standings' : List Standing) (corners : List Corner)
+    → plans' ≡ plans → own' ≡ own → standings' ≡ standings
     → AreCorners plans' own' standings' corners → AreCorners plans own standings corners
 same_corners plans plans' own own' standings standings' corners p o s are =
-    subst (λ (l : List FuncPlan). AreCorners l own standings corners) p (subst (λ (l : List (Option SourceBox)). AreCorners plans' l standings corners) o (subst (λ (l : List Standing). AreCorners plans' own' l corners) s are))
+    subst (λ (l : List FuncPlan). AreCorners l own standings corners) p (subst (λ (l : List (Option SourceBox)). AreCorners plans' l standings corners) o
+    (subst (λ (l : List Standing). AreCorners plans' own' l corners) s are))
 
 pub nothing_there : {A : Type 0} (found : Option A) → IsSome found → None ≡ found → ⊥
 nothing_there found some e = let is = some.is in absurd cc

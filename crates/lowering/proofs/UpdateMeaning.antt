@@ -10,7 +10,8 @@ use Rattle.halide_pipeline.specs.declared.expressions.Source.{Source}
 use Rattle.halide_pipeline.specs.declared.expressions.Source.TheVariants as sources
 use Rattle.halide_pipeline.specs.declared.expressions.Variable.{Variable}
 use Rattle.halide_pipeline.specs.declared.expressions.Variable.TheVariants as variables
-use Rattle.halide_pipeline.specs.WellFormed.{dimensions, is_first_in_place, is_second_in_place, keeps, keeps_index, is_read, is_func_of, is_update_variable, is_used, is_used_in, IsWellFormed, IsUpdate}
+use Rattle.halide_pipeline.specs.WellFormed.{dimensions, is_first_in_place, is_second_in_place, keeps, keeps_index, is_read, is_func_of, is_update_variable}
+use Rattle.halide_pipeline.specs.WellFormed.{is_used, is_used_in, IsWellFormed, IsUpdate}
 use Rattle.halide_pipeline.specs.Expressions.{uses}
 use Rattle.halide_pipeline.specs.Pipelines.{Pipeline}
 use Rattle.halide_pipeline.specs.declared.environments.Environment.{Environment}
@@ -53,7 +54,8 @@ used_in_place true used rule is = refl
 used_in_place false true rule is = absurd cc
 used_in_place false false rule is = absurd cc
 
-module _ (update : Update) (first_rule : (is_first_in_place update || not (is_used variables.FirstArgument update)) ≡ true) (second_rule : (is_second_in_place update || not (is_used variables.SecondArgument update)) ≡ true)
+module _ (update : Update) (first_rule : (is_first_in_place update || not (is_used variables.FirstArgument update)) ≡ true)
+    (second_rule : (is_second_in_place update || not (is_used variables.SecondArgument update)) ≡ true)
     (number x y i j : ℕ) (first : is_first_in_place update ≡ true → i ≡ x) (second : is_second_in_place update ≡ true → j ≡ y) where
   variables_same : (v : Variable) → is_used v update ≡ true → variable (at_reduction update number i j) v ≡ variable (at_reduction update number x y) v
   variables_same variables.FirstArgument used = first (used_in_place (is_first_in_place update) (is_used variables.FirstArgument update) first_rule used)
@@ -64,15 +66,19 @@ module _ (update : Update) (first_rule : (is_first_in_place update || not (is_us
   pub left_same : (reads : Reads) → value reads (at_reduction update number i j) update.left_x ≡ value reads (at_reduction update number x y) update.left_x
   left_same reads =
       same_value reads (at_reduction update number i j) (at_reduction update number x y) update.left_x
-      (λ v e. variables_same v (or_left (uses v update.left_x || is_used_in v update.left_y) (uses v update.right) (or_left (uses v update.left_x) (is_used_in v update.left_y) e)))
+      (λ v e. variables_same v (or_left (uses v update.left_x || is_used_in v update.left_y) (uses v update.right) (or_left (uses v update.left_x)
+      (is_used_in v update.left_y) e)))
 
-  index_same : (reads : Reads) (index : Option Expr) → index ≡ update.left_y → index_value reads (at_reduction update number i j) index ≡ index_value reads (at_reduction update number x y) index
+  index_same : (reads : Reads) (index : Option Expr) → index ≡ update.left_y → index_value reads (at_reduction update number i j) index
+      ≡ index_value reads (at_reduction update number x y) index
   index_same reads None is = refl
   index_same reads (Some index) is =
       same_value reads (at_reduction update number i j) (at_reduction update number x y) index
-      (λ v e. variables_same v (or_left (uses v update.left_x || is_used_in v update.left_y) (uses v update.right) (or_right (uses v update.left_x) (is_used_in v update.left_y) (ap (is_used_in v) (sym is) ∙ e))))
+      (λ v e. variables_same v (or_left (uses v update.left_x || is_used_in v update.left_y) (uses v update.right) (or_right (uses v update.left_x)
+      (is_used_in v update.left_y) (ap (is_used_in v) (sym is) ∙ e))))
 
-  pub row_same : (reads : Reads) → index_value reads (at_reduction update number i j) update.left_y ≡ index_value reads (at_reduction update number x y) update.left_y
+  pub row_same : (reads : Reads) → index_value reads (at_reduction update number i j) update.left_y ≡ index_value reads (at_reduction update number x y)
+      update.left_y
   row_same reads = index_same reads update.left_y refl
 
   pub right_same : (reads : Reads) → value reads (at_reduction update number i j) update.right ≡ value reads (at_reduction update number x y) update.right
@@ -83,7 +89,8 @@ module _ (update : Update) (first_rule : (is_first_in_place update || not (is_us
 -- ---- the update of a Func
 
 module _ (pipeline : Pipeline) (schedule : Schedule) (rules : IsWellFormed pipeline) (accepted : IsAccepted pipeline schedule)
-    (place : ℕ) (func : Func) (func_is : slice_get pipeline.funcs place ≡ Some func) (standing : Standing) (there : IsReached schedule.standings place standing) (computed : IsComputed place standing.place)
+    (place : ℕ) (func : Func) (func_is : slice_get pipeline.funcs place ≡ Some func) (standing : Standing) (there : IsReached schedule.standings place standing)
+    (computed : IsComputed place standing.place)
     (at : ℕ) (update : Update) (update_is : slice_get func.updates at ≡ Some update)
     (inputs : Planes) (begun : AnswerWords pipeline.inputs (reads_of inputs (pixels pipeline.funcs inputs 0))) where
   abbrev pub earlier : Planes
@@ -117,7 +124,8 @@ module _ (pipeline : Pipeline) (schedule : Schedule) (rules : IsWellFormed pipel
   calling : (other : ℕ) → update_calls other update ≡ true → place_calls pipeline place other ≡ true
   unfolding place_calls func_calls
   calling other e =
-      ap (place_calls_of other) func_is ∙ or_right (calls other func.pure) (updates_call other func.updates) (updates_one other func.updates at update update_is e)
+      ap (place_calls_of other) func_is ∙ or_right (calls other func.pure) (updates_call other func.updates) (updates_one other func.updates at update update_is
+      e)
 
   -- sources other than the Func itself
   pub other_answers : (number : ℕ) (s : Source) (a b : ℕ) → same_source s (sources.Func place) ≡ false → wanted number s a b ≡ reads_of inputs earlier s a b
@@ -127,7 +135,8 @@ module _ (pipeline : Pipeline) (schedule : Schedule) (rules : IsWellFormed pipel
   pub own_answers : (number a b : ℕ) → wanted number (sources.Func place) a b ≡ stands number a b
   own_answers number a b = ap (λ (t : Bool). cond t (stands number) (earlier place) a b) (eq-eqb place place refl)
 
-  answers : (number : ℕ) (s : Source) (n a b : ℕ) → is_computed (put pipeline schedule) s ≡ true → is_read pipeline.inputs pipeline.funcs place s n ≡ true → wanted number s a b ≡ reads_of inputs earlier s a b
+  answers : (number : ℕ) (s : Source) (n a b : ℕ) → is_computed (put pipeline schedule) s ≡ true → is_read pipeline.inputs pipeline.funcs place s n ≡ true
+      → wanted number s a b ≡ reads_of inputs earlier s a b
   answers number (sources.Input other) n a b computed_so read = refl
   answers number (sources.Func other) n a b computed_so read =
       let before : other < place = ltb-true other place (and_parts (nat_lt other place) (is_func_of (slice_get pipeline.funcs other) n) read).0 in
@@ -138,22 +147,29 @@ module _ (pipeline : Pipeline) (schedule : Schedule) (rules : IsWellFormed pipel
 
   -- ---- values, with inlined Funcs put in place
 
-  index_comes : (number : ℕ) (point : Environment) (e : Expr) → keeps (is_read pipeline.inputs pipeline.funcs place) has e ≡ true → ((other : ℕ) → calls other e ≡ true → update_calls other update ≡ true)
+  index_comes : (number : ℕ) (point : Environment) (e : Expr) → keeps (is_read pipeline.inputs pipeline.funcs place) has e ≡ true
+      → ((other : ℕ) → calls other e ≡ true → update_calls other update ≡ true)
       → inlined (valuing (wanted number)) (flags pipeline schedule) pipeline.funcs place (variable point) e ≡ value (reads_of inputs earlier) point e
   index_comes number point e kept called =
       sym (sees_inlined_values (wanted number) (flags pipeline schedule) pipeline.funcs place point e)
       ∙ ap (λ (s : Seen). s.value)
-      (same_seen pipeline schedule rules accepted (wanted number) place point has e kept (reaching pipeline schedule rules accepted (wanted number) place reached_here e (λ other c. calling other (called other c))))
+      (same_seen pipeline schedule rules accepted (wanted number) place point has e kept (reaching pipeline schedule rules accepted (wanted number) place
+      reached_here e (λ other c. calling other (called other c))))
       ∙ sees_inlined_values (wanted number) (put pipeline schedule) pipeline.funcs place point e
-      ∙ inlining_keeps_values (wanted number) (put pipeline schedule) pipeline.inputs pipeline.funcs inputs rules.funcs (put_simple pipeline schedule accepted) place (answers number) has point e kept
+      ∙ inlining_keeps_values (wanted number) (put pipeline schedule) pipeline.inputs pipeline.funcs inputs rules.funcs (put_simple pipeline schedule accepted)
+      place (answers number) has point e kept
 
-  pub left_comes : (number : ℕ) (point : Environment) → inlined (valuing (wanted number)) (flags pipeline schedule) pipeline.funcs place (variable point) update.left_x ≡ value (reads_of inputs earlier) point update.left_x
+  pub left_comes : (number : ℕ) (point : Environment) → inlined (valuing (wanted number)) (flags pipeline schedule) pipeline.funcs place (variable point)
+      update.left_x ≡ value (reads_of inputs earlier) point update.left_x
   left_comes number point =
       index_comes number point update.left_x formed.left_x
-      (λ other c. or_left (calls other update.left_x || second_calls other update.left_y) (calls other update.right) (or_left (calls other update.left_x) (second_calls other update.left_y) c))
+      (λ other c. or_left (calls other update.left_x || second_calls other update.left_y) (calls other update.right) (or_left (calls other update.left_x)
+      (second_calls other update.left_y) c))
 
-  row_by : (number : ℕ) (point : Environment) (index : Option Expr) → index ≡ update.left_y → keeps_index (is_read pipeline.inputs pipeline.funcs place) has (dimensions func) index ≡ true
-      → index_of (inlined (valuing (wanted number)) (flags pipeline schedule) pipeline.funcs place (variable point)) index ≡ index_value (reads_of inputs earlier) point index
+  row_by : (number : ℕ) (point : Environment) (index : Option Expr) → index ≡ update.left_y
+      → keeps_index (is_read pipeline.inputs pipeline.funcs place) has (dimensions func) index ≡ true
+      → index_of (inlined (valuing (wanted number)) (flags pipeline schedule) pipeline.funcs place (variable point)) index
+      ≡ index_value (reads_of inputs earlier) point index
   row_by number point None is kept = refl
   row_by number point (Some index) is kept =
       index_comes number point index (and_parts (dimensions func == 2) (keeps (is_read pipeline.inputs pipeline.funcs place) has index) kept).1
@@ -161,7 +177,8 @@ module _ (pipeline : Pipeline) (schedule : Schedule) (rules : IsWellFormed pipel
       (or_right (calls other update.left_x) (second_calls other update.left_y) (ap (second_calls other) (sym is) ∙ c)))
 
   pub row_comes : (number : ℕ) (point : Environment)
-      → index_of (inlined (valuing (wanted number)) (flags pipeline schedule) pipeline.funcs place (variable point)) update.left_y ≡ index_value (reads_of inputs earlier) point update.left_y
+      → index_of (inlined (valuing (wanted number)) (flags pipeline schedule) pipeline.funcs place (variable point)) update.left_y
+      ≡ index_value (reads_of inputs earlier) point update.left_y
   row_comes number point = row_by number point update.left_y refl formed.left_y
 
   reaching_right : (number other : ℕ) → other < suc place → calls other update.right ≡ true → reached pipeline schedule other ≡ true
@@ -172,12 +189,15 @@ module _ (pipeline : Pipeline) (schedule : Schedule) (rules : IsWellFormed pipel
     | inr l ↦ let same : other ≡ place = omega (arith, l, below) in ap (reached pipeline schedule) same ∙ reached_here
   ]
 
-  pub right_comes : (number : ℕ) (point : Environment) → inlined (valuing (wanted number)) (flags pipeline schedule) pipeline.funcs (suc place) (variable point) update.right ≡ value (wanted number) point update.right
+  pub right_comes : (number : ℕ) (point : Environment) → inlined (valuing (wanted number)) (flags pipeline schedule) pipeline.funcs (suc place) (variable point)
+      update.right ≡ value (wanted number) point update.right
   right_comes number point =
       sym (sees_inlined_values (wanted number) (flags pipeline schedule) pipeline.funcs (suc place) point update.right)
-      ∙ ap (λ (s : Seen). s.value) (same_seen pipeline schedule rules accepted (wanted number) (suc place) point has update.right formed.right (reaching_right number))
+      ∙ ap (λ (s : Seen). s.value) (same_seen pipeline schedule rules accepted (wanted number) (suc place) point has update.right formed.right
+      (reaching_right number))
       ∙ sees_inlined_values (wanted number) (put pipeline schedule) pipeline.funcs (suc place) point update.right
-      ∙ inlining_keeps_updates (wanted number) (put pipeline schedule) pipeline.inputs pipeline.funcs inputs rules.funcs (put_simple pipeline schedule accepted) place (stands number) plain (answers number) (own_answers number) has
+      ∙ inlining_keeps_updates (wanted number) (put pipeline schedule) pipeline.inputs pipeline.funcs inputs rules.funcs (put_simple pipeline schedule accepted)
+      place (stands number) plain (answers number) (own_answers number) has
       point update.right formed.right
 
   -- ---- what is written, by whom reads are answered as wanted
@@ -198,7 +218,8 @@ module _ (pipeline : Pipeline) (schedule : Schedule) (rules : IsWellFormed pipel
     column_seen : (seen_in pipeline schedule (wanted number) place point update.left_x).value ≡ column
     column_seen = sees_inlined_values (wanted number) (flags pipeline schedule) pipeline.funcs place point update.left_x ∙ left_comes number point
 
-    row_seen_by : (index : Option Expr) → (second_seen pipeline schedule (wanted number) place point index).value ≡ index_of (inlined (valuing (wanted number)) (flags pipeline schedule) pipeline.funcs place (variable point)) index
+    row_seen_by : (index : Option Expr) → (second_seen pipeline schedule (wanted number) place point index).value
+        ≡ index_of (inlined (valuing (wanted number)) (flags pipeline schedule) pipeline.funcs place (variable point)) index
     row_seen_by None = refl
     row_seen_by (Some index) = sees_inlined_values (wanted number) (flags pipeline schedule) pipeline.funcs place point index
 
@@ -206,12 +227,14 @@ module _ (pipeline : Pipeline) (schedule : Schedule) (rules : IsWellFormed pipel
     row_seen = row_seen_by update.left_y ∙ row_comes number point
 
     -- what holds of all that is read holds of the point that the left side names
-    pub of_target : (P : Point → Type 0) → AllByRecursion P (update_points pipeline schedule (wanted number) place update number x y) → P (record { source = sources.Func place; x = column; y = row })
+    pub of_target : (P : Point → Type 0) → AllByRecursion P (update_points pipeline schedule (wanted number) place update number x y)
+        → P (record { source = sources.Func place; x = column; y = row })
     of_target P all =
         let a = all_parts P (seen_in pipeline schedule (wanted number) place point update.left_x).points _ all in
         let b = all_parts P (second_seen pipeline schedule (wanted number) place point update.left_y).points _ a.1 in
         subst (λ (n : ℕ). P (record { source = sources.Func place; x = n; y = row })) column_seen
-        (subst (λ (n : ℕ). P (record { source = sources.Func place; x = (seen_in pipeline schedule (wanted number) place point update.left_x).value; y = n })) row_seen b.1.0)
+        (subst (λ (n : ℕ). P (record { source = sources.Func place; x = (seen_in pipeline schedule (wanted number) place point update.left_x).value; y = n }))
+        row_seen b.1.0)
 
     module _ (found : Reads) (agree : Agree (wanted number) found (update_points pipeline schedule (wanted number) place update number x y)) where
       first_part : AllByRecursion (AgreeAt (wanted number) found) (seen_in pipeline schedule (wanted number) place point update.left_x).points
@@ -234,9 +257,11 @@ module _ (pipeline : Pipeline) (schedule : Schedule) (rules : IsWellFormed pipel
       second_part = all_parts (AgreeAt (wanted number) found) (second_seen pipeline schedule (wanted number) place point update.left_y).points _ first_part.1
 
       pub column_found : inlined (valuing found) (flags pipeline schedule) pipeline.funcs place (variable point) update.left_x ≡ column
-      column_found = inlined_values_depend_on_reads (wanted number) found (flags pipeline schedule) pipeline.funcs place point update.left_x first_part.0 ∙ left_comes number point
+      column_found = inlined_values_depend_on_reads (wanted number) found (flags pipeline schedule) pipeline.funcs place point update.left_x first_part.0
+          ∙ left_comes number point
 
-      row_found_by : (index : Option Expr) → AllByRecursion (AgreeAt (wanted number) found) (second_seen pipeline schedule (wanted number) place point index).points
+      row_found_by : (index : Option Expr) → AllByRecursion (AgreeAt (wanted number) found) (second_seen pipeline schedule (wanted number) place point
+          index).points
           → index_of (inlined (valuing found) (flags pipeline schedule) pipeline.funcs place (variable point)) index
           ≡ index_of (inlined (valuing (wanted number)) (flags pipeline schedule) pipeline.funcs place (variable point)) index
       row_found_by None all = refl
@@ -246,7 +271,8 @@ module _ (pipeline : Pipeline) (schedule : Schedule) (rules : IsWellFormed pipel
       row_found = row_found_by update.left_y second_part.0 ∙ row_comes number point
 
       pub right_found : inlined (valuing found) (flags pipeline schedule) pipeline.funcs (suc place) (variable point) update.right ≡ right
-      right_found = inlined_values_depend_on_reads (wanted number) found (flags pipeline schedule) pipeline.funcs (suc place) point update.right second_part.1.1 ∙ right_comes number point
+      right_found = inlined_values_depend_on_reads (wanted number) found (flags pipeline schedule) pipeline.funcs (suc place) point update.right second_part.1.1
+          ∙ right_comes number point
 
     -- ---- what stands after one more point, in the slice
 
@@ -254,8 +280,10 @@ module _ (pipeline : Pipeline) (schedule : Schedule) (rules : IsWellFormed pipel
         → stands (suc number) i j ≡ cond (column == i && row == j) right (stands number i j)
     unfolding after
     one_more i j first second =
-        ap (λ (n : ℕ). cond (n == i && index_value (reads_of inputs earlier) (at_reduction update number i j) update.left_y == j) (value (wanted number) (at_reduction update number i j) update.right) (stands number i j))
+        ap (λ (n : ℕ). cond (n == i && index_value (reads_of inputs earlier) (at_reduction update number i j) update.left_y == j)
+        (value (wanted number) (at_reduction update number i j) update.right) (stands number i j))
         (left_same update formed.first_argument formed.second_argument number x y i j first second (reads_of inputs earlier))
         ∙ ap (λ (n : ℕ). cond (column == i && n == j) (value (wanted number) (at_reduction update number i j) update.right) (stands number i j))
         (row_same update formed.first_argument formed.second_argument number x y i j first second (reads_of inputs earlier))
-        ∙ ap (λ (n : ℕ). cond (column == i && row == j) n (stands number i j)) (right_same update formed.first_argument formed.second_argument number x y i j first second (wanted number))
+        ∙ ap (λ (n : ℕ). cond (column == i && row == j) n (stands number i j)) (right_same update formed.first_argument formed.second_argument number x y i j
+        first second (wanted number))

@@ -39,7 +39,8 @@ use Rattle.lowering_expressions.specs.declared.calls.Corner.{Corner}
 use Rattle.lowering_expressions.specs.Lowering.{placed, place as place_in}
 use Rattle.lowering.specs.Planes.{has_point, box_points}
 use Rattle.bounds.specs.Extents.{BoxCorner, update_extents}
-use Rattle.lowering.specs.Updates.{IsComputedIn, IsUpdateAt, StoresUpdate, IsSoundUpdate, DoesUpdate, AreSoundLoops, in_place, is_visited, IsCornerAt, stage_from}
+use Rattle.lowering.specs.Updates.{IsComputedIn, IsUpdateAt, StoresUpdate, IsSoundUpdate, DoesUpdate, AreSoundLoops, in_place, is_visited, IsCornerAt}
+use Rattle.lowering.specs.Updates.{stage_from}
 use Rattle.lowering.proofs.Lists.{all_pass}
 use Rattle.lowering.proofs.UpdateFacts.{has_reduction, points_are}
 use Rattle.lowering.proofs.UpdateRuns.{members, all_so, leaves, stays}
@@ -49,7 +50,8 @@ use Rattle.lowering.proofs.UpdateSteps.{ReadsOwn}
 use Rattle.lowering.proofs.UpdateTouches.{all_sound}
 use Rattle.lowering.proofs.UpdateVisits.{all_listed, all_in_order, all_within}
 
-module _ (pipeline : Pipeline) (schedule : Schedule) (boxes : Boxes) (rules : IsWellFormed pipeline) (accepted : IsAccepted pipeline schedule) (is : inferred pipeline schedule ≡ Ok boxes)
+module _ (pipeline : Pipeline) (schedule : Schedule) (boxes : Boxes) (rules : IsWellFormed pipeline) (accepted : IsAccepted pipeline schedule)
+    (is : inferred pipeline schedule ≡ Ok boxes)
     (corners : List Corner) (place : ℕ) (func : Func) (plan : FuncPlan) (own : SourceBox) (at_it : IsComputedIn pipeline schedule boxes place func plan own)
     (at : ℕ) (update : Update) (stage : Stage) (it : IsUpdateAt schedule place func plan at update stage)
     (corner : Corner) (corner_there : slice_get corners place ≡ Some corner)
@@ -68,18 +70,23 @@ module _ (pipeline : Pipeline) (schedule : Schedule) (boxes : Boxes) (rules : Is
   in_all i j = has_point (Some own) i j
 
   all_visits : AllByRecursion (IsVisitOf func (Some update) extents) (map (visit_of extents) list)
-  all_visits = subst (λ (l : List Visit). AllByRecursion (IsVisitOf func (Some update) extents) l) (all_listed func update extents stage stage_facts.0 place) (all_within func update extents stage stage_facts.0 place)
+  all_visits = subst (λ (l : List Visit). AllByRecursion (IsVisitOf func (Some update) extents) l) (all_listed func update extents stage stage_facts.0 place)
+      (all_within func update extents stage stage_facts.0 place)
 
   reduced : AllByRecursion (λ inner. inner (ids.Whole variables.FirstReduction) < update.first.extent) list
-  reduced = within func (Some update) extents stage stage.loops [] variables.FirstReduction zeros stage_facts.0 (sym (append-nil stage.loops)) (has_reduction func update) tt
+  reduced = within func (Some update) extents stage stage.loops [] variables.FirstReduction zeros stage_facts.0 (sym (append-nil stage.loops))
+      (has_reduction func update) tt
 
-  closed : AllByRecursion (λ visit. (i j : ℕ) → has_point (Some own) i j ≡ true → is_visited update i j visit ≡ true → has_point (Some own) i j ≡ true) (map (visit_of extents) list)
+  closed : AllByRecursion (λ visit. (i j : ℕ) → has_point (Some own) i j ≡ true → is_visited update i j visit ≡ true
+      → has_point (Some own) i j ≡ true) (map (visit_of extents) list)
   closed =
-      all_so (λ visit. (test : Visit → Bool) → test visit ≡ true → list_any test (map (visit_of extents) list) ≡ true) (λ visit. (i j : ℕ) → has_point (Some own) i j ≡ true → is_visited update i j visit ≡ true → has_point (Some own) i j ≡ true)
+      all_so (λ visit. (test : Visit → Bool) → test visit ≡ true → list_any test (map (visit_of extents) list) ≡ true) (λ visit. (i j : ℕ)
+      → has_point (Some own) i j ≡ true → is_visited update i j visit ≡ true → has_point (Some own) i j ≡ true)
       (λ visit member i j boxed on. boxed) (map (visit_of extents) list) (members (map (visit_of extents) list))
 
   in_order : (i j : ℕ) → has_point (Some own) i j ≡ true
-      → slice (in_place (is_first_in_place update) i) (in_place (is_second_in_place update) j) (map (visit_of extents) list) ≡ rising (in_place (is_first_in_place update) i) (in_place (is_second_in_place update) j) 0 (points update)
+      → slice (in_place (is_first_in_place update) i) (in_place (is_second_in_place update) j) (map (visit_of extents) list)
+      ≡ rising (in_place (is_first_in_place update) i) (in_place (is_second_in_place update) j) 0 (points update)
   in_order i j e =
       let c = in_place (is_first_in_place update) i in
       let r = in_place (is_second_in_place update) j in
@@ -100,7 +107,8 @@ module _ (pipeline : Pipeline) (schedule : Schedule) (boxes : Boxes) (rules : Is
       }
     where
       computed : IsComputed place standing.place
-      computed = subst (λ (s : Standing). IsComputed place s.place) (one_standing schedule.standings place at_it.standing standing at_it.there.standing there.standing) at_it.computed
+      computed = subst (λ (s : Standing). IsComputed place s.place) (one_standing schedule.standings place at_it.standing standing at_it.there.standing
+          there.standing) at_it.computed
 
       begun_none : loops_of place values ≡ zeros
       begun_none = fun_ext not_begun
@@ -108,36 +116,46 @@ module _ (pipeline : Pipeline) (schedule : Schedule) (boxes : Boxes) (rules : Is
       small : AreSmall (loops_of place values)
       small id = omega (arith, not_begun id)
 
-      ran : run (box_points boxes.funcs) inputs made values funcs ≡ all (λ inner. run (box_points boxes.funcs) inputs store (put_loops place inner values)) list funcs
+      ran : run (box_points boxes.funcs) inputs made values funcs ≡ all (λ inner. run (box_points boxes.funcs) inputs store (put_loops place inner values)) list
+          funcs
       ran =
           repeats.runs (box_points boxes.funcs) inputs values funcs small
-          ∙ ap (λ (t : loops.Values). all (λ inner. run (box_points boxes.funcs) inputs store (put_loops place inner values)) (wholes extents stage.splits stage.loops t) funcs) begun_none
+          ∙ ap (λ (t : loops.Values). all (λ inner. run (box_points boxes.funcs) inputs store (put_loops place inner values)) (wholes extents stage.splits
+          stage.loops t) funcs) begun_none
 
       reads_own : ReadsOwn corners place values inputs begin
       reads_own = own_read inputs begin values corner_is
 
-      left : (i j : ℕ) → has_point (Some own) i j ≡ true → all (λ inner. run (box_points boxes.funcs) inputs store (put_loops place inner values)) list funcs place i j ≡ stage_from pipeline inputs place func begin (suc at) i j
+      left : (i j : ℕ) → has_point (Some own) i j ≡ true → all (λ inner. run (box_points boxes.funcs) inputs store (put_loops place inner values)) list funcs
+          place i j ≡ stage_from pipeline inputs place func begin (suc at) i j
       left i j e =
-          leaves pipeline schedule boxes rules accepted is place func own at_it.func_is at_it.box_is standing there computed at update it.update_is inputs begun turns below begin begins corners values corner corner_is reads_own
+          leaves pipeline schedule boxes rules accepted is place func own at_it.func_is at_it.box_is standing there computed at update it.update_is inputs begun
+          turns below begin begins corners values corner corner_is reads_own
           store stores funcs reads_others list all_visits reduced in_all (λ i j e. e) closed in_order holds i j e
 
-      kept : (other i j : ℕ) → (other ≡ place → has_point (Some own) i j ≡ false) → all (λ inner. run (box_points boxes.funcs) inputs store (put_loops place inner values)) list funcs other i j ≡ funcs other i j
+      kept : (other i j : ℕ) → (other ≡ place → has_point (Some own) i j ≡ false)
+          → all (λ inner. run (box_points boxes.funcs) inputs store (put_loops place inner values)) list funcs other i j ≡ funcs other i j
       kept other i j free =
-          stays pipeline schedule boxes rules accepted is place func own at_it.func_is at_it.box_is standing there computed at update it.update_is inputs begun turns below begin begins corners values corner corner_is reads_own
+          stays pipeline schedule boxes rules accepted is place func own at_it.func_is at_it.box_is standing there computed at update it.update_is inputs begun
+          turns below begin begins corners values corner corner_is reads_own
           store stores funcs reads_others list all_visits reduced in_all (λ i j e. e) closed in_order holds other i j free
 
   -- ---- what it touches
 
-  pub sound_nest : IsSoundUpdate corners (flags pipeline schedule) pipeline.funcs place corner update store → AreSoundLoops pipeline schedule boxes corners place corner own update made
+  pub sound_nest : IsSoundUpdate corners (flags pipeline schedule) pipeline.funcs place corner update store
+      → AreSoundLoops pipeline schedule boxes corners place corner own update made
   sound_nest sound reads words written loaded writes loads standing there turns below begin begins values corner_is not_begun others =
       repeats.sound reads written loaded values (λ id. omega (arith, not_begun id))
-      ∙ ap (λ (t : loops.Values). list_all (λ inner. is_sound reads written loaded store (put_loops place inner values)) (wholes extents stage.splits stage.loops t)) (fun_ext not_begun)
+      ∙ ap (λ (t : loops.Values). list_all (λ inner. is_sound reads written loaded store (put_loops place inner values)) (wholes extents stage.splits
+      stage.loops t)) (fun_ext not_begun)
       ∙ all_pass (λ inner. is_sound reads written loaded store (put_loops place inner values)) list
-      (all_sound pipeline schedule boxes rules is place func own at_it.func_is at_it.box_is standing there computed at update it.update_is turns below begin begins corners values corner corner_is store sound
+      (all_sound pipeline schedule boxes rules is place func own at_it.func_is at_it.box_is standing there computed at update it.update_is turns below begin
+      begins corners values corner corner_is store sound
       reads words written loaded own_placed others in_all writes loads list all_visits reduced closed)
     where
       computed : IsComputed place standing.place
-      computed = subst (λ (s : Standing). IsComputed place s.place) (one_standing schedule.standings place at_it.standing standing at_it.there.standing there.standing) at_it.computed
+      computed = subst (λ (s : Standing). IsComputed place s.place) (one_standing schedule.standings place at_it.standing standing at_it.there.standing
+          there.standing) at_it.computed
 
       own_placed : (inner : loops.Values) (a b : ℕ) → place_in corners (put_loops place inner values) (record { source = sources.Func place; x = a; y = b })
           ≡ record { source = sources.Func place; x = word.subtract a begin.x; y = word.subtract b begin.y }

@@ -1,5 +1,6 @@
 -- What an update of a Func at root reads of other Funcs.
-use Rattle.std.proofs.Common.{◌≡◌, ℕ, suc, ◌+◌, ◌<◌, Bool, true, false, List, [], ◌∷◌, length, Option, Some, None, refl, sym, ap, subst, ◌∙◌, arith, inl, inr, true≢false}
+use Rattle.std.proofs.Common.{◌≡◌, ℕ, suc, ◌+◌, ◌<◌, Bool, true, false, List, [], ◌∷◌, length, Option, Some, None, refl, sym, ap, subst, ◌∙◌, arith, inl, inr}
+use Rattle.std.proofs.Common.{true≢false}
 use Rattle.std.specs.Prelude.{◌&&◌, nat_lt, slice_get, Ok}
 use Rattle.std.specs.List.{AllByRecursion}
 use Rattle.std.proofs.lemmas.Bool.{and_from, lt-ltb, eq-eqb}
@@ -62,11 +63,13 @@ no_stage (first ∷ others) at stage found none = omega (arith, none)
 
 module _ (pipeline : Pipeline) (schedule : Schedule) (accepted : IsAccepted pipeline schedule) where
   -- No Func is computed at a loop of one with an update.
-  pub consumers_none : (place : ℕ) (plan : FuncPlan) (at : ℕ) (stage : Stage) → slice_get schedule.funcs place ≡ Some plan → slice_get plan.updates at ≡ Some stage → ConsumersNone schedule.standings place
+  pub consumers_none : (place : ℕ) (plan : FuncPlan) (at : ℕ) (stage : Stage) → slice_get schedule.funcs place ≡ Some plan
+      → slice_get plan.updates at ≡ Some stage → ConsumersNone schedule.standings place
   consumers_none place plan at stage plan_is stage_is other own consumer there place_is same =
       let here : 0 + other ≡ other = omega arith in
       let produced : IsProduced pipeline schedule.funcs other own =
-      subst (λ (n : ℕ). IsProduced pipeline schedule.funcs n own) here (numbered_at (IsProduced pipeline schedule.funcs) 0 schedule.standings accepted.consumers other own there.standing) in
+      subst (λ (n : ℕ). IsProduced pipeline schedule.funcs n own) here (numbered_at (IsProduced pipeline schedule.funcs) 0 schedule.standings accepted.consumers
+      other own there.standing) in
       let h = produced consumer place_is in
       let same_plan : Some h.plan ≡ Some plan = sym h.plan_is ∙ ap (slice_get schedule.funcs) same ∙ plan_is in
       let plan_same : h.plan ≡ plan = cc in
@@ -90,12 +93,14 @@ module _ (pipeline : Pipeline) (schedule : Schedule) (accepted : IsAccepted pipe
 
 -- ---- reads
 
-module _ (pipeline : Pipeline) (schedule : Schedule) (boxes : Boxes) (rules : IsWellFormed pipeline) (accepted : IsAccepted pipeline schedule) (is : inferred pipeline schedule ≡ Ok boxes)
+module _ (pipeline : Pipeline) (schedule : Schedule) (boxes : Boxes) (rules : IsWellFormed pipeline) (accepted : IsAccepted pipeline schedule)
+    (is : inferred pipeline schedule ≡ Ok boxes)
     (place : ℕ) (func : Func) (plan : FuncPlan) (own : SourceBox) (at : IsAtRoot pipeline schedule boxes place func plan own)
     (number_at : ℕ) (update : Update) (stage : Stage) (it : IsUpdateAt schedule place func plan number_at update stage)
     (inputs : Planes) (begun : AnswerWords pipeline.inputs (reads_of inputs (pixels pipeline.funcs inputs 0)))
     (corners : List Corner) (are : AreCorners schedule.funcs boxes.funcs schedule.standings corners) (before : Values) (buffers : Planes)
-    (hold : (k x y : ℕ) → (k ≡ place → ⊥) → is_private schedule.standings k ≡ false → box_points boxes.funcs k x y ≡ true → buffers k x y ≡ held boxes.funcs (pixels pipeline.funcs inputs place) k x y) where
+    (hold : (k x y : ℕ) → (k ≡ place → ⊥) → is_private schedule.standings k ≡ false → box_points boxes.funcs k x y ≡ true
+    → buffers k x y ≡ held boxes.funcs (pixels pipeline.funcs inputs place) k x y) where
   computed : IsComputed place at.standing.place
   computed = subst (λ (p : Place). IsComputed place p) (sym at.placed_is) tt
 
@@ -115,7 +120,8 @@ module _ (pipeline : Pipeline) (schedule : Schedule) (boxes : Boxes) (rules : Is
 
   root_read : (k : ℕ) (w : IsReadWithin schedule place k) → flagged (flags_of schedule.standings) k ≡ false → (p : Place) → w.own.place ≡ p → p ≡ places.Root
   root_read k w unflagged places.Root e = refl
-  root_read k w unflagged (places.At consumer) e = absurd (none_within pipeline schedule accepted place at.standing at.there at.placed_is none_produced k w consumer e)
+  root_read k w unflagged (places.At consumer) e = absurd (none_within pipeline schedule accepted place at.standing at.there at.placed_is none_produced k w
+      consumer e)
   root_read k w unflagged places.Inlined e = absurd (true≢false (sym (flag_is schedule.standings k w.own w.there.standing ∙ ap is_inlined e) ∙ unflagged))
   root_read k w unflagged places.Nowhere e = absurd (true≢false (sym (ap is_nowhere e) ∙ somewhere k w.before w.own w.there))
 
@@ -128,7 +134,8 @@ module _ (pipeline : Pipeline) (schedule : Schedule) (boxes : Boxes) (rules : Is
   wanted = reads_of inputs (pixels pipeline.funcs inputs place)
 
   module _ (inner : loops.Values) where
-    found_in : (k a b : ℕ) (box : SourceBox) (sought : Standing) → slice_get schedule.standings k ≡ Some sought → sought.place ≡ places.Root → slice_get boxes.funcs k ≡ Some (Some box) → LiesIn no_loops box a b → box.lasts ≡ no_loops → is_private schedule.standings k ≡ false → k < place
+    found_in : (k a b : ℕ) (box : SourceBox) (sought : Standing) → slice_get schedule.standings k ≡ Some sought → sought.place ≡ places.Root
+        → slice_get boxes.funcs k ≡ Some (Some box) → LiesIn no_loops box a b → box.lasts ≡ no_loops → is_private schedule.standings k ≡ false → k < place
         → found inner (sources.Func k) a b ≡ wanted (sources.Func k) a b
     unfolding placed
     found_in k a b box sought sought_is sought_root box_is lies lasts public_so earlier =
@@ -139,24 +146,30 @@ module _ (pipeline : Pipeline) (schedule : Schedule) (boxes : Boxes) (rules : Is
         let first = subst (λ (l : List ℕ). Lies l no_loops box.x a) lasts lies.first in
         let second = subst (λ (l : List ℕ). Lies l no_loops box.y b) lasts lies.second in
         let inside : box_points boxes.funcs k i j ≡ true =
-        rw box_is (and_from (nat_lt i (extent box.x)) (nat_lt j (extent box.y)) (lt-ltb i (extent box.x) (offset_within box.x a first)) (lt-ltb j (extent box.y) (offset_within box.y b second))) in
+        rw box_is (and_from (nat_lt i (extent box.x)) (nat_lt j (extent box.y)) (lt-ltb i (extent box.x) (offset_within box.x a first)) (lt-ltb j (extent box.y)
+        (offset_within box.y b second))) in
         let lies_at : found inner (sources.Func k) a b ≡ buffers k i j = rw (c.there, (c.is now).0, (c.is now).1) refl in
-        let held_so : held boxes.funcs (pixels pipeline.funcs inputs place) k i j ≡ pixels pipeline.funcs inputs place k (word.add (word_at box.x.low) i) (word.add (word_at box.y.low) j) = rw box_is refl in
+        let held_so : held boxes.funcs (pixels pipeline.funcs inputs place) k i j ≡ pixels pipeline.funcs inputs place k (word.add (word_at box.x.low) i)
+        (word.add (word_at box.y.low) j) = rw box_is refl in
         lies_at ∙ hold k i j (λ e. omega (arith, e, earlier)) public_so inside ∙ held_so
         ∙ ap (λ (n : ℕ). pixels pipeline.funcs inputs place k n (word.add (word_at box.y.low) j)) (offset_back box.x a first)
         ∙ ap (λ (n : ℕ). pixels pipeline.funcs inputs place k a n) (offset_back box.y b second)
 
-    lasts_at : (k : ℕ) (sought : Standing) → IsReached schedule.standings k sought → sought.place ≡ places.Root → (box : SourceBox) → slice_get boxes.funcs k ≡ Some (Some box) → box.lasts ≡ no_loops
+    lasts_at : (k : ℕ) (sought : Standing) → IsReached schedule.standings k sought → sought.place ≡ places.Root → (box : SourceBox)
+        → slice_get boxes.funcs k ≡ Some (Some box) → box.lasts ≡ no_loops
     lasts_at k sought there root box box_is =
-        (boxes_are_produced pipeline schedule boxes is k sought there.standing there.reached (subst (λ (p : Place). IsComputed k p) (sym root) tt) box box_is).lasts
+        (boxes_are_produced pipeline schedule boxes is k sought there.standing there.reached (subst (λ (p : Place). IsComputed k p) (sym root) tt) box
+        box_is).lasts
         ∙ ap (λ (p : Place). lasts_of (consumer_in schedule boxes.funcs p)) root
 
     -- what is known of points that are read
     record AreRead (list : List Point) : Type 0 where
-      funcs : (k : ℕ) (sought : Standing) → k < place → IsReached schedule.standings k sought → sought.place ≡ places.Root → AreBoxed no_loops (sources.Func k) (slice_get boxes.funcs k) list
+      funcs : (k : ℕ) (sought : Standing) → k < place → IsReached schedule.standings k sought → sought.place ≡ places.Root
+          → AreBoxed no_loops (sources.Func k) (slice_get boxes.funcs k) list
       through : AreReadThrough pipeline schedule.standings place (suc place) list
 
-    one_found : (s : Source) (a b : ℕ) (list : List Point) → AreRead (record { source = s; x = a; y = b } ∷ list) → IsReadThrough pipeline schedule.standings place (suc place) s → same_source s (sources.Func place) ≡ false
+    one_found : (s : Source) (a b : ℕ) (list : List Point) → AreRead (record { source = s; x = a; y = b } ∷ list)
+        → IsReadThrough pipeline schedule.standings place (suc place) s → same_source s (sources.Func place) ≡ false
         → found inner s a b ≡ wanted s a b
     unfolding placed
     one_found (sources.Input k) a b list r through differs = refl
@@ -164,16 +177,20 @@ module _ (pipeline : Pipeline) (schedule : Schedule) (boxes : Boxes) (rules : Is
     one_found (sources.Func k) a b list r (unflagged, (few, inr through)) differs =
         let w = readers_stand_within pipeline schedule accepted place at.standing at.there computed k through in
         let root : w.own.place ≡ places.Root = root_read k w unflagged w.own.place refl in
-        by_box w root (slice_get boxes.funcs k) refl (some_before boxes.funcs place k (Some own) at.box_is w.before) ((r.funcs k w.own w.before w.there root).0 (same_self k))
+        by_box w root (slice_get boxes.funcs k) refl (some_before boxes.funcs place k (Some own) at.box_is w.before) ((r.funcs k w.own w.before w.there root).0
+        (same_self k))
       where
-        by_box : (w : IsReadWithin schedule place k) → w.own.place ≡ places.Root → (answer : Option (Option SourceBox)) → slice_get boxes.funcs k ≡ answer → IsSome answer → IsBoxed no_loops answer a b
+        by_box : (w : IsReadWithin schedule place k) → w.own.place ≡ places.Root → (answer : Option (Option SourceBox)) → slice_get boxes.funcs k ≡ answer
+            → IsSome answer → IsBoxed no_loops answer a b
             → found inner (sources.Func k) a b ≡ pixels pipeline.funcs inputs place k a b
         by_box w root None e some lies = let wrong = some.is in absurd cc
         by_box w root (Some None) e some lies = absurd lies
         by_box w root (Some (Some box)) e some lies =
-            found_in k a b box w.own w.there.standing root e lies (lasts_at k w.own w.there root box e) (roots_are_shared pipeline schedule accepted k w.own w.there root) w.before
+            found_in k a b box w.own w.there.standing root e lies (lasts_at k w.own w.there root box e) (roots_are_shared pipeline schedule accepted k w.own
+            w.there root) w.before
 
-    all_found : (list : List Point) → AreRead list → AllByRecursion (λ point. same_source point.source (sources.Func place) ≡ false → found inner point.source point.x point.y ≡ wanted point.source point.x point.y) list
+    all_found : (list : List Point) → AreRead list → AllByRecursion (λ point. same_source point.source (sources.Func place) ≡ false
+        → found inner point.source point.x point.y ≡ wanted point.source point.x point.y) list
     all_found [] r = tt
     all_found (point ∷ list) r = (
       λ e. one_found point.source point.x point.y list r r.through.0 e,
@@ -191,14 +208,18 @@ module _ (pipeline : Pipeline) (schedule : Schedule) (boxes : Boxes) (rules : Is
       are_read = record {
         funcs = λ k sought earlier there root.
             let near = points_are_near own (is_box pipeline schedule boxes place func plan own accepted is at) no_loops below x y lies in
-            update_reads_of_funcs_lie pipeline schedule boxes rules is place func own at.func_is at.box_is number_at update it.update_is k sought earlier there.standing there.reached
-            (subst (λ (p : Place). IsComputed k p) (sym root) tt) None (ap (λ (p : Place). consumer_in schedule boxes.funcs p) root) own refl reads words no_loops below no_below x y lies near.0 near.1 number few;
+            update_reads_of_funcs_lie pipeline schedule boxes rules is place func own at.func_is at.box_is number_at update it.update_is k sought earlier
+            there.standing there.reached
+            (subst (λ (p : Place). IsComputed k p) (sym root) tt) None (ap (λ (p : Place). consumer_in schedule boxes.funcs p) root) own refl reads words
+            no_loops below no_below x y lies near.0 near.1 number few;
         through = update_points_are_read_through pipeline schedule rules place func at.func_is plain number_at update it.update_is reads number x y;
       }
 
-      pub reads_found : AllByRecursion (λ point. same_source point.source (sources.Func place) ≡ false → found inner point.source point.x point.y ≡ wanted point.source point.x point.y)
+      pub reads_found : AllByRecursion (λ point. same_source point.source (sources.Func place) ≡ false → found inner point.source point.x point.y
+          ≡ wanted point.source point.x point.y)
           (update_points pipeline schedule reads place update number x y)
       reads_found = all_found (update_points pipeline schedule reads place update number x y) are_read
 
   pub reads_pixels : ReadsPixels pipeline schedule corners place update no_loops own inputs before buffers
-  reads_pixels inner number x y few lies plane words = reads_found inner number x y few lies (reads_of inputs (with_plane place plane (pixels pipeline.funcs inputs place))) words
+  reads_pixels inner number x y few lies plane words = reads_found inner number x y few lies
+      (reads_of inputs (with_plane place plane (pixels pipeline.funcs inputs place))) words

@@ -65,14 +65,16 @@ pub missed_elsewhere : (place sx sy : ℕ) (point : Point) → is_source_of plac
 missed_elsewhere place sx sy point e = ap (λ (b : Bool). not (b && (point.x == sx && point.y == sy))) e
 
 missed_column : (place sx sy : ℕ) (point : Point) → (point.x ≡ sx → ⊥) → all_but point place sx sy ≡ true
-missed_column place sx sy point other = ap (λ (b : Bool). not (is_source_of place point.source && (b && point.y == sy))) (ne_eqb point.x sx other) ∙ by_test (is_source_of place point.source)
+missed_column place sx sy point other = ap (λ (b : Bool). not (is_source_of place point.source && (b && point.y == sy))) (ne_eqb point.x sx other)
+    ∙ by_test (is_source_of place point.source)
   where
     by_test : (b : Bool) → not (b && false) ≡ true
     by_test true = refl
     by_test false = refl
 
 missed_row : (place sx sy : ℕ) (point : Point) → (point.y ≡ sy → ⊥) → all_but point place sx sy ≡ true
-missed_row place sx sy point other = ap (λ (b : Bool). not (is_source_of place point.source && (point.x == sx && b))) (ne_eqb point.y sy other) ∙ by_tests (is_source_of place point.source) (point.x == sx)
+missed_row place sx sy point other = ap (λ (b : Bool). not (is_source_of place point.source && (point.x == sx && b))) (ne_eqb point.y sy other)
+    ∙ by_tests (is_source_of place point.source) (point.x == sx)
   where
     by_tests : (b c : Bool) → not (b && (c && false)) ≡ true
     by_tests true true = refl
@@ -83,8 +85,10 @@ pub other_source : (place : ℕ) (s : Source) → same_source s (sources.Func pl
 other_source place (sources.Input k) e = refl
 other_source place (sources.Func k) e = e
 
-module _ (pipeline : Pipeline) (schedule : Schedule) (rules : IsWellFormed pipeline) (place : ℕ) (func : Func) (func_is : slice_get pipeline.funcs place ≡ Some func)
-    (at : ℕ) (update : Update) (update_is : slice_get func.updates at ≡ Some update) (corners : List Corner) (corner : Corner) (counted : AreCounted corners place corner)
+module _ (pipeline : Pipeline) (schedule : Schedule) (rules : IsWellFormed pipeline) (place : ℕ) (func : Func) (func_is : slice_get pipeline.funcs place
+    ≡ Some func)
+    (at : ℕ) (update : Update) (update_is : slice_get func.updates at ≡ Some update) (corners : List Corner) (corner : Corner) (counted : AreCounted corners
+    place corner)
     (store : Stmt) (sound : IsSoundUpdate corners (flags pipeline schedule) pipeline.funcs place corner update store) (reads : Reads) where
   -- ---- while counters stand so
 
@@ -102,7 +106,8 @@ module _ (pipeline : Pipeline) (schedule : Schedule) (rules : IsWellFormed pipel
 
   -- the variables stand for the point of a visit with this number
   abbrev pub IsAt : Values → ℕ → Type 0
-  IsAt now number = visited_point now place corner update ≡ at_reduction update number (word.add (whole_at now place variables.FirstArgument) (linear_value now corner.x)) (word.add (whole_at now place variables.SecondArgument) (linear_value now corner.y))
+  IsAt now number = visited_point now place corner update ≡ at_reduction update number (word.add (whole_at now place variables.FirstArgument)
+      (linear_value now corner.x)) (word.add (whole_at now place variables.SecondArgument) (linear_value now corner.y))
 
   back_column : (now : Values) → word.subtract (x now) (linear_value now corner.x) ≡ column now
   back_column now =
@@ -137,7 +142,12 @@ module _ (pipeline : Pipeline) (schedule : Schedule) (rules : IsWellFormed pipel
     second = (second_seen pipeline schedule answers place point update.left_y).points
 
     abbrev target : Point
-    target = record { source = sources.Func place; x = (seen_in pipeline schedule answers place point update.left_x).value; y = (second_seen pipeline schedule answers place point update.left_y).value }
+    target = record {
+      source = sources.Func place;
+      x = (seen_in pipeline schedule answers place point update.left_x).value;
+      y =
+          (second_seen pipeline schedule answers place point update.left_y).value;
+    }
 
     abbrev right : List Point
     right = (seen_in pipeline schedule answers (suc place) point update.right).points
@@ -148,7 +158,8 @@ module _ (pipeline : Pipeline) (schedule : Schedule) (rules : IsWellFormed pipel
         let q = all_parts P second (target ∷ right) p.1 in
         (p.0, (q.0, q.1))
 
-    row_is : (index : Option Expr) → (second_seen pipeline schedule answers place point index).value ≡ index_of (inlined (valuing answers) (flags pipeline schedule) pipeline.funcs place (variable point)) index
+    row_is : (index : Option Expr) → (second_seen pipeline schedule answers place point index).value
+        ≡ index_of (inlined (valuing answers) (flags pipeline schedule) pipeline.funcs place (variable point)) index
     row_is None = refl
     row_is (Some index) = sees_inlined_values answers (flags pipeline schedule) pipeline.funcs place point index
 
@@ -159,23 +170,28 @@ module _ (pipeline : Pipeline) (schedule : Schedule) (rules : IsWellFormed pipel
 
     -- where it stores
     abbrev stored_column : ℕ
-    stored_column = word.subtract (inlined (valuing answers) (flags pipeline schedule) pipeline.funcs place (variable (visited_point now place corner update)) update.left_x) (linear_value now corner.x)
+    stored_column = word.subtract (inlined (valuing answers) (flags pipeline schedule) pipeline.funcs place (variable (visited_point now place corner update))
+        update.left_x) (linear_value now corner.x)
 
     abbrev stored_row : ℕ
-    stored_row = word.subtract (index_of (inlined (valuing answers) (flags pipeline schedule) pipeline.funcs place (variable (visited_point now place corner update))) update.left_y) (linear_value now corner.y)
+    stored_row = word.subtract (index_of (inlined (valuing answers) (flags pipeline schedule) pipeline.funcs place
+        (variable (visited_point now place corner update))) update.left_y) (linear_value now corner.y)
 
     target_stays : IsInPlace update (x now) (y now) target
     target_stays = (behind_left Stays all_stay).1.1.0 (eq-eqb place place refl)
 
     column_is : is_first_in_place update ≡ true → stored_column ≡ column now
     column_is e =
-        ap (λ (p : Environment). word.subtract (inlined (valuing answers) (flags pipeline schedule) pipeline.funcs place (variable p) update.left_x) (linear_value now corner.x)) is
-        ∙ ap (λ (n : ℕ). word.subtract n (linear_value now corner.x)) (sym (sees_inlined_values answers (flags pipeline schedule) pipeline.funcs place point update.left_x) ∙ target_stays.first e)
+        ap (λ (p : Environment). word.subtract (inlined (valuing answers) (flags pipeline schedule) pipeline.funcs place (variable p) update.left_x)
+        (linear_value now corner.x)) is
+        ∙ ap (λ (n : ℕ). word.subtract n (linear_value now corner.x)) (sym (sees_inlined_values answers (flags pipeline schedule) pipeline.funcs place point
+        update.left_x) ∙ target_stays.first e)
         ∙ back_column now
 
     row_of : is_second_in_place update ≡ true → stored_row ≡ row now
     row_of e =
-        ap (λ (p : Environment). word.subtract (index_of (inlined (valuing answers) (flags pipeline schedule) pipeline.funcs place (variable p)) update.left_y) (linear_value now corner.y)) is
+        ap (λ (p : Environment). word.subtract (index_of (inlined (valuing answers) (flags pipeline schedule) pipeline.funcs place (variable p)) update.left_y)
+        (linear_value now corner.y)) is
         ∙ ap (λ (n : ℕ). word.subtract n (linear_value now corner.y)) (sym (row_is update.left_y) ∙ target_stays.second e)
         ∙ back_row now
 
@@ -183,15 +199,20 @@ module _ (pipeline : Pipeline) (schedule : Schedule) (rules : IsWellFormed pipel
     abbrev Passes : (Point → Bool) → Point → Type 0
     Passes loaded own = loaded (place_in corners now own) ≡ true
 
-    sound_where : (written : ℕ → ℕ → ℕ → Bool) (loaded : Point → Bool) → written place stored_column stored_row ≡ true → AllByRecursion (Passes loaded) all_read → is_sound reads written loaded store now ≡ true
+    sound_where : (written : ℕ → ℕ → ℕ → Bool) (loaded : Point → Bool) → written place stored_column stored_row ≡ true → AllByRecursion (Passes loaded) all_read
+        → is_sound reads written loaded store now ≡ true
     sound_where written loaded writes all =
         let back = sym is in
         let parts = behind_left (Passes loaded) all in
         sound reads written loaded now writes
-        (subst (λ (p : Environment). Hold (λ own. loaded (place_in corners now own)) (inlined (seeing answers) (flags pipeline schedule) pipeline.funcs place (seen_variable p) update.left_x).points) back parts.0)
-        (subst (λ (p : Environment). Hold (λ own. loaded (place_in corners now own)) (points_of_index (λ (e : Expr). (inlined (seeing answers) (flags pipeline schedule) pipeline.funcs place (seen_variable p) e).points) update.left_y)) back
+        (subst (λ (p : Environment). Hold (λ own. loaded (place_in corners now own)) (inlined (seeing answers) (flags pipeline schedule) pipeline.funcs place
+        (seen_variable p) update.left_x).points) back parts.0)
+        (subst (λ (p : Environment). Hold (λ own. loaded (place_in corners now own))
+        (points_of_index (λ (e : Expr). (inlined (seeing answers) (flags pipeline schedule) pipeline.funcs place (seen_variable p) e).points)
+        update.left_y)) back
         (subst (Hold (λ own. loaded (place_in corners now own))) (index_points update.left_y) parts.1.0))
-        (subst (λ (p : Environment). Hold (λ own. loaded (place_in corners now own)) (inlined (seeing answers) (flags pipeline schedule) pipeline.funcs (suc place) (seen_variable p) update.right).points) back parts.1.1.1)
+        (subst (λ (p : Environment). Hold (λ own. loaded (place_in corners now own)) (inlined (seeing answers) (flags pipeline schedule) pipeline.funcs
+        (suc place) (seen_variable p) update.right).points) back parts.1.1.1)
 
   -- ---- two rounds
 
@@ -214,36 +235,53 @@ module _ (pipeline : Pipeline) (schedule : Schedule) (rules : IsWellFormed pipel
         every [] = tt
         every (own ∷ list) = (refl, every list)
 
-    own_missed : (a b : ℕ) → IsInPlace update (x later) (y later) (record { source = sources.Func place; x = a; y = b }) → passes (place_in corners later (record { source = sources.Func place; x = a; y = b })) ≡ true
+    own_missed : (a b : ℕ) → IsInPlace update (x later) (y later) (record { source = sources.Func place; x = a; y = b })
+        → passes (place_in corners later (record { source = sources.Func place; x = a; y = b })) ≡ true
     own_missed a b stays = ap passes (counted later a b) ∙ elim differ [
       | inl d ↦
           missed (record { source = sources.Func place; x = word.subtract a (linear_value later corner.x); y = word.subtract b (linear_value later corner.y) })
           (missed_column place (stored_column earlier first earlier_is) (stored_row earlier first earlier_is)
           (record { source = sources.Func place; x = word.subtract a (linear_value later corner.x); y = word.subtract b (linear_value later corner.y) })
-          (λ e. d.1 (sym (ap (λ (n : ℕ). word.subtract n (linear_value later corner.x)) (stays.first d.0) ∙ back_column later) ∙ e ∙ column_is earlier first earlier_is d.0)))
+          (λ e. d.1 (sym (ap (λ (n : ℕ). word.subtract n (linear_value later corner.x)) (stays.first d.0) ∙ back_column later) ∙ e
+          ∙ column_is earlier first earlier_is d.0)))
       | inr d ↦
           missed (record { source = sources.Func place; x = word.subtract a (linear_value later corner.x); y = word.subtract b (linear_value later corner.y) })
           (missed_row place (stored_column earlier first earlier_is) (stored_row earlier first earlier_is)
           (record { source = sources.Func place; x = word.subtract a (linear_value later corner.x); y = word.subtract b (linear_value later corner.y) })
-          (λ e. d.1 (sym (ap (λ (n : ℕ). word.subtract n (linear_value later corner.y)) (stays.second d.0) ∙ back_row later) ∙ e ∙ row_of earlier first earlier_is d.0)))
+          (λ e. d.1 (sym (ap (λ (n : ℕ). word.subtract n (linear_value later corner.y)) (stays.second d.0) ∙ back_row later) ∙ e
+          ∙ row_of earlier first earlier_is d.0)))
     ]
 
-    one_missed : (s : Source) (a b : ℕ) (test : Bool) → same_source s (sources.Func place) ≡ test → (test ≡ true → IsInPlace update (x later) (y later) (record { source = s; x = a; y = b }))
+    one_missed : (s : Source) (a b : ℕ) (test : Bool) → same_source s (sources.Func place) ≡ test
+        → (test ≡ true → IsInPlace update (x later) (y later) (record { source = s; x = a; y = b }))
         → passes (place_in corners later (record { source = s; x = a; y = b })) ≡ true
     one_missed s a b false differs stays =
         missed (place_in corners later (record { source = s; x = a; y = b }))
-        (missed_elsewhere place (stored_column earlier first earlier_is) (stored_row earlier first earlier_is) (place_in corners later (record { source = s; x = a; y = b }))
+        (missed_elsewhere place (stored_column earlier first earlier_is) (stored_row earlier first earlier_is) (place_in corners later (record {
+          source = s;
+          x =
+              a;
+          y = b;
+        }))
         (ap (is_source_of place) (source_stays corners later s a b) ∙ other_source place s differs))
     one_missed (sources.Input k) a b true same stays = absurd cc
     one_missed (sources.Func k) a b true same stays =
         let p = stays refl in
-        subst (λ (n : ℕ). passes (place_in corners later (record { source = sources.Func n; x = a; y = b })) ≡ true) (sym (eqb-true k place same)) (own_missed a b (record { first = p.first; second = p.second }))
+        subst (λ (n : ℕ). passes (place_in corners later (record { source = sources.Func n; x = a; y = b })) ≡ true) (sym (eqb-true k place same))
+        (own_missed a b (record { first = p.first; second = p.second }))
 
-    all_missed : (list : List Point) → AllByRecursion (λ own. same_source own.source (sources.Func place) ≡ true → IsInPlace update (x later) (y later) own) list
+    all_missed : (list : List Point) → AllByRecursion (λ own. same_source own.source (sources.Func place) ≡ true
+        → IsInPlace update (x later) (y later) own) list
         → AllByRecursion (λ own. passes (place_in corners later own) ≡ true) list
     all_missed [] stay = tt
-    all_missed (own ∷ list) stay =
-        (one_missed own.source own.x own.y (same_source own.source (sources.Func place)) refl (λ e. let p = stay.0 e in record { first = p.first; second = p.second }), all_missed list stay.1)
+    all_missed (own ∷ list) stay = (
+      one_missed own.source own.x own.y (same_source own.source (sources.Func place)) refl (λ e. let p = stay.0 e in record {
+        first = p.first;
+        second =
+            p.second;
+      }),
+      all_missed list stay.1,
+    )
 
     pub loads_none : LoadsNoneOf reads store earlier later
     loads_none =

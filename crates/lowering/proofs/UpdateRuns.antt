@@ -64,35 +64,42 @@ members {A} (x ∷ xs) = (
   all_so (IsIn xs) (IsIn (x ∷ xs)) (λ y is test e. or_right (test x) (list_any test xs) (is test e)) xs (members xs),
 )
 
-module _ (pipeline : Pipeline) (schedule : Schedule) (boxes : Boxes) (rules : IsWellFormed pipeline) (accepted : IsAccepted pipeline schedule) (is : inferred pipeline schedule ≡ Ok boxes)
+module _ (pipeline : Pipeline) (schedule : Schedule) (boxes : Boxes) (rules : IsWellFormed pipeline) (accepted : IsAccepted pipeline schedule)
+    (is : inferred pipeline schedule ≡ Ok boxes)
     (place : ℕ) (func : Func) (own : SourceBox) (func_is : slice_get pipeline.funcs place ≡ Some func) (box_is : slice_get boxes.funcs place ≡ Some (Some own))
     (standing : Standing) (there : IsReached schedule.standings place standing) (computed : IsComputed place standing.place)
     (at : ℕ) (update : Update) (update_is : slice_get func.updates at ≡ Some update)
     (inputs : Planes) (begun : AnswerWords pipeline.inputs (reads_of inputs (pixels pipeline.funcs inputs 0)))
     (turns : List ℕ) (below : Below (produced_turns schedule boxes standing turns) (lasts_of (consumer_at schedule boxes standing)))
     (begin : BoxCorner) (begins : IsBegin (produced_turns schedule boxes standing turns) own begin)
-    (corners : List Corner) (before : Values) (corner : Corner) (corner_is : IsCornerAt place before corner begin) (reads_own : ReadsOwn corners place before inputs begin)
+    (corners : List Corner) (before : Values) (corner : Corner) (corner_is : IsCornerAt place before corner begin) (reads_own : ReadsOwn corners place before
+    inputs begin)
     (store : Stmt) (stores : StoresUpdate corners (flags pipeline schedule) pipeline.funcs place corner update store)
     (funcs : Planes) (reads_others : ReadsPixels pipeline schedule corners place update (produced_turns schedule boxes standing turns) own inputs before funcs)
     (list : List loops.Values)
     (visits : AllByRecursion (IsVisitOf func (Some update) (update_extents own update)) (map (visit_of (update_extents own update)) list))
     (reduced : AllByRecursion (λ inner. inner (ids.Whole variables.FirstReduction) < update.first.extent) list)
     (inside : ℕ → ℕ → Bool) (in_box : (i j : ℕ) → inside i j ≡ true → has_point (Some own) i j ≡ true)
-    (closed : AllByRecursion (λ visit. (i j : ℕ) → has_point (Some own) i j ≡ true → is_visited update i j visit ≡ true → inside i j ≡ true) (map (visit_of (update_extents own update)) list)) where
+    (closed : AllByRecursion (λ visit. (i j : ℕ) → has_point (Some own) i j ≡ true → is_visited update i j visit ≡ true
+    → inside i j ≡ true) (map (visit_of (update_extents own update)) list)) where
   abbrev extents : Extents
   extents = update_extents own update
 
   abbrev stands_at : ℕ → Plane
-  stands_at = from_begin pipeline schedule boxes rules accepted is place func own func_is box_is standing there computed at update update_is inputs begun turns below begin begins corners before corner corner_is reads_own store stores funcs reads_others inside
+  stands_at = from_begin pipeline schedule boxes rules accepted is place func own func_is box_is standing there computed at update update_is inputs begun turns
+      below begin begins corners before corner corner_is reads_own store stores funcs reads_others inside
 
   abbrev columns : ℕ → ℕ
-  columns = column_in pipeline schedule boxes rules accepted is place func own func_is box_is standing there computed at update update_is inputs begun turns below begin begins corners before corner corner_is reads_own store stores funcs reads_others inside
+  columns = column_in pipeline schedule boxes rules accepted is place func own func_is box_is standing there computed at update update_is inputs begun turns
+      below begin begins corners before corner corner_is reads_own store stores funcs reads_others inside
 
   abbrev rows : ℕ → ℕ
-  rows = row_in pipeline schedule boxes rules accepted is place func own func_is box_is standing there computed at update update_is inputs begun turns below begin begins corners before corner corner_is reads_own store stores funcs reads_others inside
+  rows = row_in pipeline schedule boxes rules accepted is place func own func_is box_is standing there computed at update update_is inputs begun turns below
+      begin begins corners before corner corner_is reads_own store stores funcs reads_others inside
 
   abbrev pub steps : loops.Values → Planes → Planes
-  steps = step pipeline schedule boxes rules accepted is place func own func_is box_is standing there computed at update update_is inputs begun turns below begin begins corners before corner corner_is reads_own store stores funcs reads_others inside
+  steps = step pipeline schedule boxes rules accepted is place func own func_is box_is standing there computed at update update_is inputs begun turns below
+      begin begins corners before corner corner_is reads_own store stores funcs reads_others inside
 
   abbrev IsGone : loops.Values → Type 0
   IsGone inner = Goes place funcs inside columns rows stands_at (visit_of extents inner) (steps inner)
@@ -101,12 +108,15 @@ module _ (pipeline : Pipeline) (schedule : Schedule) (boxes : Boxes) (rules : Is
   Closed visit = (i j : ℕ) → has_point (Some own) i j ≡ true → is_visited update i j visit ≡ true → inside i j ≡ true
 
   abbrev Known : loops.Values → Type 0
-  Known inner = (IsVisitOf func (Some update) extents (visit_of extents inner) × Closed (visit_of extents inner)) × (inner (ids.Whole variables.FirstReduction) < update.first.extent)
+  Known inner = (IsVisitOf func (Some update) extents (visit_of extents inner) × Closed (visit_of extents inner))
+      × (inner (ids.Whole variables.FirstReduction) < update.first.extent)
 
   all_known : AllByRecursion Known list
   all_known =
-      all_and (λ inner. IsVisitOf func (Some update) extents (visit_of extents inner) × Closed (visit_of extents inner)) (λ inner. inner (ids.Whole variables.FirstReduction) < update.first.extent) list
-      (all_map (λ visit. IsVisitOf func (Some update) extents visit × Closed visit) (λ inner. IsVisitOf func (Some update) extents (visit_of extents inner) × Closed (visit_of extents inner)) (visit_of extents) (λ inner p. p) list
+      all_and (λ inner. IsVisitOf func (Some update) extents (visit_of extents inner) × Closed (visit_of extents inner))
+      (λ inner. inner (ids.Whole variables.FirstReduction) < update.first.extent) list
+      (all_map (λ visit. IsVisitOf func (Some update) extents visit × Closed visit) (λ inner. IsVisitOf func (Some update) extents (visit_of extents inner)
+      × Closed (visit_of extents inner)) (visit_of extents) (λ inner p. p) list
       (all_and (IsVisitOf func (Some update) extents) Closed (map (visit_of extents) list) visits closed))
       reduced
 
@@ -114,7 +124,8 @@ module _ (pipeline : Pipeline) (schedule : Schedule) (boxes : Boxes) (rules : Is
   all_go =
       all_so Known IsGone
       (λ inner p.
-      goes pipeline schedule boxes rules accepted is place func own func_is box_is standing there computed at update update_is inputs begun turns below begin begins corners before corner corner_is reads_own store stores funcs reads_others inside
+      goes pipeline schedule boxes rules accepted is place func own func_is box_is standing there computed at update update_is inputs begun turns below begin
+      begins corners before corner corner_is reads_own store stores funcs reads_others inside
       inner p.0.0 p.1 p.0.1 in_box)
       list all_known
 
@@ -126,7 +137,8 @@ module _ (pipeline : Pipeline) (schedule : Schedule) (boxes : Boxes) (rules : Is
   names_inside x y e =
       any_gives Known (inside x y ≡ true) (is_hit x y)
       (λ inner p hit.
-      named_inside pipeline schedule boxes rules accepted is place func own func_is box_is standing there computed at update update_is inputs begun turns below begin begins corners before corner corner_is reads_own store stores funcs
+      named_inside pipeline schedule boxes rules accepted is place func own func_is box_is standing there computed at update update_is inputs begun turns below
+      begin begins corners before corner corner_is reads_own store stores funcs
       reads_others inside inner p.0.0 p.1 p.0.1 in_box x y hit)
       list all_known e
 
@@ -139,13 +151,15 @@ module _ (pipeline : Pipeline) (schedule : Schedule) (boxes : Boxes) (rules : Is
   at_last : (i j : ℕ) → stands_at (points update) i j ≡ stage_from pipeline inputs place func begin (suc at) i j
   unfolding stage
   at_last i j =
-      ap (λ (found : Option Update). after_all place found inputs (pixels pipeline.funcs inputs place) (stage place func inputs (pixels pipeline.funcs inputs place) at) (word.add begin.x i) (word.add begin.y j)) (sym update_is)
+      ap (λ (found : Option Update). after_all place found inputs (pixels pipeline.funcs inputs place) (stage place func inputs (pixels pipeline.funcs inputs
+      place) at) (word.add begin.x i) (word.add begin.y j)) (sym update_is)
 
   module _ (in_order : (i j : ℕ) → inside i j ≡ true → slice (columns i) (rows j) (map (visit_of extents) list) ≡ rising (columns i) (rows j) 0 (points update))
       (holds : (i j : ℕ) → inside i j ≡ true → funcs place i j ≡ stage_from pipeline inputs place func begin at i j) where
     gone : Gone place funcs inside columns rows stands_at (λ x y. 0) (λ x y. points update) funcs (all steps list funcs)
     gone =
-        slices_go place funcs inside columns rows stands_at (visit_of extents) steps list (λ x y. 0) (λ x y. points update) funcs all_go in_order (λ k i j other. refl)
+        slices_go place funcs inside columns rows stands_at (visit_of extents) steps list (λ x y. 0) (λ x y. points update) funcs all_go in_order
+        (λ k i j other. refl)
         (λ i j e. holds i j e ∙ at_first i j)
 
     pub leaves : (i j : ℕ) → inside i j ≡ true → all steps list funcs place i j ≡ stage_from pipeline inputs place func begin (suc at) i j
@@ -166,12 +180,14 @@ module _ (pipeline : Pipeline) (schedule : Schedule) (boxes : Boxes) (rules : Is
       all_mark =
           all_so Known (Marks place funcs inside columns rows stands_at (visit_of extents) steps traced (is_hit x y))
           (λ inner p.
-          marks pipeline schedule boxes rules accepted is place func own func_is box_is standing there computed at update update_is inputs begun turns below begin begins corners before corner corner_is reads_own store stores funcs reads_others
+          marks pipeline schedule boxes rules accepted is place func own func_is box_is standing there computed at update update_is inputs begun turns below
+          begin begins corners before corner corner_is reads_own store stores funcs reads_others
           inside inner p.0.0 p.1 p.0.1 in_box hits x y)
           list all_known
 
       -- the point is stored at if the left side names it at one of the visits
       pub stores_named : (all traced list (record { funcs = funcs; is_stored = false })).is_stored ≡ list_any (is_hit x y) list
       stores_named =
-          slices_mark place funcs inside columns rows stands_at (visit_of extents) steps traced (is_hit x y) list (λ i j. 0) (λ i j. points update) (record { funcs = funcs; is_stored = false }) all_go all_mark in_order (λ k i j other. refl)
+          slices_mark place funcs inside columns rows stands_at (visit_of extents) steps traced (is_hit x y) list (λ i j. 0) (λ i j. points update)
+          (record { funcs = funcs; is_stored = false }) all_go all_mark in_order (λ k i j other. refl)
           (λ i j e. holds i j e ∙ at_first i j)

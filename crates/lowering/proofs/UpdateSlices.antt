@@ -14,12 +14,15 @@ use Rattle.lowering.specs.Planes.{has_point}
 use Rattle.lowering.specs.Updates.{in_place}
 use Rattle.lowering.proofs.UpdateFacts.{has_first, no_second, second_there}
 
-module _ (func : Func) (update : Update) (own : SourceBox) (inputs : List Input) (funcs : List Func) (place : ℕ) (formed : IsUpdate inputs funcs place (dimensions func) update) where
-  column_there : (x : ℕ) → nat_lt x (extent own.x) ≡ true → (test : Bool) → is_first_in_place update ≡ test → nat_lt (in_place test x) (cond (has_variable variables.FirstArgument (first_loops func (Some update))) (extent own.x) 1) ≡ true
+module _ (func : Func) (update : Update) (own : SourceBox) (inputs : List Input) (funcs : List Func) (place : ℕ) (formed : IsUpdate inputs funcs place
+    (dimensions func) update) where
+  column_there : (x : ℕ) → nat_lt x (extent own.x) ≡ true → (test : Bool) → is_first_in_place update ≡ test
+      → nat_lt (in_place test x) (cond (has_variable variables.FirstArgument (first_loops func (Some update))) (extent own.x) 1) ≡ true
   column_there x l true e = ap (λ (b : Bool). nat_lt x (cond b (extent own.x) 1)) (has_first func update ∙ e) ∙ l
   column_there x l false e = ap (λ (b : Bool). nat_lt 0 (cond b (extent own.x) 1)) (has_first func update ∙ e)
 
-  row_there : (y : ℕ) → nat_lt y (extent own.y) ≡ true → (test : Bool) → is_second_in_place update ≡ test → nat_lt (in_place test y) (cond (has_variable variables.SecondArgument (first_loops func (Some update))) (extent own.y) 1) ≡ true
+  row_there : (y : ℕ) → nat_lt y (extent own.y) ≡ true → (test : Bool) → is_second_in_place update ≡ test
+      → nat_lt (in_place test y) (cond (has_variable variables.SecondArgument (first_loops func (Some update))) (extent own.y) 1) ≡ true
   row_there y l true e = ap (λ (b : Bool). nat_lt y (cond b (extent own.y) 1)) (second_there func update inputs funcs place formed e) ∙ l
   row_there y l false e = ap (λ (b : Bool). nat_lt 0 (cond b (extent own.y) 1)) (no_second func update e)
 

@@ -32,11 +32,13 @@ use Rattle.lowering.proofs.Facts.{few_at, first_few, second_few}
 use Rattle.lowering.proofs.UpdateFacts as facts
 
 module _ (pipeline : Pipeline) (schedule : Schedule) (accepted : IsAccepted pipeline schedule) (place : ℕ) (func : Func) (plan : FuncPlan) (standing : Standing)
-    (func_is : slice_get pipeline.funcs place ≡ Some func) (there : IsReached schedule.standings place standing) (at : ℕ) (update : Update) (stage : Stage) (it : IsUpdateAt schedule place func plan at update stage) where
+    (func_is : slice_get pipeline.funcs place ≡ Some func) (there : IsReached schedule.standings place standing) (at : ℕ) (update : Update) (stage : Stage)
+    (it : IsUpdateAt schedule place func plan at update stage) where
   pub staged : IsStageOf func (Some update) stage × KeepsRules stage
   staged =
       (accepted_stages func plan standing (pair_at IsPlan pipeline.funcs schedule.funcs place func plan accepted.plans func_is it.plan_is)
-      (pair_at IsLegal schedule.funcs schedule.standings place plan standing accepted.legal it.plan_is there.standing) there.reached).1 at update stage it.update_is it.stage_is
+      (pair_at IsLegal schedule.funcs schedule.standings place plan standing accepted.legal it.plan_is there.standing) there.reached).1 at update stage
+      it.update_is it.stage_is
 
   pub few_loops : length stage.loops ≤ 5
   few_loops = staged.0.few
@@ -51,15 +53,18 @@ place_small pipeline rules place func func_is = elim (cases_lt place (length pip
   | inr l ↦ let none = slice_get_past pipeline.funcs place l in absurd cc
 ]
 
-module _ (pipeline : Pipeline) (schedule : Schedule) (boxes : Boxes) (rules : IsWellFormed pipeline) (accepted : IsAccepted pipeline schedule) (is : inferred pipeline schedule ≡ Ok boxes)
+module _ (pipeline : Pipeline) (schedule : Schedule) (boxes : Boxes) (rules : IsWellFormed pipeline) (accepted : IsAccepted pipeline schedule)
+    (is : inferred pipeline schedule ≡ Ok boxes)
     (place : ℕ) (func : Func) (own : SourceBox) (func_is : slice_get pipeline.funcs place ≡ Some func) (box_is : slice_get boxes.funcs place ≡ Some (Some own))
-    (at : ℕ) (update : Update) (update_is : slice_get func.updates at ≡ Some update) (standing : Standing) (there : IsReached schedule.standings place standing) (computed : IsComputed place standing.place) where
+    (at : ℕ) (update : Update) (update_is : slice_get func.updates at ≡ Some update) (standing : Standing) (there : IsReached schedule.standings place standing)
+    (computed : IsComputed place standing.place) where
   pub is_box : IsBox own
   is_box = (boxes_are_produced pipeline schedule boxes is place standing there.standing there.reached computed own box_is).box
 
   few_points : points own ≤ 2 ^ 20
   few_points =
-      let all = and_parts (have_few_points boxes.inputs) (have_few_points boxes.funcs && nat_le boxes.layout.size 33554432) (is_judged pipeline schedule boxes is).few in
+      let all = and_parts (have_few_points boxes.inputs) (have_few_points boxes.funcs && nat_le boxes.layout.size 33554432) (is_judged pipeline schedule boxes
+      is).few in
       few_at boxes.funcs place own (and_parts (have_few_points boxes.funcs) (nat_le boxes.layout.size 33554432) all.1).0 box_is
 
   pub few : AreFew (update_extents own update)

@@ -1,5 +1,6 @@
 -- One visit of an update takes its slice one further.
-use Rattle.std.proofs.Common.{◌≡◌, ℕ, suc, ◌^◌, ◌<◌, ◌≤◌, Bool, true, false, cond, List, [], ◌∷◌, Option, Some, None, refl, sym, ap, subst, ◌∙◌, arith, true≢false}
+use Rattle.std.proofs.Common.{◌≡◌, ℕ, suc, ◌^◌, ◌<◌, ◌≤◌, Bool, true, false, cond, List, [], ◌∷◌, Option, Some, None, refl, sym, ap, subst, ◌∙◌, arith}
+use Rattle.std.proofs.Common.{true≢false}
 use Rattle.std.specs.Prelude.{◌&&◌, ◌==◌, ◌||◌, nat_lt, slice_get, Ok}
 use Rattle.std.specs.List.{AllByRecursion}
 use Rattle.std.proofs.lemmas.Bool.{and_parts, and_from, ltb-true, eq-eqb, eqb-true}
@@ -48,30 +49,36 @@ use Rattle.lowering_expressions.specs.declared.calls.Corner.{Corner}
 use Rattle.lowering_expressions.specs.Lowering.{placed}
 use Rattle.lowering.specs.Planes.{has_point, box_points}
 use Rattle.bounds.specs.Stages.{named_point, is_point}
-use Rattle.lowering.specs.Updates.{StoresUpdate, HitsUpdate, index_of, visited_point, in_place, is_visited, IsCornerAt, IsBegin, ReadsPixels, consumer_at, produced_turns}
+use Rattle.lowering.specs.Updates.{StoresUpdate, HitsUpdate, index_of, visited_point, in_place, is_visited, IsCornerAt, IsBegin, ReadsPixels, consumer_at}
+use Rattle.lowering.specs.Updates.{produced_turns}
 use Rattle.lowering.proofs.AtVisit as visiting
 use Rattle.lowering.proofs.Begins.{back_on, same_test}
 use Rattle.lowering.proofs.Offsets.{add_turned}
 use Rattle.lowering.proofs.Painting.{put_there, put_other}
 use Rattle.lowering.proofs.Slices.{Goes, HoldsAt, Others}
 use Rattle.lowering.proofs.UpdateStoring.{put_as}
-use Rattle.lowering.proofs.UpdateMeaning.{stands, wanted, wanted_words, other_answers, own_answers, column, row, right, of_target, column_found, row_found, right_found, one_more}
+use Rattle.lowering.proofs.UpdateMeaning.{stands, wanted, wanted_words, other_answers, own_answers, column, row, right, of_target, column_found, row_found}
+use Rattle.lowering.proofs.UpdateMeaning.{right_found, one_more}
 
 -- The Func's own buffer is read from where its box begins.
 abbrev pub ReadsOwn : List Corner → ℕ → Values → Planes → BoxCorner → Type 0
 ReadsOwn corners place before inputs begin = (inner : loops.Values) (buffers : Planes) (a b : ℕ)
-    → placed corners (put_loops place inner before) (reads_of inputs buffers) (sources.Func place) a b ≡ buffers place (word.subtract a begin.x) (word.subtract b begin.y)
+    → placed corners (put_loops place inner before) (reads_of inputs buffers) (sources.Func place) a b ≡ buffers place (word.subtract a begin.x)
+    (word.subtract b begin.y)
 
-module _ (pipeline : Pipeline) (schedule : Schedule) (boxes : Boxes) (rules : IsWellFormed pipeline) (accepted : IsAccepted pipeline schedule) (is : inferred pipeline schedule ≡ Ok boxes)
+module _ (pipeline : Pipeline) (schedule : Schedule) (boxes : Boxes) (rules : IsWellFormed pipeline) (accepted : IsAccepted pipeline schedule)
+    (is : inferred pipeline schedule ≡ Ok boxes)
     (place : ℕ) (func : Func) (own : SourceBox) (func_is : slice_get pipeline.funcs place ≡ Some func) (box_is : slice_get boxes.funcs place ≡ Some (Some own))
     (standing : Standing) (there : IsReached schedule.standings place standing) (computed : IsComputed place standing.place)
     (at : ℕ) (update : Update) (update_is : slice_get func.updates at ≡ Some update)
     (inputs : Planes) (begun : AnswerWords pipeline.inputs (reads_of inputs (pixels pipeline.funcs inputs 0)))
     (turns : List ℕ) (below : Below (produced_turns schedule boxes standing turns) (lasts_of (consumer_at schedule boxes standing)))
     (begin : BoxCorner) (begins : IsBegin (produced_turns schedule boxes standing turns) own begin)
-    (corners : List Corner) (before : Values) (corner : Corner) (corner_is : IsCornerAt place before corner begin) (reads_own : ReadsOwn corners place before inputs begin)
+    (corners : List Corner) (before : Values) (corner : Corner) (corner_is : IsCornerAt place before corner begin) (reads_own : ReadsOwn corners place before
+    inputs begin)
     (store : Stmt) (stores : StoresUpdate corners (flags pipeline schedule) pipeline.funcs place corner update store)
-    (funcs0 : Planes) (reads_others : ReadsPixels pipeline schedule corners place update (produced_turns schedule boxes standing turns) own inputs before funcs0)
+    (funcs0 : Planes) (reads_others : ReadsPixels pipeline schedule corners place update (produced_turns schedule boxes standing turns) own inputs before
+    funcs0)
     (inside : ℕ → ℕ → Bool) where
   abbrev values : List ℕ
   values = produced_turns schedule boxes standing turns
@@ -89,10 +96,12 @@ module _ (pipeline : Pipeline) (schedule : Schedule) (boxes : Boxes) (rules : Is
   answers = wanted pipeline schedule rules accepted place func func_is standing there computed at update update_is inputs begun
 
   produced : IsProduced (consumer_at schedule boxes standing) own
-  produced = visiting.produced pipeline schedule boxes rules is place func own func_is box_is standing there computed at update update_is turns below begin begins before corner corner_is
+  produced = visiting.produced pipeline schedule boxes rules is place func own func_is box_is standing there computed at update update_is turns below begin
+      begins before corner corner_is
 
   below_own : Below values own.lasts
-  below_own = visiting.below_own pipeline schedule boxes rules is place func own func_is box_is standing there computed at update update_is turns below begin begins before corner corner_is
+  below_own = visiting.below_own pipeline schedule boxes rules is place func own func_is box_is standing there computed at update update_is turns below begin
+      begins before corner corner_is
 
   points_own : (i j : ℕ) → boxed place i j ≡ has_point (Some own) i j
   points_own i j = ap (λ (o : Option (Option SourceBox)). has_point (box_in o) i j) box_is
@@ -110,7 +119,8 @@ module _ (pipeline : Pipeline) (schedule : Schedule) (boxes : Boxes) (rules : Is
   abbrev pub step : loops.Values → Planes → Planes
   step inner = run boxed inputs store (put_loops place inner before)
 
-  module _ (inner : loops.Values) (v : IsVisitOf func (Some update) extents (visit_of extents inner)) (reduced : inner (ids.Whole variables.FirstReduction) < update.first.extent)
+  module _ (inner : loops.Values) (v : IsVisitOf func (Some update) extents (visit_of extents inner)) (reduced : inner (ids.Whole variables.FirstReduction)
+      < update.first.extent)
       (closed : (i j : ℕ) → has_point (Some own) i j ≡ true → is_visited update i j (visit_of extents inner) ≡ true → inside i j ≡ true)
       (in_box : (i j : ℕ) → inside i j ≡ true → has_point (Some own) i j ≡ true) where
     abbrev visit : Visit
@@ -128,30 +138,39 @@ module _ (pipeline : Pipeline) (schedule : Schedule) (boxes : Boxes) (rules : Is
     -- ---- the visit
 
     wide : extent own.x ≤ 2 ^ 32
-    wide = visiting.wide pipeline schedule boxes rules is place func own func_is box_is standing there computed at update update_is turns below begin begins before corner corner_is inner v reduced
+    wide = visiting.wide pipeline schedule boxes rules is place func own func_is box_is standing there computed at update update_is turns below begin begins
+        before corner corner_is inner v reduced
 
     high : extent own.y ≤ 2 ^ 32
-    high = visiting.high pipeline schedule boxes rules is place func own func_is box_is standing there computed at update update_is turns below begin begins before corner corner_is inner v reduced
+    high = visiting.high pipeline schedule boxes rules is place func own func_is box_is standing there computed at update update_is turns below begin begins
+        before corner corner_is inner v reduced
 
     lies : LiesIn values own x y
-    lies = visiting.lies pipeline schedule boxes rules is place func own func_is box_is standing there computed at update update_is turns below begin begins before corner corner_is inner v reduced
+    lies = visiting.lies pipeline schedule boxes rules is place func own func_is box_is standing there computed at update update_is turns below begin begins
+        before corner corner_is inner v reduced
 
     few_points : visit.number < points update
-    few_points = visiting.few_points pipeline schedule boxes rules is place func own func_is box_is standing there computed at update update_is turns below begin begins before corner corner_is inner v reduced
+    few_points = visiting.few_points pipeline schedule boxes rules is place func own func_is box_is standing there computed at update update_is turns below
+        begin begins before corner corner_is inner v reduced
 
     point_is : visited_point now place corner update ≡ at_reduction update visit.number x y
-    point_is = visiting.point_is pipeline schedule boxes rules is place func own func_is box_is standing there computed at update update_is turns below begin begins before corner corner_is inner v reduced
+    point_is = visiting.point_is pipeline schedule boxes rules is place func own func_is box_is standing there computed at update update_is turns below begin
+        begins before corner corner_is inner v reduced
 
-    on_slice : (a b : ℕ) → IsInPlace update x y (record { source = sources.Func place; x = a; y = b }) → is_visited update (word.subtract a begin.x) (word.subtract b begin.y) visit ≡ true
-    on_slice = visiting.on_slice pipeline schedule boxes rules is place func own func_is box_is standing there computed at update update_is turns below begin begins before corner corner_is inner v reduced
+    on_slice : (a b : ℕ) → IsInPlace update x y (record { source = sources.Func place; x = a; y = b })
+        → is_visited update (word.subtract a begin.x) (word.subtract b begin.y) visit ≡ true
+    on_slice = visiting.on_slice pipeline schedule boxes rules is place func own func_is box_is standing there computed at update update_is turns below begin
+        begins before corner corner_is inner v reduced
 
     boxed_at : (a b : ℕ) → LiesIn values own a b → has_point (Some own) (word.subtract a begin.x) (word.subtract b begin.y) ≡ true
-    boxed_at = visiting.boxed_at pipeline schedule boxes rules is place func own func_is box_is standing there computed at update update_is turns below begin begins before corner corner_is inner v reduced
+    boxed_at = visiting.boxed_at pipeline schedule boxes rules is place func own func_is box_is standing there computed at update update_is turns below begin
+        begins before corner corner_is inner v reduced
 
     -- ---- the point that the left side names
 
     near : IsNear x × IsNear y
-    near = visiting.near pipeline schedule boxes rules is place func own func_is box_is standing there computed at update update_is turns below begin begins before corner corner_is inner v reduced
+    near = visiting.near pipeline schedule boxes rules is place func own func_is box_is standing there computed at update update_is turns below begin begins
+        before corner corner_is inner v reduced
 
     wanted_are : AnswerWords pipeline.inputs (answers visit.number)
     wanted_are = wanted_words pipeline schedule rules accepted place func func_is standing there computed at update update_is inputs begun visit.number
@@ -161,8 +180,13 @@ module _ (pipeline : Pipeline) (schedule : Schedule) (boxes : Boxes) (rules : Is
 
     all_lie : AreBoxed values (sources.Func place) (Some (Some own)) all_read
     all_lie =
-        own_points_lie pipeline schedule boxes rules is place func standing func_is there.standing there.reached computed (consumer_at schedule boxes standing) refl turns below own box_is at update update_is
-        (answers visit.number) wanted_are x y lies.first.word lies.second.word near.0 near.1 visit.number few_points (record { first = λ e. lies.first; second = λ e. lies.second })
+        own_points_lie pipeline schedule boxes rules is place func standing func_is there.standing there.reached computed (consumer_at schedule boxes standing)
+        refl turns below own box_is at update update_is
+        (answers visit.number) wanted_are x y lies.first.word lies.second.word near.0 near.1 visit.number few_points (record {
+          first = λ e. lies.first;
+          second =
+              λ e. lies.second;
+        })
 
     all_stay : AllByRecursion (λ point. same_source point.source (sources.Func place) ≡ true → IsInPlace update x y point) all_read
     all_stay = own_reads_stay pipeline schedule rules place func func_is at update update_is (answers visit.number) visit.number x y
@@ -204,11 +228,13 @@ module _ (pipeline : Pipeline) (schedule : Schedule) (boxes : Boxes) (rules : Is
     pub named_inside : (p q : ℕ) → is_point p q named ≡ true → inside p q ≡ true
     named_inside p q e =
         let s = and_parts (i_of == p) (j_of == q) e in
-        subst (λ (n : ℕ). inside n q ≡ true) (eqb-true i_of p s.0) (subst (λ (n : ℕ). inside i_of n ≡ true) (eqb-true j_of q s.1) (closed i_of j_of target_there target_on))
+        subst (λ (n : ℕ). inside n q ≡ true) (eqb-true i_of p s.0) (subst (λ (n : ℕ). inside i_of n ≡ true) (eqb-true j_of q s.1) (closed i_of j_of target_there
+        target_on))
 
     -- ---- what is read
 
-    module _ (buffers : Planes) (ready : Others place funcs0 inside column_in row_in from_begin buffers) (holds : HoldsAt place funcs0 inside column_in row_in from_begin visit visit.number buffers) where
+    module _ (buffers : Planes) (ready : Others place funcs0 inside column_in row_in from_begin buffers) (holds : HoldsAt place funcs0 inside column_in row_in
+        from_begin visit visit.number buffers) where
       abbrev found : Reads
       found = placed corners now (reads_of inputs buffers)
 
@@ -218,12 +244,14 @@ module _ (pipeline : Pipeline) (schedule : Schedule) (boxes : Boxes) (rules : Is
       other_found_by None k a b other e = rw e (ready k a b other)
       other_found_by (Some its) k a b other e = rw e (ready k (word.subtract a (linear_value now its.x)) (word.subtract b (linear_value now its.y)) other)
 
-      other_found : (s : Source) (a b : ℕ) → same_source s (sources.Func place) ≡ false → placed corners now (reads_of inputs buffers) s a b ≡ placed corners now (reads_of inputs funcs0) s a b
+      other_found : (s : Source) (a b : ℕ) → same_source s (sources.Func place) ≡ false → placed corners now (reads_of inputs buffers) s a b
+          ≡ placed corners now (reads_of inputs funcs0) s a b
       unfolding placed
       other_found (sources.Input k) a b differs = refl
       other_found (sources.Func k) a b differs = other_found_by (slice_get corners k) k a b (λ e. true≢false (sym (eq-eqb k place e) ∙ differs)) refl
 
-      own_found : (a b : ℕ) → LiesIn values own a b → IsInPlace update x y (record { source = sources.Func place; x = a; y = b }) → found (sources.Func place) a b ≡ standing_at visit.number a b
+      own_found : (a b : ℕ) → LiesIn values own a b → IsInPlace update x y (record { source = sources.Func place; x = a; y = b })
+          → found (sources.Func place) a b ≡ standing_at visit.number a b
       own_found a b inside_it stays =
           reads_own inner buffers a b
           ∙ holds (word.subtract a begin.x) (word.subtract b begin.y)
@@ -231,11 +259,14 @@ module _ (pipeline : Pipeline) (schedule : Schedule) (boxes : Boxes) (rules : Is
           ∙ ap (λ (n : ℕ). standing_at visit.number n (word.add begin.y (word.subtract b begin.y))) (back_on a begin.x inside_it.first.word begins.x.word)
           ∙ ap (standing_at visit.number a) (back_on b begin.y inside_it.second.word begins.y.word)
 
-      one_agrees : (s : Source) (a b : ℕ) (test : Bool) → same_source s (sources.Func place) ≡ test → (test ≡ true → LiesIn values own a b) → (test ≡ true → IsInPlace update x y (record { source = s; x = a; y = b }))
-          → (test ≡ false → placed corners now (reads_of inputs funcs0) s a b ≡ reads_of inputs (pixels pipeline.funcs inputs place) s a b) → found s a b ≡ answers visit.number s a b
+      one_agrees : (s : Source) (a b : ℕ) (test : Bool) → same_source s (sources.Func place) ≡ test → (test ≡ true → LiesIn values own a b)
+          → (test ≡ true → IsInPlace update x y (record { source = s; x = a; y = b }))
+          → (test ≡ false → placed corners now (reads_of inputs funcs0) s a b ≡ reads_of inputs (pixels pipeline.funcs inputs place) s a b)
+          → found s a b ≡ answers visit.number s a b
       one_agrees s a b false differs lies_so stays pixels_so =
           other_found s a b differs ∙ pixels_so refl
-          ∙ sym (other_answers pipeline schedule rules accepted place func func_is standing there computed at update update_is inputs begun visit.number s a b differs)
+          ∙ sym (other_answers pipeline schedule rules accepted place func func_is standing there computed at update update_is inputs begun visit.number s a b
+          differs)
       one_agrees (sources.Input k) a b true same lies_so stays pixels_so = absurd cc
       one_agrees (sources.Func k) a b true same lies_so stays pixels_so =
           let here : k ≡ place = eqb-true k place same in
@@ -248,11 +279,15 @@ module _ (pipeline : Pipeline) (schedule : Schedule) (boxes : Boxes) (rules : Is
       all_agree : (list : List Point) → AllByRecursion (λ point. same_source point.source (sources.Func place) ≡ true → LiesIn values own point.x point.y) list
           → AllByRecursion (λ point. same_source point.source (sources.Func place) ≡ true → IsInPlace update x y point) list
           → AllByRecursion
-          (λ point. same_source point.source (sources.Func place) ≡ false → placed corners now (reads_of inputs funcs0) point.source point.x point.y ≡ reads_of inputs (pixels pipeline.funcs inputs place) point.source point.x point.y) list
+          (λ point. same_source point.source (sources.Func place) ≡ false → placed corners now (reads_of inputs funcs0) point.source point.x point.y
+          ≡ reads_of inputs (pixels pipeline.funcs inputs place) point.source point.x point.y) list
           → Agree (answers visit.number) found list
       all_agree [] lie stay others = tt
-      all_agree (point ∷ list) lie stay others =
-          (one_agrees point.source point.x point.y (same_source point.source (sources.Func place)) refl lie.0 (λ e. let p = stay.0 e in record { first = p.first; second = p.second }) others.0, all_agree list lie.1 stay.1 others.1)
+      all_agree (point ∷ list) lie stay others = (
+        one_agrees point.source point.x point.y (same_source point.source (sources.Func place)) refl lie.0 (λ e. let p = stay.0 e in
+            record { first = p.first; second = p.second }) others.0,
+        all_agree list lie.1 stay.1 others.1,
+      )
 
       agree : Agree (answers visit.number) found all_read
       agree = all_agree all_read all_lie all_stay (reads_others inner visit.number x y few_points lies (standing_at visit.number) wanted_are)
@@ -260,33 +295,45 @@ module _ (pipeline : Pipeline) (schedule : Schedule) (boxes : Boxes) (rules : Is
       -- ---- what is written
 
       abbrev column_now : ℕ
-      column_now = word.subtract (inlined (valuing found) (flags pipeline schedule) pipeline.funcs place (variable (visited_point now place corner update)) update.left_x) (linear_value now corner.x)
+      column_now = word.subtract (inlined (valuing found) (flags pipeline schedule) pipeline.funcs place (variable (visited_point now place corner update))
+          update.left_x) (linear_value now corner.x)
 
       column_at : column_now ≡ i_of
       column_at =
-          ap (λ (p : Environment). word.subtract (inlined (valuing found) (flags pipeline schedule) pipeline.funcs place (variable p) update.left_x) (linear_value now corner.x)) point_is
-          ∙ ap (word.subtract (inlined (valuing found) (flags pipeline schedule) pipeline.funcs place (variable (at_reduction update visit.number x y)) update.left_x)) (corner_is inner).0
-          ∙ ap (λ (n : ℕ). word.subtract n begin.x) (column_found pipeline schedule rules accepted place func func_is standing there computed at update update_is inputs begun visit.number x y found agree)
+          ap (λ (p : Environment). word.subtract (inlined (valuing found) (flags pipeline schedule) pipeline.funcs place (variable p) update.left_x)
+          (linear_value now corner.x)) point_is
+          ∙ ap (word.subtract (inlined (valuing found) (flags pipeline schedule) pipeline.funcs place (variable (at_reduction update visit.number x y))
+          update.left_x)) (corner_is inner).0
+          ∙ ap (λ (n : ℕ). word.subtract n begin.x) (column_found pipeline schedule rules accepted place func func_is standing there computed at update
+          update_is inputs begun visit.number x y found agree)
 
       abbrev row_now : ℕ
-      row_now = word.subtract (index_of (inlined (valuing found) (flags pipeline schedule) pipeline.funcs place (variable (visited_point now place corner update))) update.left_y) (linear_value now corner.y)
+      row_now = word.subtract (index_of (inlined (valuing found) (flags pipeline schedule) pipeline.funcs place
+          (variable (visited_point now place corner update))) update.left_y) (linear_value now corner.y)
 
       row_at : row_now ≡ j_of
       row_at =
-          ap (λ (p : Environment). word.subtract (index_of (inlined (valuing found) (flags pipeline schedule) pipeline.funcs place (variable p)) update.left_y) (linear_value now corner.y)) point_is
-          ∙ ap (word.subtract (index_of (inlined (valuing found) (flags pipeline schedule) pipeline.funcs place (variable (at_reduction update visit.number x y))) update.left_y)) (corner_is inner).1
-          ∙ ap (λ (n : ℕ). word.subtract n begin.y) (row_found pipeline schedule rules accepted place func func_is standing there computed at update update_is inputs begun visit.number x y found agree)
+          ap (λ (p : Environment). word.subtract (index_of (inlined (valuing found) (flags pipeline schedule) pipeline.funcs place (variable p)) update.left_y)
+          (linear_value now corner.y)) point_is
+          ∙ ap (word.subtract (index_of (inlined (valuing found) (flags pipeline schedule) pipeline.funcs place
+          (variable (at_reduction update visit.number x y))) update.left_y)) (corner_is inner).1
+          ∙ ap (λ (n : ℕ). word.subtract n begin.y) (row_found pipeline schedule rules accepted place func func_is standing there computed at update update_is
+          inputs begun visit.number x y found agree)
 
       ran : step inner buffers ≡ put boxed place i_of j_of written buffers
       ran =
           stores boxed inputs now buffers
           ∙ put_as boxed place buffers
-          (word.subtract (inlined (valuing found) (flags pipeline schedule) pipeline.funcs place (variable (visited_point now place corner update)) update.left_x) (linear_value now corner.x))
-          (word.subtract (index_of (inlined (valuing found) (flags pipeline schedule) pipeline.funcs place (variable (visited_point now place corner update))) update.left_y) (linear_value now corner.y))
-          (inlined (valuing found) (flags pipeline schedule) pipeline.funcs (suc place) (variable (visited_point now place corner update)) update.right) i_of j_of written
+          (word.subtract (inlined (valuing found) (flags pipeline schedule) pipeline.funcs place (variable (visited_point now place corner update))
+          update.left_x) (linear_value now corner.x))
+          (word.subtract (index_of (inlined (valuing found) (flags pipeline schedule) pipeline.funcs place (variable (visited_point now place corner update)))
+          update.left_y) (linear_value now corner.y))
+          (inlined (valuing found) (flags pipeline schedule) pipeline.funcs (suc place) (variable (visited_point now place corner update)) update.right) i_of
+          j_of written
           column_at row_at
           (ap (λ (p : Environment). inlined (valuing found) (flags pipeline schedule) pipeline.funcs (suc place) (variable p) update.right) point_is
-          ∙ right_found pipeline schedule rules accepted place func func_is standing there computed at update update_is inputs begun visit.number x y found agree)
+          ∙ right_found pipeline schedule rules accepted place func func_is standing there computed at update update_is inputs begun visit.number x y found
+          agree)
 
       there_boxed : boxed place i_of j_of ≡ true
       there_boxed = points_own i_of j_of ∙ target_there
@@ -315,16 +362,20 @@ module _ (pipeline : Pipeline) (schedule : Schedule) (boxes : Boxes) (rules : Is
             let c : row_in j ≡ j = ap (λ (b : Bool). in_place b j) e in
             add_turned begin.y j ∙ ap (λ (n : ℕ). word.add n begin.y) (sym (eqb-true visit.y (row_in j) on_parts.1 ∙ c))
 
-        more : from_begin (suc visit.number) i j ≡ cond (written_column == word.add begin.x i && written_row == word.add begin.y j) written (from_begin visit.number i j)
+        more : from_begin (suc visit.number) i j ≡ cond (written_column == word.add begin.x i && written_row == word.add begin.y j) written
+            (from_begin visit.number i j)
         more =
-            one_more pipeline schedule rules accepted place func func_is standing there computed at update update_is inputs begun visit.number x y (word.add begin.x i) (word.add begin.y j) placed_first placed_second
+            one_more pipeline schedule rules accepted place func func_is standing there computed at update update_is inputs begun visit.number x y
+            (word.add begin.x i) (word.add begin.y j) placed_first placed_second
 
         tests : (written_column == word.add begin.x i && written_row == word.add begin.y j) ≡ (i_of == i && j_of == j)
         tests =
-            ap (λ (t : Bool). t && written_row == word.add begin.y j) (same_test written_column begin.x i target_lies.first.word begins.x.word small_i (i_of == i) refl)
+            ap (λ (t : Bool). t && written_row == word.add begin.y j) (same_test written_column begin.x i target_lies.first.word begins.x.word small_i
+            (i_of == i) refl)
             ∙ ap (λ (t : Bool). i_of == i && t) (same_test written_row begin.y j target_lies.second.word begins.y.word small_j (j_of == j) refl)
 
-        by_test : (test : Bool) → (i_of == i && j_of == j) ≡ test → put boxed place i_of j_of written buffers place i j ≡ cond test written (from_begin visit.number i j)
+        by_test : (test : Bool) → (i_of == i && j_of == j) ≡ test → put boxed place i_of j_of written buffers place i j
+            ≡ cond test written (from_begin visit.number i j)
         by_test true e =
             let p = and_parts (i_of == i) (j_of == j) e in
             ap (λ (n : ℕ). put boxed place i_of j_of written buffers place n j) (sym (eqb-true i_of i p.0))
@@ -345,7 +396,8 @@ module _ (pipeline : Pipeline) (schedule : Schedule) (boxes : Boxes) (rules : Is
           by_test false e = refl
           by_test true e =
               let p = and_parts (i_of == i) (j_of == j) e in
-              let all : (inside i_of j_of && is_visited update i_of j_of visit) ≡ true = and_from (inside i_of j_of) (is_visited update i_of j_of visit) (closed i_of j_of target_there target_on) target_on in
+              let all : (inside i_of j_of && is_visited update i_of j_of visit) ≡ true = and_from (inside i_of j_of) (is_visited update i_of j_of visit)
+              (closed i_of j_of target_there target_on) target_on in
               let here : (inside i j && is_visited update i j visit) ≡ true =
               subst (λ (n : ℕ). (inside n j && is_visited update n j visit) ≡ true) (eqb-true i_of i p.0)
               (subst (λ (n : ℕ). (inside i_of n && is_visited update i_of n visit) ≡ true) (eqb-true j_of j p.1) all) in
@@ -364,12 +416,15 @@ module _ (pipeline : Pipeline) (schedule : Schedule) (boxes : Boxes) (rules : Is
     -- ---- beside a trace
 
     module _ (hits : HitsUpdate corners (flags pipeline schedule) pipeline.funcs place corner update store) (p q : ℕ) where
-      pub marks : (so_far : Trace) → Others place funcs0 inside column_in row_in from_begin so_far.funcs → HoldsAt place funcs0 inside column_in row_in from_begin visit visit.number so_far.funcs
-          → ((trace boxed inputs place p q store now so_far).funcs ≡ step inner so_far.funcs) × ((trace boxed inputs place p q store now so_far).is_stored ≡ (so_far.is_stored || is_point p q named))
+      pub marks : (so_far : Trace) → Others place funcs0 inside column_in row_in from_begin so_far.funcs
+          → HoldsAt place funcs0 inside column_in row_in from_begin visit visit.number so_far.funcs
+          → ((trace boxed inputs place p q store now so_far).funcs ≡ step inner so_far.funcs) × ((trace boxed inputs place p q store now so_far).is_stored
+          ≡ (so_far.is_stored || is_point p q named))
       marks so_far ready holds = (
         traces_follow_runs boxed inputs place p q store now so_far,
         hits boxed inputs place p q now so_far
-            ∙ ap (λ (b : Bool). so_far.is_stored || (b && (column_now so_far.funcs ready holds == p && row_now so_far.funcs ready holds == q))) (eq-eqb place place refl)
+            ∙ ap (λ (b : Bool). so_far.is_stored || (b && (column_now so_far.funcs ready holds == p && row_now so_far.funcs ready holds == q)))
+            (eq-eqb place place refl)
             ∙ ap (λ (n : ℕ). so_far.is_stored || (n == p && row_now so_far.funcs ready holds == q)) (column_at so_far.funcs ready holds)
             ∙ ap (λ (n : ℕ). so_far.is_stored || (i_of == p && n == q)) (row_at so_far.funcs ready holds),
       )

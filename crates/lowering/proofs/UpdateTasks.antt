@@ -1,5 +1,6 @@
 -- Tasks of an update: each leaves what stands after it in the slices that its iteration visits.
-use Rattle.std.proofs.Common.{◌≡◌, ℕ, suc, ◌-◌, ◌*◌, ◌^◌, ◌<◌, ◌≤◌, Bool, true, false, cond, List, [], ◌∷◌, map, length, take, Option, Some, None, refl, sym, ap, subst, ◌∙◌, arith}
+use Rattle.std.proofs.Common.{◌≡◌, ℕ, suc, ◌-◌, ◌*◌, ◌^◌, ◌<◌, ◌≤◌, Bool, true, false, cond, List, [], ◌∷◌, map, length, take, Option, Some, None, refl, sym}
+use Rattle.std.proofs.Common.{ap, subst, ◌∙◌, arith}
 use Rattle.std.specs.Prelude.{◌&&◌, ◌==◌, slice_get, Ok}
 use Rattle.std.specs.List.{AllByRecursion, list_any}
 use Rattle.std.proofs.lemmas.Bool.{and_parts, and_from, eq-eqb, ne_eqb}
@@ -61,7 +62,8 @@ use Rattle.lowering.specs.PurePhases.{inside_of, counter_of}
 use Rattle.bounds.specs.Stages.{IsAtRoot, named_point, is_point, names}
 use Rattle.lowering.specs.Stages.{is_private, after_stages}
 use Rattle.lowering.specs.Touching.{may_write, may_load, TouchesItsOwn}
-use Rattle.lowering.specs.Updates.{IsUpdateAt, IsUpdateStoreOf, LoadsOthers, in_place, is_visited, owns_update, IsBegin, IsCornerAt, ReadsPixels, consumer_at, produced_turns, stage_from}
+use Rattle.lowering.specs.Updates.{IsUpdateAt, IsUpdateStoreOf, LoadsOthers, in_place, is_visited, owns_update, IsBegin, IsCornerAt, ReadsPixels, consumer_at}
+use Rattle.lowering.specs.Updates.{produced_turns, stage_from}
 use Rattle.lowering.proofs.Lists.{any_map, all_pass, before_last}
 use Rattle.lowering.proofs.Loads.{update_loads}
 use Rattle.lowering.proofs.Offsets.{first_none}
@@ -83,11 +85,13 @@ none_added n small = omega (arith, small)
 word_small : (end : ℕ) → word_at end < 2 ^ 32
 word_small end = omega arith
 
-module _ (pipeline : Pipeline) (schedule : Schedule) (boxes : Boxes) (rules : IsWellFormed pipeline) (accepted : IsAccepted pipeline schedule) (is : inferred pipeline schedule ≡ Ok boxes)
+module _ (pipeline : Pipeline) (schedule : Schedule) (boxes : Boxes) (rules : IsWellFormed pipeline) (accepted : IsAccepted pipeline schedule)
+    (is : inferred pipeline schedule ≡ Ok boxes)
     (place : ℕ) (func : Func) (plan : FuncPlan) (own : SourceBox) (root : IsAtRoot pipeline schedule boxes place func plan own)
     (at : ℕ) (update : Update) (stage : Stage) (it : IsUpdateAt schedule place func plan at update stage)
     (store : Stmt) (store_of : IsUpdateStoreOf pipeline schedule boxes place own update store)
-    (phase : Phase) (tasks_are : phase.tasks ≡ iteration_count (update_extents own update) stage) (counter_is : phase.counter ≡ counter_of place (parallel stage))
+    (phase : Phase) (tasks_are : phase.tasks ≡ iteration_count (update_extents own update) stage) (counter_is : phase.counter
+    ≡ counter_of place (parallel stage))
     (repeats : Repeats place phase.body store (wholes (update_extents own update) stage.splits (inside_of (parallel stage) stage.loops)))
     (inputs : Planes) (begun : AnswerWords pipeline.inputs (reads_of inputs (pixels pipeline.funcs inputs 0))) where
   abbrev extents : Extents
@@ -120,7 +124,8 @@ module _ (pipeline : Pipeline) (schedule : Schedule) (boxes : Boxes) (rules : Is
   lasts_are = ap (λ (p : Place). lasts_of (consumer_in schedule boxes.funcs p)) root.placed_is
 
   below : Below (produced_turns schedule boxes root.standing no_loops) (lasts_of (consumer_at schedule boxes root.standing))
-  below = subst (λ (l : List ℕ). Below l (lasts_of (consumer_at schedule boxes root.standing))) (sym turns_are) (subst (λ (l : List ℕ). Below no_loops l) (sym lasts_are) no_below)
+  below = subst (λ (l : List ℕ). Below l (lasts_of (consumer_at schedule boxes root.standing))) (sym turns_are) (subst (λ (l : List ℕ). Below no_loops l)
+      (sym lasts_are) no_below)
 
   none_of : own.lasts ≡ no_loops
   none_of = no_lasts pipeline schedule boxes place func plan own accepted is root
@@ -140,13 +145,16 @@ module _ (pipeline : Pipeline) (schedule : Schedule) (boxes : Boxes) (rules : Is
   points_own : (x y : ℕ) → box_points boxes.funcs place x y ≡ has_point (Some own) x y
   points_own x y = ap (λ (o : Option (Option SourceBox)). has_point (box_in o) x y) root.box_is
 
-  held_own : (updates x y : ℕ) → held boxes.funcs (after_stages pipeline.funcs inputs place func (suc updates)) place x y ≡ stage_from pipeline inputs place func begin updates x y
+  held_own : (updates x y : ℕ) → held boxes.funcs (after_stages pipeline.funcs inputs place func (suc updates)) place x y ≡ stage_from pipeline inputs place
+      func begin updates x y
   held_own updates x y = rw root.box_is (rw (eq-eqb place place refl) refl)
 
-  held_other : (updates other x y : ℕ) → (other ≡ place → ⊥) → held boxes.funcs (after_stages pipeline.funcs inputs place func (suc updates)) other x y ≡ held boxes.funcs (pixels pipeline.funcs inputs place) other x y
+  held_other : (updates other x y : ℕ) → (other ≡ place → ⊥) → held boxes.funcs (after_stages pipeline.funcs inputs place func (suc updates)) other x y
+      ≡ held boxes.funcs (pixels pipeline.funcs inputs place) other x y
   held_other updates other x y d =
       let corner = corner_of (box_in (slice_get boxes.funcs other)) in
-      ap (λ (b : Bool). cond b (meaning.stage place func inputs (pixels pipeline.funcs inputs place) updates) (pixels pipeline.funcs inputs place other) (word.add corner.x x) (word.add corner.y y)) (ne_eqb other place d)
+      ap (λ (b : Bool). cond b (meaning.stage place func inputs (pixels pipeline.funcs inputs place) updates) (pixels pipeline.funcs inputs place other)
+      (word.add corner.x x) (word.add corner.y y)) (ne_eqb other place d)
 
   -- ---- slices
 
@@ -175,36 +183,51 @@ module _ (pipeline : Pipeline) (schedule : Schedule) (boxes : Boxes) (rules : Is
     visits_are = listed func update extents stage stage_facts.0 place stage_facts.1 (parallel stage) refl number below_count
 
     all_visits : AllByRecursion (IsVisitOf func (Some update) extents) (map (visit_of extents) list)
-    all_visits = subst (λ (l : List Visit). AllByRecursion (IsVisitOf func (Some update) extents) l) visits_are (task_within func update extents stage stage_facts.0 place stage_facts.1 number below_count)
+    all_visits = subst (λ (l : List Visit). AllByRecursion (IsVisitOf func (Some update) extents) l) visits_are (task_within func update extents stage
+        stage_facts.0 place stage_facts.1 number below_count)
 
     reduced_by : (found : Option Loop) → parallel stage ≡ found → number < count_of (counts extents stage.splits) found
-        → AllByRecursion (λ inner. inner (ids.Whole variables.FirstReduction) < update.first.extent) (wholes extents stage.splits (inside_of found stage.loops) (loops_of place (task_values (counter_of place found) number)))
+        → AllByRecursion (λ inner. inner (ids.Whole variables.FirstReduction) < update.first.extent) (wholes extents stage.splits (inside_of found stage.loops)
+        (loops_of place (task_values (counter_of place found) number)))
     reduced_by None e l =
-        within func (Some update) extents stage stage.loops [] variables.FirstReduction (loops_of place (task_values None number)) stage_facts.0 (sym (append-nil stage.loops)) (has_reduction func update) tt
+        within func (Some update) extents stage stage.loops [] variables.FirstReduction (loops_of place (task_values None number)) stage_facts.0
+        (sym (append-nil stage.loops)) (has_reduction func update) tt
     reduced_by (Some loop) e l =
         let o = outermost stage loop stage_facts.1 e in
-        let taken : inside_of (Some loop) stage.loops ≡ o.last.inside = ap (λ (ls : List Loop). take (length ls - 1) ls) o.last.loops_are ∙ before_last o.last.inside loop in
+        let taken : inside_of (Some loop) stage.loops ≡ o.last.inside = ap (λ (ls : List Loop). take (length ls - 1) ls) o.last.loops_are
+        ∙ before_last o.last.inside loop in
         let turn : loops_of place (task_values (counter_of place (Some loop)) number) loop.id ≡ number =
         ap (λ (b : Bool). cond b number 0) (and_from (place == place) (same_id loop.id loop.id) (eq-eqb place place refl) (same_id-self loop.id)) in
-        subst (λ (ls : List Loop). AllByRecursion (λ inner. inner (ids.Whole variables.FirstReduction) < update.first.extent) (wholes extents stage.splits ls (loops_of place (task_values (counter_of place (Some loop)) number)))) (sym taken)
-        (within func (Some update) extents stage o.last.inside (loop ∷ []) variables.FirstReduction (loops_of place (task_values (counter_of place (Some loop)) number)) stage_facts.0 o.last.loops_are (has_reduction func update)
+        subst (λ (ls : List Loop). AllByRecursion (λ inner. inner (ids.Whole variables.FirstReduction) < update.first.extent) (wholes extents stage.splits ls
+        (loops_of place (task_values (counter_of place (Some loop)) number)))) (sym taken)
+        (within func (Some update) extents stage o.last.inside (loop ∷ []) variables.FirstReduction (loops_of place (task_values (counter_of place (Some loop))
+        number)) stage_facts.0 o.last.loops_are (has_reduction func update)
         (omega (arith, turn, l), tt))
 
     reduced : AllByRecursion (λ inner. inner (ids.Whole variables.FirstReduction) < update.first.extent) list
     reduced = reduced_by (parallel stage) refl below_count
 
-    small_by : (found : Option Loop) → number < count_of (counts extents stage.splits) found → AreSmall (loops_of place (task_values (counter_of place found) number))
+    small_by : (found : Option Loop) → number < count_of (counts extents stage.splits) found
+        → AreSmall (loops_of place (task_values (counter_of place found) number))
     small_by None l id = omega arith
     small_by (Some loop) l id = by_test (place == place && same_id id loop.id)
       where
         by_test : (b : Bool) → cond b number 0 < 2 ^ 25
         by_test true =
-            omega (arith, l, few_turns extents stage.splits (few pipeline schedule boxes rules accepted is place func own root.func_is root.box_is at update it.update_is root.standing root.there computed) (splits pipeline schedule accepted place func plan root.standing root.func_is root.there at update stage it) loop.id)
+            omega (
+              arith,
+              l,
+              few_turns extents stage.splits (few pipeline schedule boxes rules accepted is place func own root.func_is root.box_is at update
+                  it.update_is root.standing root.there computed) (splits pipeline schedule accepted place func plan root.standing root.func_is root.there at
+                  update stage it) loop.id,
+            )
         by_test false = omega arith
 
-    ran : (funcs : Planes) → run_task (box_points boxes.funcs) inputs phase number funcs ≡ all (λ inner. run (box_points boxes.funcs) inputs store (put_loops place inner before)) list funcs
+    ran : (funcs : Planes) → run_task (box_points boxes.funcs) inputs phase number funcs ≡ all (λ inner. run (box_points boxes.funcs) inputs store
+        (put_loops place inner before)) list funcs
     ran funcs =
-        ap (λ (c : Option Counter). run (box_points boxes.funcs) inputs phase.body (task_values c number) funcs) counter_is ∙ repeats.runs (box_points boxes.funcs) inputs before funcs (small_by (parallel stage) below_count)
+        ap (λ (c : Option Counter). run (box_points boxes.funcs) inputs phase.body (task_values c number) funcs) counter_is
+        ∙ repeats.runs (box_points boxes.funcs) inputs before funcs (small_by (parallel stage) below_count)
 
     corner_is : IsCornerAt place before store_of.corner begin
     corner_is inner =
@@ -224,15 +247,19 @@ module _ (pipeline : Pipeline) (schedule : Schedule) (boxes : Boxes) (rules : Is
     on_visited : (i j : ℕ) → owned i j ≡ true → list_any (is_visited update i j) (iteration extents stage number) ≡ true
     on_visited i j e = (and_parts (has_point (Some own) i j) (list_any (is_visited update i j) (iteration extents stage number)) e).1
 
-    closed : AllByRecursion (λ visit. (i j : ℕ) → has_point (Some own) i j ≡ true → is_visited update i j visit ≡ true → owned i j ≡ true) (map (visit_of extents) list)
+    closed : AllByRecursion (λ visit. (i j : ℕ) → has_point (Some own) i j ≡ true → is_visited update i j visit ≡ true
+        → owned i j ≡ true) (map (visit_of extents) list)
     closed =
-        all_so (λ visit. (test : Visit → Bool) → test visit ≡ true → list_any test (map (visit_of extents) list) ≡ true) (λ visit. (i j : ℕ) → has_point (Some own) i j ≡ true → is_visited update i j visit ≡ true → owned i j ≡ true)
+        all_so (λ visit. (test : Visit → Bool) → test visit ≡ true → list_any test (map (visit_of extents) list) ≡ true) (λ visit. (i j : ℕ)
+        → has_point (Some own) i j ≡ true → is_visited update i j visit ≡ true → owned i j ≡ true)
         (λ visit member i j boxed on.
-        and_from (has_point (Some own) i j) (list_any (is_visited update i j) (iteration extents stage number)) boxed (ap (list_any (is_visited update i j)) visits_are ∙ member (is_visited update i j) on))
+        and_from (has_point (Some own) i j) (list_any (is_visited update i j) (iteration extents stage number)) boxed (ap (list_any (is_visited update i j))
+        visits_are ∙ member (is_visited update i j) on))
         (map (visit_of extents) list) (members (map (visit_of extents) list))
 
     in_order : (i j : ℕ) → owned i j ≡ true
-        → slice (in_place (is_first_in_place update) i) (in_place (is_second_in_place update) j) (map (visit_of extents) list) ≡ rising (in_place (is_first_in_place update) i) (in_place (is_second_in_place update) j) 0 (points update)
+        → slice (in_place (is_first_in_place update) i) (in_place (is_second_in_place update) j) (map (visit_of extents) list)
+        ≡ rising (in_place (is_first_in_place update) i) (in_place (is_second_in_place update) j) 0 (points update)
     in_order i j e =
         let c = in_place (is_first_in_place update) i in
         let r = in_place (is_second_in_place update) j in
@@ -240,48 +267,58 @@ module _ (pipeline : Pipeline) (schedule : Schedule) (boxes : Boxes) (rules : Is
         ∙ task_in_order func update extents stage stage_facts.0 place stage_facts.1 number below_count c r (on_visited i j e)
         ∙ ap (rising c r 0) (points_are func update own)
 
-    names_are : (x y : ℕ) → names pipeline inputs place own update stage number x y ≡ list_any (λ inner. is_point x y (named_point (reads_of inputs (pixels pipeline.funcs inputs place)) begin update (visit_of extents inner))) list
+    names_are : (x y : ℕ) → names pipeline inputs place own update stage number x y
+        ≡ list_any (λ inner. is_point x y (named_point (reads_of inputs (pixels pipeline.funcs inputs place)) begin update (visit_of extents inner))) list
     names_are x y =
         let left = named_point (reads_of inputs (pixels pipeline.funcs inputs place)) begin update in
         any_map (is_point x y) left (iteration extents stage number)
-        ∙ ap (list_any (λ (visit : Visit). is_point x y (left visit))) visits_are ∙ any_map (λ (visit : Visit). is_point x y (left visit)) (visit_of extents) list
+        ∙ ap (list_any (λ (visit : Visit). is_point x y (left visit))) visits_are ∙ any_map (λ (visit : Visit). is_point x y (left visit)) (visit_of extents)
+        list
 
     module _ (funcs : Planes) (hold : Hold (box_points boxes.funcs) (is_private schedule.standings) place owned start funcs) where
       others : ReadsPixels pipeline schedule store_of.corners place update (produced_turns schedule boxes root.standing no_loops) own inputs before funcs
       others =
           subst (λ (l : List ℕ). ReadsPixels pipeline schedule store_of.corners place update l own inputs before funcs) (sym turns_are)
-          (reads_pixels pipeline schedule boxes rules accepted is place func plan own root at update stage it inputs begun store_of.corners store_of.are_corners before funcs
+          (reads_pixels pipeline schedule boxes rules accepted is place func plan own root at update stage it inputs begun store_of.corners store_of.are_corners
+          before funcs
           (λ k x y d public_so boxed. hold k x y public_so boxed (λ e. absurd (d e)) ∙ held_other at k x y d))
 
       holds : (i j : ℕ) → owned i j ≡ true → funcs place i j ≡ stage_from pipeline inputs place func begin at i j
-      holds i j e = hold place i j (roots_are_shared pipeline schedule accepted place root.standing root.there root.placed_is) (points_own i j ∙ in_box i j e) (λ s. e) ∙ held_own at i j
+      holds i j e = hold place i j (roots_are_shared pipeline schedule accepted place root.standing root.there root.placed_is) (points_own i j
+          ∙ in_box i j e) (λ s. e) ∙ held_own at i j
 
       task_does : (x y : ℕ) → owned x y ≡ true → run_task (box_points boxes.funcs) inputs phase number funcs place x y ≡ result place x y
       task_does x y e =
           ap (λ (f : Planes). f place x y) (ran funcs)
-          ∙ leaves pipeline schedule boxes rules accepted is place func own root.func_is root.box_is root.standing root.there computed at update it.update_is inputs begun no_loops below begin begins store_of.corners before store_of.corner corner_is reads_own
+          ∙ leaves pipeline schedule boxes rules accepted is place func own root.func_is root.box_is root.standing root.there computed at update it.update_is
+          inputs begun no_loops below begin begins store_of.corners before store_of.corner corner_is reads_own
           store store_of.stores funcs others list all_visits reduced owned in_box closed in_order holds x y e
           ∙ sym (held_own (suc at) x y)
 
-      task_keeps : (other x y : ℕ) → is_private schedule.standings other ≡ false → (other ≡ place → owned x y ≡ false) → run_task (box_points boxes.funcs) inputs phase number funcs other x y ≡ funcs other x y
+      task_keeps : (other x y : ℕ) → is_private schedule.standings other ≡ false → (other ≡ place → owned x y ≡ false)
+          → run_task (box_points boxes.funcs) inputs phase number funcs other x y ≡ funcs other x y
       task_keeps other x y public_so free =
           ap (λ (f : Planes). f other x y) (ran funcs)
-          ∙ stays pipeline schedule boxes rules accepted is place func own root.func_is root.box_is root.standing root.there computed at update it.update_is inputs begun no_loops below begin begins store_of.corners before store_of.corner corner_is reads_own
+          ∙ stays pipeline schedule boxes rules accepted is place func own root.func_is root.box_is root.standing root.there computed at update it.update_is
+          inputs begun no_loops below begin begins store_of.corners before store_of.corner corner_is reads_own
           store store_of.stores funcs others list all_visits reduced owned in_box closed in_order holds other x y free
 
       -- ---- where it stores
 
       inside_so : (x y : ℕ) → names pipeline inputs place own update stage number x y ≡ true → owned x y ≡ true
       inside_so x y e =
-          names_inside pipeline schedule boxes rules accepted is place func own root.func_is root.box_is root.standing root.there computed at update it.update_is inputs begun no_loops below begin begins store_of.corners before store_of.corner corner_is reads_own
+          names_inside pipeline schedule boxes rules accepted is place func own root.func_is root.box_is root.standing root.there computed at update
+          it.update_is inputs begun no_loops below begin begins store_of.corners before store_of.corner corner_is reads_own
           store store_of.stores funcs others list all_visits reduced owned in_box closed x y (sym (names_are x y) ∙ e)
 
-      pub task_stores : (x y : ℕ) → is_stored_by_task (box_points boxes.funcs) inputs phase number place x y funcs ≡ names pipeline inputs place own update stage number x y
+      pub task_stores : (x y : ℕ) → is_stored_by_task (box_points boxes.funcs) inputs phase number place x y funcs ≡ names pipeline inputs place own update
+          stage number x y
       task_stores x y =
           let begins_so : Trace = record { funcs = funcs; is_stored = false } in
           ap (λ (c : Option Counter). is_stored_by (box_points boxes.funcs) inputs place x y phase.body (task_values c number) funcs) counter_is
           ∙ ap (λ (t : Trace). t.is_stored) (repeats.traces (box_points boxes.funcs) inputs place x y before begins_so (small_by (parallel stage) below_count))
-          ∙ stores_named pipeline schedule boxes rules accepted is place func own root.func_is root.box_is root.standing root.there computed at update it.update_is inputs begun no_loops below begin begins store_of.corners before store_of.corner corner_is reads_own
+          ∙ stores_named pipeline schedule boxes rules accepted is place func own root.func_is root.box_is root.standing root.there computed at update
+          it.update_is inputs begun no_loops below begin begins store_of.corners before store_of.corner corner_is reads_own
           store store_of.stores funcs others list all_visits reduced owned in_box closed in_order holds store_of.hits x y
           ∙ sym (names_are x y)
 
@@ -301,15 +338,24 @@ module _ (pipeline : Pipeline) (schedule : Schedule) (boxes : Boxes) (rules : Is
       loaded = may_load pipeline schedule boxes place owned phase.private
 
       produced_none : (k : ℕ) (w : IsReadWithin schedule place k) (loop : LoopPlace) → w.own.place ≡ places.At loop → ⊥
-      produced_none = none_within pipeline schedule accepted place root.standing root.there root.placed_is (consumers_none pipeline schedule accepted place plan at stage it.plan_is it.stage_is)
+      produced_none = none_within pipeline schedule accepted place root.standing root.there root.placed_is (consumers_none pipeline schedule accepted place plan
+          at stage it.plan_is it.stage_is)
 
       others_load : LoadsOthers pipeline schedule store_of.corners place update no_loops own reads loaded before
       others_load inner count x y few_so lies =
-          update_loads pipeline schedule boxes rules accepted is places.Root place func plan own tt root place func plan own root (loops_of place (put_loops place inner before)) (λ k w loop e. absurd (produced_none k w loop e))
-          (put_loops place inner before) (λ id. refl) store_of.corners store_of.are_corners reads words loaded (λ k a b e. e) (roots_load pipeline schedule boxes place owned phase.private)
-          (λ k w loop e. absurd (produced_none k w loop e)) no_loops (subst (λ (l : List ℕ). Below no_loops l) (sym none_of) no_below) x y lies (λ k w loop e. absurd (produced_none k w loop e)) at update it.update_is count few_so
+          update_loads pipeline schedule boxes rules accepted is places.Root place func plan own tt root place func plan own root
+          (loops_of place (put_loops place inner before)) (λ k w loop e. absurd (produced_none k w loop e))
+          (put_loops place inner before) (λ id. refl) store_of.corners store_of.are_corners reads words loaded (λ k a b e. e) (roots_load pipeline schedule
+          boxes place owned phase.private)
+          (λ k w loop e. absurd (produced_none k w loop e)) no_loops (subst (λ (l : List ℕ). Below no_loops l) (sym none_of) no_below) x y lies
+          (λ k w loop e. absurd (produced_none k w loop e)) at update it.update_is count few_so
 
-      own_placed : (inner : loops.Values) (a b : ℕ) → place_in store_of.corners (put_loops place inner before) (record { source = sources.Func place; x = a; y = b })
+      own_placed : (inner : loops.Values) (a b : ℕ) → place_in store_of.corners (put_loops place inner before) (record {
+        source = sources.Func place;
+        x = a;
+        y =
+            b;
+      })
           ≡ record { source = sources.Func place; x = word.subtract a begin.x; y = word.subtract b begin.y }
       own_placed inner a b =
           let now : Values = put_loops place inner before in
@@ -318,11 +364,15 @@ module _ (pipeline : Pipeline) (schedule : Schedule) (boxes : Boxes) (rules : Is
 
       pub task_sound : is_sound reads written loaded phase.body (task_values phase.counter number) ≡ true
       task_sound =
-          ap (λ (c : Option Counter). is_sound reads written loaded phase.body (task_values c number)) counter_is ∙ repeats.sound reads written loaded before (small_by (parallel stage) below_count)
+          ap (λ (c : Option Counter). is_sound reads written loaded phase.body (task_values c number)) counter_is
+          ∙ repeats.sound reads written loaded before (small_by (parallel stage) below_count)
           ∙ all_pass (λ inner. is_sound reads written loaded store (put_loops place inner before)) list
-          (all_sound pipeline schedule boxes rules is place func own root.func_is root.box_is root.standing root.there computed at update it.update_is no_loops below begin begins store_of.corners before store_of.corner corner_is
-          store store_of.sound reads words written loaded own_placed (subst (λ (l : List ℕ). LoadsOthers pipeline schedule store_of.corners place update l own reads loaded before) (sym turns_are) others_load)
-          owned (own_writes pipeline schedule boxes place owned phase.private) (own_loads pipeline schedule boxes place owned phase.private) list all_visits reduced closed)
+          (all_sound pipeline schedule boxes rules is place func own root.func_is root.box_is root.standing root.there computed at update it.update_is no_loops
+          below begin begins store_of.corners before store_of.corner corner_is
+          store store_of.sound reads words written loaded own_placed (subst (λ (l : List ℕ). LoadsOthers pipeline schedule store_of.corners place update l own
+          reads loaded before) (sym turns_are) others_load)
+          owned (own_writes pipeline schedule boxes place owned phase.private) (own_loads pipeline schedule boxes place owned phase.private) list all_visits
+          reduced closed)
 
   -- ---- all tasks
 
@@ -332,19 +382,25 @@ module _ (pipeline : Pipeline) (schedule : Schedule) (boxes : Boxes) (rules : Is
   visited_by : (number x y : ℕ) → owns_update own update stage number x y ≡ true → list_any (is_visited update x y) (iteration extents stage number) ≡ true
   visited_by number x y e = (and_parts (has_point (Some own) x y) (list_any (is_visited update x y) (iteration extents stage number)) e).1
 
-  never_unowned : (x y : ℕ) → box_points boxes.funcs place x y ≡ true → ((number : ℕ) → number < phase.tasks → owns_update own update stage number x y ≡ false) → ⊥
+  never_unowned : (x y : ℕ) → box_points boxes.funcs place x y ≡ true → ((number : ℕ) → number < phase.tasks → owns_update own update stage number x y ≡ false)
+      → ⊥
   never_unowned x y boxed none =
       let here : has_point (Some own) x y ≡ true = sym (points_own x y) ∙ boxed in
-      some_task func update extents stage stage_facts.0 place stage_facts.1 (in_place (is_first_in_place update) x) (in_place (is_second_in_place update) y) (slice_there func update own pipeline.inputs pipeline.funcs place ((rules.funcs place func root.func_is).updates at update it.update_is) x y here) some_points
+      some_task func update extents stage stage_facts.0 place stage_facts.1 (in_place (is_first_in_place update) x) (in_place (is_second_in_place update) y)
+      (slice_there func update own pipeline.inputs pipeline.funcs place ((rules.funcs place func root.func_is).updates at update it.update_is) x y here)
+      some_points
       (λ number l.
-      ap (λ (b : Bool). b && list_any (is_visited update x y) (iteration extents stage number)) (sym here) ∙ none number (subst (λ (n : ℕ). number < n) (sym tasks_are) l))
+      ap (λ (b : Bool). b && list_any (is_visited update x y) (iteration extents stage number)) (sym here)
+      ∙ none number (subst (λ (n : ℕ). number < n) (sym tasks_are) l))
 
-  pub does_update : DoesPhase (box_points boxes.funcs) (is_private schedule.standings) place start result phase.tasks (owns_update own update stage) (run_task (box_points boxes.funcs) inputs phase)
+  pub does_update : DoesPhase (box_points boxes.funcs) (is_private schedule.standings) place start result phase.tasks (owns_update own update stage)
+      (run_task (box_points boxes.funcs) inputs phase)
   does_update = record {
     not_private = roots_are_shared pipeline schedule accepted place root.standing root.there root.placed_is;
     each = task;
     one_owner = λ x y first second lf ls ef es.
-        one_task func update extents stage stage_facts.0 place stage_facts.1 (in_place (is_first_in_place update) x) (in_place (is_second_in_place update) y) first second (in_count first lf) (in_count second ls)
+        one_task func update extents stage stage_facts.0 place stage_facts.1 (in_place (is_first_in_place update) x) (in_place (is_second_in_place update) y)
+        first second (in_count first lf) (in_count second ls)
         (visited_by first x y ef) (visited_by second x y es);
     unowned = λ x y boxed none. absurd (never_unowned x y boxed none);
     others = λ other x y d. held_other (suc at) other x y d ∙ sym (held_other at other x y d);

@@ -48,7 +48,8 @@ use Rattle.lowering_expressions.specs.declared.calls.Corner.{Corner}
 use Rattle.lowering_expressions.specs.Lowering.{placed, place as place_in}
 use Rattle.lowering.specs.Planes.{has_point}
 use Rattle.bounds.specs.Extents.{BoxCorner, update_extents}
-use Rattle.lowering.specs.Updates.{IsSoundUpdate, LoadsOthers, index_of, points_of_index, visited_point, is_visited, IsCornerAt, IsBegin, consumer_at, produced_turns}
+use Rattle.lowering.specs.Updates.{IsSoundUpdate, LoadsOthers, index_of, points_of_index, visited_point, is_visited, IsCornerAt, IsBegin, consumer_at}
+use Rattle.lowering.specs.Updates.{produced_turns}
 use Rattle.lowering.proofs.AtVisit as visiting
 use Rattle.lowering.proofs.Lists.{all_map}
 use Rattle.lowering.proofs.Loads.{placed_words}
@@ -82,7 +83,8 @@ module _ (pipeline : Pipeline) (schedule : Schedule) (boxes : Boxes) (rules : Is
 
   -- ---- one visit
 
-  module _ (inner : loops.Values) (v : IsVisitOf func (Some update) extents (visit_of extents inner)) (reduced : inner (ids.Whole variables.FirstReduction) < update.first.extent) (closed : Closed (visit_of extents inner)) where
+  module _ (inner : loops.Values) (v : IsVisitOf func (Some update) extents (visit_of extents inner)) (reduced : inner (ids.Whole variables.FirstReduction)
+      < update.first.extent) (closed : Closed (visit_of extents inner)) where
     abbrev visit : Visit
     visit = visit_of extents inner
 
@@ -111,43 +113,57 @@ module _ (pipeline : Pipeline) (schedule : Schedule) (boxes : Boxes) (rules : Is
     answer_words = placed_words pipeline corners now reads words
 
     lies : LiesIn values own x y
-    lies = visiting.lies pipeline schedule boxes rules is place func own func_is box_is standing there computed at update update_is turns below begin begins before corner corner_is inner v reduced
+    lies = visiting.lies pipeline schedule boxes rules is place func own func_is box_is standing there computed at update update_is turns below begin begins
+        before corner corner_is inner v reduced
 
     few : visit.number < points update
-    few = visiting.few_points pipeline schedule boxes rules is place func own func_is box_is standing there computed at update update_is turns below begin begins before corner corner_is inner v reduced
+    few = visiting.few_points pipeline schedule boxes rules is place func own func_is box_is standing there computed at update update_is turns below begin
+        begins before corner corner_is inner v reduced
 
     near : IsNear x × IsNear y
-    near = visiting.near pipeline schedule boxes rules is place func own func_is box_is standing there computed at update update_is turns below begin begins before corner corner_is inner v reduced
+    near = visiting.near pipeline schedule boxes rules is place func own func_is box_is standing there computed at update update_is turns below begin begins
+        before corner corner_is inner v reduced
 
     all_lie : AreBoxed values (sources.Func place) (Some (Some own)) all_read
     all_lie =
-        own_points_lie pipeline schedule boxes rules is place func standing func_is there.standing there.reached computed (consumer_at schedule boxes standing) refl turns below own box_is at update update_is
+        own_points_lie pipeline schedule boxes rules is place func standing func_is there.standing there.reached computed (consumer_at schedule boxes standing)
+        refl turns below own box_is at update update_is
         answers answer_words x y lies.first.word lies.second.word near.0 near.1 visit.number few (record { first = λ e. lies.first; second = λ e. lies.second })
 
     all_stay : AllByRecursion (λ own. same_source own.source (sources.Func place) ≡ true → IsInPlace update x y own) all_read
     all_stay = own_reads_stay pipeline schedule rules place func func_is at update update_is answers visit.number x y
 
-    own_inside : (a b : ℕ) → LiesIn values own a b → IsInPlace update x y (record { source = sources.Func place; x = a; y = b }) → inside (word.subtract a begin.x) (word.subtract b begin.y) ≡ true
+    own_inside : (a b : ℕ) → LiesIn values own a b → IsInPlace update x y (record { source = sources.Func place; x = a; y = b })
+        → inside (word.subtract a begin.x) (word.subtract b begin.y) ≡ true
     own_inside a b boxed stays =
         closed (word.subtract a begin.x) (word.subtract b begin.y)
-        (visiting.boxed_at pipeline schedule boxes rules is place func own func_is box_is standing there computed at update update_is turns below begin begins before corner corner_is inner v reduced a b boxed)
-        (visiting.on_slice pipeline schedule boxes rules is place func own func_is box_is standing there computed at update update_is turns below begin begins before corner corner_is inner v reduced a b stays)
+        (visiting.boxed_at pipeline schedule boxes rules is place func own func_is box_is standing there computed at update update_is turns below begin begins
+        before corner corner_is inner v reduced a b boxed)
+        (visiting.on_slice pipeline schedule boxes rules is place func own func_is box_is standing there computed at update update_is turns below begin begins
+        before corner corner_is inner v reduced a b stays)
 
-    one_loads : (s : Source) (a b : ℕ) (test : Bool) → same_source s (sources.Func place) ≡ test → (test ≡ true → LiesIn values own a b) → (test ≡ true → IsInPlace update x y (record { source = s; x = a; y = b }))
-        → (test ≡ false → loaded (place_in corners now (record { source = s; x = a; y = b })) ≡ true) → loaded (place_in corners now (record { source = s; x = a; y = b })) ≡ true
+    one_loads : (s : Source) (a b : ℕ) (test : Bool) → same_source s (sources.Func place) ≡ test → (test ≡ true → LiesIn values own a b)
+        → (test ≡ true → IsInPlace update x y (record { source = s; x = a; y = b }))
+        → (test ≡ false → loaded (place_in corners now (record { source = s; x = a; y = b })) ≡ true)
+        → loaded (place_in corners now (record { source = s; x = a; y = b })) ≡ true
     one_loads s a b false differs boxed stays other = other refl
     one_loads (sources.Input k) a b true same boxed stays other = absurd cc
     one_loads (sources.Func k) a b true same boxed stays other =
         let p = stays refl in
         subst (λ (n : ℕ). loaded (place_in corners now (record { source = sources.Func n; x = a; y = b })) ≡ true) (sym (eqb-true k place same))
-        (ap loaded (own_placed inner a b) ∙ own_loads (word.subtract a begin.x) (word.subtract b begin.y) (own_inside a b (boxed refl) (record { first = p.first; second = p.second })))
+        (ap loaded (own_placed inner a b) ∙ own_loads (word.subtract a begin.x) (word.subtract b begin.y) (own_inside a b (boxed refl)
+        (record { first = p.first; second = p.second })))
 
-    all_loads : (list : List Point) → AllByRecursion (λ own_point. same_source own_point.source (sources.Func place) ≡ true → LiesIn values own own_point.x own_point.y) list
+    all_loads : (list : List Point) → AllByRecursion (λ own_point. same_source own_point.source (sources.Func place) ≡ true
+        → LiesIn values own own_point.x own_point.y) list
         → AllByRecursion (λ own. same_source own.source (sources.Func place) ≡ true → IsInPlace update x y own) list
         → AllByRecursion (λ own. same_source own.source (sources.Func place) ≡ false → loaded (place_in corners now own) ≡ true) list → Loaded list
     all_loads [] lie stay other = tt
-    all_loads (first ∷ list) lie stay other =
-        (one_loads first.source first.x first.y (same_source first.source (sources.Func place)) refl lie.0 (λ e. let p = stay.0 e in record { first = p.first; second = p.second }) other.0, all_loads list lie.1 stay.1 other.1)
+    all_loads (first ∷ list) lie stay other = (
+      one_loads first.source first.x first.y (same_source first.source (sources.Func place)) refl lie.0 (λ e. let p = stay.0 e in
+          record { first = p.first; second = p.second }) other.0,
+      all_loads list lie.1 stay.1 other.1,
+    )
 
     loads : Loaded all_read
     loads = all_loads all_read all_lie all_stay (others inner visit.number x y few lies)
@@ -161,7 +177,12 @@ module _ (pipeline : Pipeline) (schedule : Schedule) (boxes : Boxes) (rules : Is
     second = (second_seen pipeline schedule answers place point update.left_y).points
 
     abbrev target : Point
-    target = record { source = sources.Func place; x = (seen_in pipeline schedule answers place point update.left_x).value; y = (second_seen pipeline schedule answers place point update.left_y).value }
+    target = record {
+      source = sources.Func place;
+      x = (seen_in pipeline schedule answers place point update.left_x).value;
+      y =
+          (second_seen pipeline schedule answers place point update.left_y).value;
+    }
 
     abbrev right : List Point
     right = (seen_in pipeline schedule answers (suc place) point update.right).points
@@ -176,9 +197,11 @@ module _ (pipeline : Pipeline) (schedule : Schedule) (boxes : Boxes) (rules : Is
     target_inside =
         let same = eq-eqb place place refl in
         let p = (behind_left (λ own. same_source own.source (sources.Func place) ≡ true → IsInPlace update x y own) all_stay).1.1.0 same in
-        own_inside target.x target.y ((behind_left (λ own_point. same_source own_point.source (sources.Func place) ≡ true → LiesIn values own own_point.x own_point.y) all_lie).1.1.0 same) (record { first = p.first; second = p.second })
+        own_inside target.x target.y ((behind_left (λ own_point. same_source own_point.source (sources.Func place) ≡ true
+        → LiesIn values own own_point.x own_point.y) all_lie).1.1.0 same) (record { first = p.first; second = p.second })
 
-    row_is : (index : Option Expr) → (second_seen pipeline schedule answers place point index).value ≡ index_of (inlined (valuing answers) (flags pipeline schedule) pipeline.funcs place (variable point)) index
+    row_is : (index : Option Expr) → (second_seen pipeline schedule answers place point index).value
+        ≡ index_of (inlined (valuing answers) (flags pipeline schedule) pipeline.funcs place (variable point)) index
     row_is None = refl
     row_is (Some index) = sees_inlined_values answers (flags pipeline schedule) pipeline.funcs place point index
 
@@ -190,7 +213,8 @@ module _ (pipeline : Pipeline) (schedule : Schedule) (boxes : Boxes) (rules : Is
     writes : written place (word.subtract (inlined (valuing answers) (flags pipeline schedule) pipeline.funcs place (variable point) update.left_x) begin.x)
         (word.subtract (index_of (inlined (valuing answers) (flags pipeline schedule) pipeline.funcs place (variable point)) update.left_y) begin.y) ≡ true
     writes =
-        ap (λ (n : ℕ). written place (word.subtract n begin.x) (word.subtract (index_of (inlined (valuing answers) (flags pipeline schedule) pipeline.funcs place (variable point)) update.left_y) begin.y))
+        ap (λ (n : ℕ). written place (word.subtract n begin.x) (word.subtract (index_of (inlined (valuing answers) (flags pipeline schedule) pipeline.funcs
+        place (variable point)) update.left_y) begin.y))
         (sym (sees_inlined_values answers (flags pipeline schedule) pipeline.funcs place point update.left_x))
         ∙ ap (λ (n : ℕ). written place (word.subtract target.x begin.x) (word.subtract n begin.y)) (sym (row_is update.left_y))
         ∙ own_writes (word.subtract target.x begin.x) (word.subtract target.y begin.y) target_inside
@@ -204,16 +228,21 @@ module _ (pipeline : Pipeline) (schedule : Schedule) (boxes : Boxes) (rules : Is
 
     sound_at : IsSoundAt inner
     sound_at =
-        let point_is : visited_point now place corner update ≡ point = visiting.point_is pipeline schedule boxes rules is place func own func_is box_is standing there computed at update update_is turns below begin begins before corner corner_is inner v reduced in
+        let point_is : visited_point now place corner update ≡ point = visiting.point_is pipeline schedule boxes rules is place func own func_is box_is standing
+        there computed at update update_is turns below begin begins before corner corner_is inner v reduced in
         let back = sym point_is in
         let parts = behind_left (λ own. loaded (place_in corners now own) ≡ true) loads in
         sound reads written loaded now
         (subst (λ (p : Environment). WritesAt p (linear_value now corner.x) (linear_value now corner.y)) back
-        (subst (λ (n : ℕ). WritesAt point n (linear_value now corner.y)) (sym (corner_is inner).0) (subst (λ (n : ℕ). WritesAt point begin.x n) (sym (corner_is inner).1) writes)))
-        (subst (λ (p : Environment). Loaded (inlined (seeing answers) (flags pipeline schedule) pipeline.funcs place (seen_variable p) update.left_x).points) back parts.0)
-        (subst (λ (p : Environment). Loaded (points_of_index (λ (e : Expr). (inlined (seeing answers) (flags pipeline schedule) pipeline.funcs place (seen_variable p) e).points) update.left_y)) back
+        (subst (λ (n : ℕ). WritesAt point n (linear_value now corner.y)) (sym (corner_is inner).0) (subst (λ (n : ℕ). WritesAt point begin.x n)
+        (sym (corner_is inner).1) writes)))
+        (subst (λ (p : Environment). Loaded (inlined (seeing answers) (flags pipeline schedule) pipeline.funcs place (seen_variable p) update.left_x).points)
+        back parts.0)
+        (subst (λ (p : Environment). Loaded (points_of_index (λ (e : Expr). (inlined (seeing answers) (flags pipeline schedule) pipeline.funcs place
+        (seen_variable p) e).points) update.left_y)) back
         (subst Loaded (index_points update.left_y) parts.1.0))
-        (subst (λ (p : Environment). Loaded (inlined (seeing answers) (flags pipeline schedule) pipeline.funcs (suc place) (seen_variable p) update.right).points) back parts.1.1.1)
+        (subst (λ (p : Environment). Loaded (inlined (seeing answers) (flags pipeline schedule) pipeline.funcs (suc place) (seen_variable p)
+        update.right).points) back parts.1.1.1)
 
   -- ---- all that are listed
 
@@ -221,9 +250,12 @@ module _ (pipeline : Pipeline) (schedule : Schedule) (boxes : Boxes) (rules : Is
       → AllByRecursion (λ inner. inner (ids.Whole variables.FirstReduction) < update.first.extent) list → AllByRecursion Closed (map (visit_of extents) list)
       → AllByRecursion IsSoundAt list
   all_sound list visits reduced closed =
-      all_so (λ inner. (IsVisitOf func (Some update) extents (visit_of extents inner) × Closed (visit_of extents inner)) × (inner (ids.Whole variables.FirstReduction) < update.first.extent)) IsSoundAt
+      all_so (λ inner. (IsVisitOf func (Some update) extents (visit_of extents inner) × Closed (visit_of extents inner))
+      × (inner (ids.Whole variables.FirstReduction) < update.first.extent)) IsSoundAt
       (λ inner p. sound_at inner p.0.0 p.1 p.0.1) list
-      (all_and (λ inner. IsVisitOf func (Some update) extents (visit_of extents inner) × Closed (visit_of extents inner)) (λ inner. inner (ids.Whole variables.FirstReduction) < update.first.extent) list
-      (all_map (λ visit. IsVisitOf func (Some update) extents visit × Closed visit) (λ inner. IsVisitOf func (Some update) extents (visit_of extents inner) × Closed (visit_of extents inner)) (visit_of extents) (λ inner p. p) list
+      (all_and (λ inner. IsVisitOf func (Some update) extents (visit_of extents inner) × Closed (visit_of extents inner))
+      (λ inner. inner (ids.Whole variables.FirstReduction) < update.first.extent) list
+      (all_map (λ visit. IsVisitOf func (Some update) extents visit × Closed visit) (λ inner. IsVisitOf func (Some update) extents (visit_of extents inner)
+      × Closed (visit_of extents inner)) (visit_of extents) (λ inner p. p) list
       (all_and (IsVisitOf func (Some update) extents) Closed (map (visit_of extents) list) visits closed))
       reduced)

@@ -1,5 +1,6 @@
 -- What the loops of an update visit: all of a stage, and the tasks of one with a parallel loop.
-use Rattle.std.proofs.Common.{◌≡◌, ℕ, zero, suc, ◌-◌, ◌<◌, ◌≤◌, Bool, true, false, cond, List, [], ◌∷◌, length, take, map, filter, Option, Some, None, refl, sym, ap, subst, ◌∙◌, arith, inl, inr, true≢false}
+use Rattle.std.proofs.Common.{◌≡◌, ℕ, zero, suc, ◌-◌, ◌<◌, ◌≤◌, Bool, true, false, cond, List, [], ◌∷◌, length, take, map, filter, Option, Some, None, refl}
+use Rattle.std.proofs.Common.{sym, ap, subst, ◌∙◌, arith, inl, inr, true≢false}
 use Rattle.std.specs.Prelude.{◌||◌, ◌==◌}
 use Rattle.std.specs.List.{AllByRecursion, list_any}
 use Rattle.std.proofs.lemmas.Bool.{and_parts, eqb-true, cases_eq}
@@ -8,7 +9,8 @@ use Rattle.halide_pipeline.specs.declared.definitions.Update.{Update}
 use Rattle.schedule_lines.specs.declared.stages.Loop.{Loop}
 use Rattle.schedule_lines.specs.declared.stages.Stage.{Stage}
 use Rattle.schedule_loops.specs.declared.extents.Extents.{Extents}
-use Rattle.schedule_loops.specs.Visits.{counts, Visit, nest, over_loops, zeros, visit_of, visits, slice, is_slice, rising, parallel, is_turn, iteration, iteration_count, count_of}
+use Rattle.schedule_loops.specs.Visits.{counts, Visit, nest, over_loops, zeros, visit_of, visits, slice, is_slice, rising, parallel, is_turn, iteration}
+use Rattle.schedule_loops.specs.Visits.{iteration_count, count_of}
 use Rattle.schedule_loops.specs.Visits as loops
 use Rattle.schedule_loops.specs.Reach.{wholes}
 use Rattle.schedule_loops.specs.Stages.{IsStageOf, KeepsRules, IsVisitOf, is_slice_of, points_of}
@@ -35,7 +37,8 @@ module _ (func : Func) (update : Update) (extents : Extents) (stage : Stage) (st
   pub all_listed : visits extents stage ≡ map (visit_of extents) (wholes extents stage.splits stage.loops zeros)
   all_listed = visits_of_wholes extents stage.splits stage.loops zeros
 
-  pub all_in_order : (x y : ℕ) → is_slice_of func (Some update) extents x y ≡ true → slice x y (visits extents stage) ≡ rising x y 0 (points_of func (Some update) extents)
+  pub all_in_order : (x y : ℕ) → is_slice_of func (Some update) extents x y ≡ true
+      → slice x y (visits extents stage) ≡ rising x y 0 (points_of func (Some update) extents)
   all_in_order x y there = slice_is func update extents stage stage_is x y true there
 
   pub all_within : AllByRecursion (IsVisitOf func (Some update) extents) (visits extents stage)
@@ -45,11 +48,13 @@ module _ (func : Func) (update : Update) (extents : Extents) (stage : Stage) (st
 
   module _ (legal : KeepsRules stage) where
     pub listed : (found : Option Loop) → parallel stage ≡ found → (number : ℕ) → number < count_of (counts extents stage.splits) found
-        → iteration extents stage number ≡ map (visit_of extents) (wholes extents stage.splits (inside_of found stage.loops) (loops_of place (task_values (counter_of place found) number)))
+        → iteration extents stage number ≡ map (visit_of extents) (wholes extents stage.splits (inside_of found stage.loops)
+        (loops_of place (task_values (counter_of place found) number)))
     listed None is number l =
         let first : number ≡ 0 = omega (arith, l) in
         ap (iteration extents stage) first
-        ∙ ap (λ (p : Option Loop). nest (counts extents stage.splits) stage.loops (λ values. cond (is_turn p 0 values) (over_loops extents stage.splits (λ whole. visit_of extents whole ∷ []) values) []) zeros) is
+        ∙ ap (λ (p : Option Loop). nest (counts extents stage.splits) stage.loops (λ values. cond (is_turn p 0 values) (over_loops extents stage.splits
+        (λ whole. visit_of extents whole ∷ []) values) []) zeros) is
         ∙ visits_of_wholes extents stage.splits stage.loops zeros
     listed (Some own) is number l =
         let o = outermost stage own legal is in
@@ -59,36 +64,44 @@ module _ (func : Func) (update : Update) (extents : Extents) (stage : Stage) (st
         iteration_turn func (Some update) extents stage o.last.inside own stage_is o.last.loops_are is number l
         ∙ visits_of_wholes extents stage.splits o.last.inside turns
         ∙ ap (λ (ls : List Loop). map (visit_of extents) (wholes extents stage.splits ls turns)) (sym taken)
-        ∙ ap (λ (t : loops.Values). map (visit_of extents) (wholes extents stage.splits (take (length stage.loops - 1) stage.loops) t)) (sym (loops_with place own.id number no_values))
+        ∙ ap (λ (t : loops.Values). map (visit_of extents) (wholes extents stage.splits (take (length stage.loops - 1) stage.loops) t))
+        (sym (loops_with place own.id number no_values))
 
-    pub task_within : (number : ℕ) → number < iteration_count extents stage → AllByRecursion (IsVisitOf func (Some update) extents) (iteration extents stage number)
+    pub task_within : (number : ℕ) → number < iteration_count extents stage
+        → AllByRecursion (IsVisitOf func (Some update) extents) (iteration extents stage number)
     task_within number l =
         all_upto (IsVisitOf func (Some update) extents) (iteration extents stage) (iteration_count extents stage)
-        (subst (λ (v : List Visit). AllByRecursion (IsVisitOf func (Some update) extents) v) (all_iterations func (Some update) extents stage stage_is legal) all_within) number l
+        (subst (λ (v : List Visit). AllByRecursion (IsVisitOf func (Some update) extents) v) (all_iterations func (Some update) extents stage stage_is legal)
+        all_within) number l
 
-    pub visited_slice : (number : ℕ) → number < iteration_count extents stage → (x y : ℕ) → list_any (is_slice x y) (iteration extents stage number) ≡ true → is_slice_of func (Some update) extents x y ≡ true
+    pub visited_slice : (number : ℕ) → number < iteration_count extents stage → (x y : ℕ) → list_any (is_slice x y) (iteration extents stage number) ≡ true
+        → is_slice_of func (Some update) extents x y ≡ true
     visited_slice number l x y e =
         any_gives (IsVisitOf func (Some update) extents) (is_slice_of func (Some update) extents x y ≡ true) (is_slice x y)
         (λ visit is here.
         let p = and_parts (visit.x == x) (visit.y == y) here in
-        ap (λ (n : ℕ). is_slice_of func (Some update) extents n y) (sym (eqb-true visit.x x p.0)) ∙ ap (λ (n : ℕ). is_slice_of func (Some update) extents visit.x n) (sym (eqb-true visit.y y p.1)) ∙ is.slice)
+        ap (λ (n : ℕ). is_slice_of func (Some update) extents n y) (sym (eqb-true visit.x x p.0))
+        ∙ ap (λ (n : ℕ). is_slice_of func (Some update) extents visit.x n) (sym (eqb-true visit.y y p.1)) ∙ is.slice)
         (iteration extents stage number) (task_within number l) e
 
-    owner_is : (first owner x y : ℕ) → first < iteration_count extents stage → ((n : ℕ) → n < iteration_count extents stage → (n ≡ owner → ⊥) → slice x y (iteration extents stage n) ≡ [])
+    owner_is : (first owner x y : ℕ) → first < iteration_count extents stage → ((n : ℕ) → n < iteration_count extents stage → (n ≡ owner → ⊥)
+        → slice x y (iteration extents stage n) ≡ [])
         → list_any (is_slice x y) (iteration extents stage first) ≡ true → first ≡ owner
     owner_is first owner x y l no_other e = elim (cases_eq first owner) [
       | inl same ↦ same
       | inr other ↦ absurd (kept_some (is_slice x y) (iteration extents stage first) e (no_other first l other))
     ]
 
-    pub one_task : (x y first second : ℕ) → first < iteration_count extents stage → second < iteration_count extents stage → list_any (is_slice x y) (iteration extents stage first) ≡ true
+    pub one_task : (x y first second : ℕ) → first < iteration_count extents stage → second < iteration_count extents stage
+        → list_any (is_slice x y) (iteration extents stage first) ≡ true
         → list_any (is_slice x y) (iteration extents stage second) ≡ true → first ≡ second
     one_task x y first second lf ls ef es =
         let h = slice_owner func (Some update) extents stage stage_is legal x y (visited_slice first lf x y ef) in
         owner_is first h.owner x y lf h.no_other ef ∙ sym (owner_is second h.owner x y ls h.no_other es)
 
     -- all slices of the owner
-    slices_of_owner : (x y owner : ℕ) → owner < iteration_count extents stage → ((n : ℕ) → n < iteration_count extents stage → (n ≡ owner → ⊥) → slice x y (iteration extents stage n) ≡ [])
+    slices_of_owner : (x y owner : ℕ) → owner < iteration_count extents stage → ((n : ℕ) → n < iteration_count extents stage → (n ≡ owner → ⊥)
+        → slice x y (iteration extents stage n) ≡ [])
         → slice x y (visits extents stage) ≡ slice x y (iteration extents stage owner)
     slices_of_owner x y owner l no_other =
         ap (slice x y) (all_iterations func (Some update) extents stage stage_is legal)
@@ -109,7 +122,8 @@ module _ (func : Func) (update : Update) (extents : Extents) (stage : Stage) (st
         → ((number : ℕ) → number < iteration_count extents stage → list_any (is_slice x y) (iteration extents stage number) ≡ false) → ⊥
     some_task x y there some none =
         let h = slice_owner func (Some update) extents stage stage_is legal x y there in
-        let listed_so : slice x y (iteration extents stage h.owner) ≡ rising x y 0 (points_of func (Some update) extents) = sym (slices_of_owner x y h.owner h.is_iteration h.no_other) ∙ all_in_order x y there in
+        let listed_so : slice x y (iteration extents stage h.owner) ≡ rising x y 0 (points_of func (Some update) extents) =
+        sym (slices_of_owner x y h.owner h.is_iteration h.no_other) ∙ all_in_order x y there in
         not_empty (points_of func (Some update) extents) some (sym listed_so ∙ empty_of (iteration extents stage h.owner) (none h.owner h.is_iteration))
       where
         not_empty : (n : ℕ) → 1 ≤ n → rising x y 0 n ≡ [] → ⊥
@@ -120,6 +134,7 @@ module _ (func : Func) (update : Update) (extents : Extents) (stage : Stage) (st
         empty_of [] e = refl
         empty_of (v ∷ xs) e = by_test (is_slice x y v) e (empty_of xs)
           where
-            by_test : (b : Bool) → (b || list_any (is_slice x y) xs) ≡ false → (list_any (is_slice x y) xs ≡ false → filter (is_slice x y) xs ≡ []) → cond b (v ∷ filter (is_slice x y) xs) (filter (is_slice x y) xs) ≡ []
+            by_test : (b : Bool) → (b || list_any (is_slice x y) xs) ≡ false → (list_any (is_slice x y) xs ≡ false → filter (is_slice x y) xs ≡ [])
+                → cond b (v ∷ filter (is_slice x y) xs) (filter (is_slice x y) xs) ≡ []
             by_test true e later = absurd cc
             by_test false e later = later e

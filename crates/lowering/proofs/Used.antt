@@ -26,7 +26,8 @@ module _ (reads : Reads) (one other : Environment) where
       fold-roll-Expr ℕ (value_at reads one) l ∙ sym (fold-roll-Expr ℕ (value_at reads other) l)
   by_layer X expr same (layer.Variable v) used =
       let l = layer.Variable v in
-      fold-roll-Expr ℕ (value_at reads one) l ∙ used v (fold-roll-Expr Bool (uses_at v) l ∙ same_variable-self v) ∙ sym (fold-roll-Expr ℕ (value_at reads other) l)
+      fold-roll-Expr ℕ (value_at reads one) l ∙ used v (fold-roll-Expr Bool (uses_at v) l ∙ same_variable-self v)
+      ∙ sym (fold-roll-Expr ℕ (value_at reads other) l)
   by_layer X expr same (layer.Binary operation a b) used =
       let l = layer.Binary operation (expr a) (expr b) in
       let in_a = same a (λ v e. used v (fold-roll-Expr Bool (uses_at v) l ∙ or_left (uses v (expr a)) (uses v (expr b)) e)) in
@@ -36,14 +37,18 @@ module _ (reads : Reads) (one other : Environment) where
       ∙ sym (fold-roll-Expr ℕ (value_at reads other) l)
   by_layer X expr same (layer.Divide a c) used =
       let l = layer.Divide (expr a) c in
-      fold-roll-Expr ℕ (value_at reads one) l ∙ ap (λ (n : ℕ). word.divide n c) (same a (λ v e. used v (fold-roll-Expr Bool (uses_at v) l ∙ e))) ∙ sym (fold-roll-Expr ℕ (value_at reads other) l)
+      fold-roll-Expr ℕ (value_at reads one) l ∙ ap (λ (n : ℕ). word.divide n c) (same a (λ v e. used v (fold-roll-Expr Bool (uses_at v) l ∙ e)))
+      ∙ sym (fold-roll-Expr ℕ (value_at reads other) l)
   by_layer X expr same (layer.Remainder a c) used =
       let l = layer.Remainder (expr a) c in
-      fold-roll-Expr ℕ (value_at reads one) l ∙ ap (λ (n : ℕ). word.remainder n c) (same a (λ v e. used v (fold-roll-Expr Bool (uses_at v) l ∙ e))) ∙ sym (fold-roll-Expr ℕ (value_at reads other) l)
+      fold-roll-Expr ℕ (value_at reads one) l ∙ ap (λ (n : ℕ). word.remainder n c) (same a (λ v e. used v (fold-roll-Expr Bool (uses_at v) l ∙ e)))
+      ∙ sym (fold-roll-Expr ℕ (value_at reads other) l)
   by_layer X expr same (layer.Select c a b) used =
       let l = layer.Select (expr c) (expr a) (expr b) in
-      let in_c = same c (λ v e. used v (fold-roll-Expr Bool (uses_at v) l ∙ or_left (uses v (expr c) || uses v (expr a)) (uses v (expr b)) (or_left (uses v (expr c)) (uses v (expr a)) e))) in
-      let in_a = same a (λ v e. used v (fold-roll-Expr Bool (uses_at v) l ∙ or_left (uses v (expr c) || uses v (expr a)) (uses v (expr b)) (or_right (uses v (expr c)) (uses v (expr a)) e))) in
+      let in_c = same c (λ v e. used v (fold-roll-Expr Bool (uses_at v) l ∙ or_left (uses v (expr c) || uses v (expr a)) (uses v (expr b))
+      (or_left (uses v (expr c)) (uses v (expr a)) e))) in
+      let in_a = same a (λ v e. used v (fold-roll-Expr Bool (uses_at v) l ∙ or_left (uses v (expr c) || uses v (expr a)) (uses v (expr b))
+      (or_right (uses v (expr c)) (uses v (expr a)) e))) in
       let in_b = same b (λ v e. used v (fold-roll-Expr Bool (uses_at v) l ∙ or_right (uses v (expr c) || uses v (expr a)) (uses v (expr b)) e)) in
       fold-roll-Expr ℕ (value_at reads one) l
       ∙ ap (λ (n : ℕ). cond (n == 0) (value reads one (expr b)) (value reads one (expr a))) in_c
@@ -52,7 +57,8 @@ module _ (reads : Reads) (one other : Environment) where
       ∙ sym (fold-roll-Expr ℕ (value_at reads other) l)
   by_layer X expr same (layer.Call1 s a) used =
       let l = layer.Call1 s (expr a) in
-      fold-roll-Expr ℕ (value_at reads one) l ∙ ap (λ (n : ℕ). reads s n 0) (same a (λ v e. used v (fold-roll-Expr Bool (uses_at v) l ∙ e))) ∙ sym (fold-roll-Expr ℕ (value_at reads other) l)
+      fold-roll-Expr ℕ (value_at reads one) l ∙ ap (λ (n : ℕ). reads s n 0) (same a (λ v e. used v (fold-roll-Expr Bool (uses_at v) l ∙ e)))
+      ∙ sym (fold-roll-Expr ℕ (value_at reads other) l)
   by_layer X expr same (layer.Call2 s a b) used =
       let l = layer.Call2 s (expr a) (expr b) in
       let in_a = same a (λ v e. used v (fold-roll-Expr Bool (uses_at v) l ∙ or_left (uses v (expr a)) (uses v (expr b)) e)) in

@@ -1,5 +1,6 @@
 -- What the laws of phases are used with.
-use Rattle.std.proofs.Common.{◌≡◌, ℕ, zero, suc, ◌+◌, ◌*◌, ◌^◌, ◌<◌, ◌≤◌, Bool, true, false, cond, List, [], ◌∷◌, ◌++◌, length, Option, Some, None, refl, ap, ◌∙◌, arith, inl, inr}
+use Rattle.std.proofs.Common.{◌≡◌, ℕ, zero, suc, ◌+◌, ◌*◌, ◌^◌, ◌<◌, ◌≤◌, Bool, true, false, cond, List, [], ◌∷◌, ◌++◌, length, Option, Some, None, refl, ap}
+use Rattle.std.proofs.Common.{◌∙◌, arith, inl, inr}
 use Rattle.std.specs.Prelude.{◌==◌, ◌&&◌, nat_lt, slice_get}
 use Rattle.std.specs.List.{All}
 use Rattle.std.proofs.lemmas.Bool.{and_parts, cases_eq, eq-eqb, ne_eqb, eqb-true, ltb-true}
@@ -56,9 +57,11 @@ rising_is_an_order count = record { once = below_once count; no_other = above_ne
 -- ---- tasks
 
 module _ (is_private : ℕ → Bool) (tasks : ℕ → Planes → Planes) where
-  one_more : (order : List ℕ) (last : ℕ) (funcs between : Planes) → Done is_private tasks order funcs between → Done is_private tasks (order ++ (last ∷ [])) funcs (tasks last between)
+  one_more : (order : List ℕ) (last : ℕ) (funcs between : Planes) → Done is_private tasks order funcs between
+      → Done is_private tasks (order ++ (last ∷ [])) funcs (tasks last between)
   one_more _ last _ between (Nothing _) = Task last [] between between (tasks last between) (λ place x y e. refl) (Nothing (tasks last between))
-  one_more _ last _ between (Task first others funcs before _ same done) = Task first (others ++ (last ∷ [])) funcs before (tasks last between) same (one_more others last (tasks first before) between done)
+  one_more _ last _ between (Task first others funcs before _ same done) = Task first (others ++ (last ∷ [])) funcs before (tasks last between) same
+      (one_more others last (tasks first before) between done)
 
   pub turns_are_done : (count : ℕ) (funcs : Planes) → Done is_private tasks (numbers_below count) funcs (turns count tasks funcs)
   unfolding turns
@@ -101,7 +104,12 @@ module _ (bound : ℕ) (some : 0 < bound) (picture : PictureContents) (is : IsPi
   by_test false e = some
   by_test true e =
       let p = and_parts (nat_lt x picture.width) (nat_lt y picture.height) e in
-      all (y * picture.width + x) 0 (omega (arith, full, within_rows x y picture.width picture.height (ltb-true x picture.width p.0) (ltb-true y picture.height p.1)))
+      all (y * picture.width + x) 0 (omega (
+        arith,
+        full,
+        within_rows x y picture.width picture.height (ltb-true x picture.width p.0) (ltb-true y picture.height
+            p.1),
+      ))
 
   pub plane_below : input_plane (Some picture) x y < bound
   plane_below = by_test (nat_lt x picture.width && nat_lt y picture.height) refl
@@ -116,9 +124,11 @@ module _ (inputs : List Input) (funcs : List Func) (pictures : List PictureConte
   word (sources.Input place) x y = word_by place x y (slice_get pictures place) refl
   word (sources.Func place) x y = omega arith
 
-  byte_by : (place x y : ℕ) (input : Input) → slice_get inputs place ≡ Some input → input.is_bytes ≡ true → (found : Option PictureContents) → slice_get pictures place ≡ found → input_plane found x y < 256
+  byte_by : (place x y : ℕ) (input : Input) → slice_get inputs place ≡ Some input → input.is_bytes ≡ true → (found : Option PictureContents)
+      → slice_get pictures place ≡ found → input_plane found x y < 256
   byte_by place x y input there is_bytes None e = omega arith
-  byte_by place x y input there is_bytes (Some picture) e = plane_below 256 (omega arith) picture (are.each place picture e) (are.bytes place input picture there e is_bytes) x y
+  byte_by place x y input there is_bytes (Some picture) e = plane_below 256 (omega arith) picture (are.each place picture e) (are.bytes place input picture
+      there e is_bytes) x y
 
 pub pictures_answer_words : PicturesAnswerWords
 pictures_answer_words inputs funcs pictures are = record {

@@ -66,15 +66,22 @@ pub record HasCorner (plans : List FuncPlan) (corners : List Corner) (k : ℕ) (
   pub there : slice_get corners k ≡ Some corner
   pub is : IsCornerOf plans place own corner
 
-pub corner_at : (plans : List FuncPlan) (boxes : List (Option SourceBox)) (standings : List Standing) (corners : List Corner) (k : ℕ) (own : Option SourceBox) (standing : Standing)
-    → AreCorners plans boxes standings corners → slice_get boxes k ≡ Some own → slice_get standings k ≡ Some standing → HasCorner plans corners k standing.place own
+pub corner_at : (plans : List FuncPlan) (boxes : List (Option SourceBox)) (standings : List Standing) (corners : List Corner) (k : ℕ) (own : Option SourceBox)
+    (standing : Standing)
+    → AreCorners plans boxes standings corners → slice_get boxes k ≡ Some own → slice_get standings k ≡ Some standing
+    → HasCorner plans corners k standing.place own
 corner_at plans [] standings corners k own standing are there stands = absurd cc
 corner_at plans (first ∷ boxes) [] corners k own standing are there stands = absurd cc
 corner_at plans (first ∷ boxes) (other ∷ standings) [] k own standing are there stands = absurd are
 corner_at plans (first ∷ boxes) (other ∷ standings) (corner ∷ corners) zero own standing are there stands =
     let same : first ≡ own = cc in
     let same_standing : other ≡ standing = cc in
-    record { corner = corner; there = refl; is = subst (λ (o : Option SourceBox). IsCornerOf plans standing.place o corner) same (subst (λ (s : Standing). IsCornerOf plans s.place first corner) same_standing are.0) }
+    record {
+      corner = corner;
+      there = refl;
+      is = subst (λ (o : Option SourceBox). IsCornerOf plans standing.place o corner) same
+          (subst (λ (s : Standing). IsCornerOf plans s.place first corner) same_standing are.0);
+    }
 corner_at plans (first ∷ boxes) (other ∷ standings) (corner ∷ corners) (suc k) own standing are there stands =
     let h = corner_at plans boxes standings corners k own standing are.1 there stands in
     record { corner = h.corner; there = h.there; is = h.is }
@@ -88,8 +95,10 @@ not_inlined k places.Nowhere c = refl
 pub same_self : (k : ℕ) → same_source (sources.Func k) (sources.Func k) ≡ true
 same_self k = eq-eqb k k refl
 
-module _ (pipeline : Pipeline) (schedule : Schedule) (boxes : Boxes) (rules : IsWellFormed pipeline) (accepted : IsAccepted pipeline schedule) (is : inferred pipeline schedule ≡ Ok boxes)
-    (placed_at : Place) (reader : ℕ) (func : Func) (plan : FuncPlan) (own : SourceBox) (here : IsComputed reader placed_at) (at : IsComputedAt pipeline schedule boxes placed_at reader func plan own)
+module _ (pipeline : Pipeline) (schedule : Schedule) (boxes : Boxes) (rules : IsWellFormed pipeline) (accepted : IsAccepted pipeline schedule)
+    (is : inferred pipeline schedule ≡ Ok boxes)
+    (placed_at : Place) (reader : ℕ) (func : Func) (plan : FuncPlan) (own : SourceBox) (here : IsComputed reader placed_at) (at : IsComputedAt pipeline schedule
+    boxes placed_at reader func plan own)
     (inputs : Planes) where
   -- what reads are answered by
   abbrev wanted : Reads
@@ -106,20 +115,23 @@ module _ (pipeline : Pipeline) (schedule : Schedule) (boxes : Boxes) (rules : Is
       let p = pair_there IsPlan pipeline.funcs schedule.funcs k f.value accepted.plans f.is in
       (pair_at IsLegal schedule.funcs schedule.standings k p.value standing accepted.legal p.is there.standing there.reached).somewhere
 
-  computed_by : (k : ℕ) (standing : Standing) → IsReached schedule.standings k standing → (p : Place) → standing.place ≡ p → is_inlined p ≡ false → is_nowhere p ≡ false → IsComputed k p
+  computed_by : (k : ℕ) (standing : Standing) → IsReached schedule.standings k standing → (p : Place) → standing.place ≡ p → is_inlined p ≡ false
+      → is_nowhere p ≡ false → IsComputed k p
   computed_by k standing there places.Root e plain some = tt
   computed_by k standing there (places.At consumer) e plain some = produced_before pipeline schedule accepted k standing there consumer e
   computed_by k standing there places.Inlined e plain some = absurd (true≢false plain)
   computed_by k standing there places.Nowhere e plain some = absurd (true≢false some)
 
   module _ (begun : AnswerWords pipeline.inputs (reads_of inputs (pixels pipeline.funcs inputs 0)))
-      (consumer : ℕ) (consumer_func : Func) (consumer_plan : FuncPlan) (consuming : SourceBox) (consumer_at : IsAtRoot pipeline schedule boxes consumer consumer_func consumer_plan consuming) (turned : loops.Values)
+      (consumer : ℕ) (consumer_func : Func) (consumer_plan : FuncPlan) (consuming : SourceBox) (consumer_at : IsAtRoot pipeline schedule boxes consumer
+      consumer_func consumer_plan consuming) (turned : loops.Values)
       (funcs : Planes)
       (roots_hold : (k : ℕ) (standing : Standing) → k < reader → IsReached schedule.standings k standing → standing.place ≡ places.Root
       → (box : SourceBox) → slice_get boxes.funcs k ≡ Some (Some box) → Holds k box no_loops (pixels pipeline.funcs inputs reader k) funcs)
       (of_consumer : (k : ℕ) (w : IsReadWithin schedule reader k) (loop : LoopPlace) → w.own.place ≡ places.At loop → loop.func ≡ consumer)
       (loops_hold : (k : ℕ) (w : IsReadWithin schedule reader k) (loop : LoopPlace) → w.own.place ≡ places.At loop
-      → (box : SourceBox) → slice_get boxes.funcs k ≡ Some (Some box) → Holds k box (values_in consumer_plan loop.inside turned) (pixels pipeline.funcs inputs reader k) funcs)
+      → (box : SourceBox) → slice_get boxes.funcs k ≡ Some (Some box)
+      → Holds k box (values_in consumer_plan loop.inside turned) (pixels pipeline.funcs inputs reader k) funcs)
       (counters : Values) (counters_are : (id : LoopId) → values_in consumer_plan id (loops_of consumer counters) ≡ values_in consumer_plan id turned)
       (corners : List Corner) (are : AreCorners schedule.funcs boxes.funcs schedule.standings corners) (now : Planes) (keeps : Keeps reader funcs now) where
     words : AnswerWords pipeline.inputs wanted
@@ -130,11 +142,15 @@ module _ (pipeline : Pipeline) (schedule : Schedule) (boxes : Boxes) (rules : Is
 
     -- ---- a point that is read
 
-    ordered : (k : ℕ) (standing : Standing) → IsReached schedule.standings k standing → IsComputed k standing.place → (box : SourceBox) → slice_get boxes.funcs k ≡ Some (Some box) → IsBox box
-    ordered k standing there computed box box_is = (boxes_are_produced pipeline schedule boxes is k standing there.standing there.reached computed box box_is).box
+    ordered : (k : ℕ) (standing : Standing) → IsReached schedule.standings k standing → IsComputed k standing.place → (box : SourceBox)
+        → slice_get boxes.funcs k ≡ Some (Some box) → IsBox box
+    ordered k standing there computed box box_is = (boxes_are_produced pipeline schedule boxes is k standing there.standing there.reached computed box
+        box_is).box
 
-    found_in : (k a b : ℕ) (box : SourceBox) (values : List ℕ) (standing : Standing) → IsReached schedule.standings k standing → IsComputed k standing.place → slice_get boxes.funcs k ≡ Some (Some box)
-        → turns_for schedule.funcs standing.place counters ≡ values → LiesIn values box a b → k < reader → Holds k box values (pixels pipeline.funcs inputs reader k) funcs
+    found_in : (k a b : ℕ) (box : SourceBox) (values : List ℕ) (standing : Standing) → IsReached schedule.standings k standing → IsComputed k standing.place
+        → slice_get boxes.funcs k ≡ Some (Some box)
+        → turns_for schedule.funcs standing.place counters ≡ values → LiesIn values box a b → k < reader
+        → Holds k box values (pixels pipeline.funcs inputs reader k) funcs
         → found (sources.Func k) a b ≡ pixels pipeline.funcs inputs reader k a b
     unfolding placed
     found_in k a b box values standing there computed box_is turns_are lies before holds =
@@ -151,7 +167,8 @@ module _ (pipeline : Pipeline) (schedule : Schedule) (boxes : Boxes) (rules : Is
         ∙ ap (λ (n : ℕ). pixels pipeline.funcs inputs reader k a n) (offset_back box.lasts values box.y b lies.second)
 
     -- the turns of its consumer's loops that a Func at one of them is counted from
-    turns_are : (place : Place) (loop : LoopPlace) → place ≡ places.At loop → loop.func ≡ consumer → turns_for schedule.funcs place counters ≡ values_in consumer_plan loop.inside turned
+    turns_are : (place : Place) (loop : LoopPlace) → place ≡ places.At loop → loop.func ≡ consumer → turns_for schedule.funcs place counters
+        ≡ values_in consumer_plan loop.inside turned
     turns_are place loop e same =
         ap (λ (p : Place). turns_for schedule.funcs p counters) e
         ∙ ap (λ (p : Option FuncPlan). turns_at loop p counters) (ap (λ (n : ℕ). slice_get schedule.funcs n) same ∙ consumer_at.plan_is)
@@ -161,14 +178,18 @@ module _ (pipeline : Pipeline) (schedule : Schedule) (boxes : Boxes) (rules : Is
     -- ---- all points that are read
 
     record AreRead (list : List Point) : Type 0 where
-      roots : (k : ℕ) (standing : Standing) → k < reader → IsReached schedule.standings k standing → standing.place ≡ places.Root → AreBoxed no_loops (sources.Func k) (slice_get boxes.funcs k) list
-      produced : (k : ℕ) (w : IsReadWithin schedule reader k) (loop : LoopPlace) → w.own.place ≡ places.At loop → AreBoxed (values_in consumer_plan loop.inside turned) (sources.Func k) (slice_get boxes.funcs k) list
+      roots : (k : ℕ) (standing : Standing) → k < reader → IsReached schedule.standings k standing → standing.place ≡ places.Root
+          → AreBoxed no_loops (sources.Func k) (slice_get boxes.funcs k) list
+      produced : (k : ℕ) (w : IsReadWithin schedule reader k) (loop : LoopPlace) → w.own.place ≡ places.At loop
+          → AreBoxed (values_in consumer_plan loop.inside turned) (sources.Func k) (slice_get boxes.funcs k) list
       through : AreReadThrough pipeline schedule.standings reader reader list
 
     -- where a point of a Func lies that is read
     record LiesThere (k a b : ℕ) : Type 0 where
-      roots : (standing : Standing) → k < reader → IsReached schedule.standings k standing → standing.place ≡ places.Root → IsBoxed no_loops (slice_get boxes.funcs k) a b
-      produced : (w : IsReadWithin schedule reader k) (loop : LoopPlace) → w.own.place ≡ places.At loop → IsBoxed (values_in consumer_plan loop.inside turned) (slice_get boxes.funcs k) a b
+      roots : (standing : Standing) → k < reader → IsReached schedule.standings k standing → standing.place ≡ places.Root
+          → IsBoxed no_loops (slice_get boxes.funcs k) a b
+      produced : (w : IsReadWithin schedule reader k) (loop : LoopPlace) → w.own.place ≡ places.At loop
+          → IsBoxed (values_in consumer_plan loop.inside turned) (slice_get boxes.funcs k) a b
 
     of_list : (k a b : ℕ) (list : List Point) → AreRead (record { source = sources.Func k; x = a; y = b } ∷ list) → LiesThere k a b
     of_list k a b list r = record {
@@ -176,7 +197,8 @@ module _ (pipeline : Pipeline) (schedule : Schedule) (boxes : Boxes) (rules : Is
       produced = λ w loop e. (r.produced k w loop e).0 (same_self k);
     }
 
-    one_through : (k a b : ℕ) → LiesThere k a b → flagged (flags_of schedule.standings) k ≡ false → ReadsThrough pipeline schedule.standings reader k → found (sources.Func k) a b ≡ pixels pipeline.funcs inputs reader k a b
+    one_through : (k a b : ℕ) → LiesThere k a b → flagged (flags_of schedule.standings) k ≡ false → ReadsThrough pipeline schedule.standings reader k
+        → found (sources.Func k) a b ≡ pixels pipeline.funcs inputs reader k a b
     one_through k a b r plain through =
         let w = readers_stand_within pipeline schedule accepted reader at.standing at.there reader_computed k through in
         by_place w w.own.place refl (sym (flag_is schedule.standings k w.own w.there.standing) ∙ plain) (somewhere k w.before w.own w.there)
@@ -187,20 +209,25 @@ module _ (pipeline : Pipeline) (schedule : Schedule) (boxes : Boxes) (rules : Is
             → found (sources.Func k) a b ≡ pixels pipeline.funcs inputs reader k a b
         by_box w computed values turns holds None e some lies = let wrong = some.is in absurd cc
         by_box w computed values turns holds (Some None) e some lies = absurd lies
-        by_box w computed values turns holds (Some (Some box)) e some lies = found_in k a b box values w.own w.there computed e turns lies w.before (holds box e)
+        by_box w computed values turns holds (Some (Some box)) e some lies = found_in k a b box values w.own w.there computed e turns lies w.before
+            (holds box e)
 
-        by_place : (w : IsReadWithin schedule reader k) (p : Place) → w.own.place ≡ p → is_inlined w.own.place ≡ false → is_nowhere w.own.place ≡ false → found (sources.Func k) a b ≡ pixels pipeline.funcs inputs reader k a b
+        by_place : (w : IsReadWithin schedule reader k) (p : Place) → w.own.place ≡ p → is_inlined w.own.place ≡ false → is_nowhere w.own.place ≡ false
+            → found (sources.Func k) a b ≡ pixels pipeline.funcs inputs reader k a b
         by_place w places.Root e plain some =
-            by_box w (subst (λ (p : Place). IsComputed k p) (sym e) tt) no_loops (ap (λ (p : Place). turns_for schedule.funcs p counters) e) (roots_hold k w.own w.before w.there e)
+            by_box w (subst (λ (p : Place). IsComputed k p) (sym e) tt) no_loops (ap (λ (p : Place). turns_for schedule.funcs p counters) e)
+            (roots_hold k w.own w.before w.there e)
             (slice_get boxes.funcs k) refl (some_before boxes.funcs reader k (Some own) at.box_is w.before) (r.roots w.own w.before w.there e)
         by_place w (places.At loop) e plain some =
-            by_box w (subst (λ (p : Place). IsComputed k p) (sym e) (produced_before pipeline schedule accepted k w.own w.there loop e)) (values_in consumer_plan loop.inside turned)
+            by_box w (subst (λ (p : Place). IsComputed k p) (sym e) (produced_before pipeline schedule accepted k w.own w.there loop e))
+            (values_in consumer_plan loop.inside turned)
             (turns_are w.own.place loop e (of_consumer k w loop e)) (loops_hold k w loop e)
             (slice_get boxes.funcs k) refl (some_before boxes.funcs reader k (Some own) at.box_is w.before) (r.produced w loop e)
         by_place w places.Inlined e plain some = absurd (true≢false (sym (ap is_inlined e) ∙ plain))
         by_place w places.Nowhere e plain some = absurd (true≢false (sym (ap is_nowhere e) ∙ some))
 
-    one_agrees : (s : Source) (a b : ℕ) (list : List Point) → AreRead (record { source = s; x = a; y = b } ∷ list) → IsReadThrough pipeline schedule.standings reader reader s → found s a b ≡ wanted s a b
+    one_agrees : (s : Source) (a b : ℕ) (list : List Point) → AreRead (record { source = s; x = a; y = b } ∷ list)
+        → IsReadThrough pipeline schedule.standings reader reader s → found s a b ≡ wanted s a b
     unfolding placed
     one_agrees (sources.Input k) a b list r through = refl
     one_agrees (sources.Func k) a b list r (plain, (few, inl e)) = absurd (omega (arith, few, e))
@@ -218,16 +245,20 @@ module _ (pipeline : Pipeline) (schedule : Schedule) (boxes : Boxes) (rules : Is
     )
 
     module _ (values : List ℕ) (below : Below values own.lasts) (x y : ℕ) (lies : LiesIn values own x y)
-        (may_be : (k : ℕ) (w : IsReadWithin schedule reader k) (loop : LoopPlace) → w.own.place ≡ places.At loop → MayBeArguments consumer_func consumer_plan consuming loop.inside turned placed_at own x y) where
+        (may_be : (k : ℕ) (w : IsReadWithin schedule reader k) (loop : LoopPlace) → w.own.place ≡ places.At loop
+        → MayBeArguments consumer_func consumer_plan consuming loop.inside turned placed_at own x y) where
       are_read : AreRead (pure_points pipeline schedule wanted reader func x y)
       are_read = record {
         roots = λ k standing before there root.
-            pure_reads_of_funcs_lie pipeline schedule boxes rules is reader func own at.func_is at.box_is k standing before there.standing there.reached (subst (λ (p : Place). IsComputed k p) (sym root) tt)
+            pure_reads_of_funcs_lie pipeline schedule boxes rules is reader func own at.func_is at.box_is k standing before there.standing there.reached
+            (subst (λ (p : Place). IsComputed k p) (sym root) tt)
             None (ap (λ (p : Place). consumer_in schedule boxes.funcs p) root) own refl wanted words values below no_below x y lies;
         produced = λ k w loop e.
             let same = of_consumer k w loop e in
-            pure_reads_in_loops_lie pipeline schedule boxes rules accepted is k w.own loop w.there.standing w.there.reached e consumer_func consumer_plan consuming
-            (ap (λ (n : ℕ). slice_get pipeline.funcs n) same ∙ consumer_at.func_is) (ap (λ (n : ℕ). slice_get schedule.funcs n) same ∙ consumer_at.plan_is) (ap (λ (n : ℕ). slice_get boxes.funcs n) same ∙ consumer_at.box_is)
+            pure_reads_in_loops_lie pipeline schedule boxes rules accepted is k w.own loop w.there.standing w.there.reached e consumer_func consumer_plan
+            consuming
+            (ap (λ (n : ℕ). slice_get pipeline.funcs n) same ∙ consumer_at.func_is) (ap (λ (n : ℕ). slice_get schedule.funcs n) same
+            ∙ consumer_at.plan_is) (ap (λ (n : ℕ). slice_get boxes.funcs n) same ∙ consumer_at.box_is)
             reader func at.standing own w.before at.func_is at.there.standing at.there.reached at.box_is wanted words turned x y
             (subst (λ (p : Place). MayBeArguments consumer_func consumer_plan consuming loop.inside turned p own x y) (sym at.placed_is) (may_be k w loop e));
         through = pure_points_are_read_through pipeline schedule rules reader func at.func_is wanted x y;
@@ -239,11 +270,14 @@ module _ (pipeline : Pipeline) (schedule : Schedule) (boxes : Boxes) (rules : Is
     -- ---- all points that an update reads of other Funcs
 
     record AreReadBeside (list : List Point) : Type 0 where
-      roots : (k : ℕ) (standing : Standing) → k < reader → IsReached schedule.standings k standing → standing.place ≡ places.Root → AreBoxed no_loops (sources.Func k) (slice_get boxes.funcs k) list
-      produced : (k : ℕ) (w : IsReadWithin schedule reader k) (loop : LoopPlace) → w.own.place ≡ places.At loop → AreBoxed (values_in consumer_plan loop.inside turned) (sources.Func k) (slice_get boxes.funcs k) list
+      roots : (k : ℕ) (standing : Standing) → k < reader → IsReached schedule.standings k standing → standing.place ≡ places.Root
+          → AreBoxed no_loops (sources.Func k) (slice_get boxes.funcs k) list
+      produced : (k : ℕ) (w : IsReadWithin schedule reader k) (loop : LoopPlace) → w.own.place ≡ places.At loop
+          → AreBoxed (values_in consumer_plan loop.inside turned) (sources.Func k) (slice_get boxes.funcs k) list
       through : AreReadThrough pipeline schedule.standings reader (suc reader) list
 
-    one_beside : (s : Source) (a b : ℕ) (list : List Point) → AreReadBeside (record { source = s; x = a; y = b } ∷ list) → IsReadThrough pipeline schedule.standings reader (suc reader) s
+    one_beside : (s : Source) (a b : ℕ) (list : List Point) → AreReadBeside (record { source = s; x = a; y = b } ∷ list)
+        → IsReadThrough pipeline schedule.standings reader (suc reader) s
         → same_source s (sources.Func reader) ≡ false → found s a b ≡ wanted s a b
     unfolding placed
     one_beside (sources.Input k) a b list r through other = refl
@@ -257,7 +291,8 @@ module _ (pipeline : Pipeline) (schedule : Schedule) (boxes : Boxes) (rules : Is
         plain through
 
     all_beside : (list : List Point) → AreReadBeside list
-        → AllByRecursion (λ point. same_source point.source (sources.Func reader) ≡ false → found point.source point.x point.y ≡ wanted point.source point.x point.y) list
+        → AllByRecursion (λ point. same_source point.source (sources.Func reader) ≡ false
+        → found point.source point.x point.y ≡ wanted point.source point.x point.y) list
     all_beside [] r = tt
     all_beside (point ∷ list) r = (
       one_beside point.source point.x point.y list r r.through.0,
@@ -269,11 +304,13 @@ module _ (pipeline : Pipeline) (schedule : Schedule) (boxes : Boxes) (rules : Is
     )
 
     module _ (values : List ℕ) (below : Below values own.lasts) (x y : ℕ) (lies : LiesIn values own x y)
-        (may_be : (k : ℕ) (w : IsReadWithin schedule reader k) (loop : LoopPlace) → w.own.place ≡ places.At loop → MayBeArguments consumer_func consumer_plan consuming loop.inside turned placed_at own x y)
+        (may_be : (k : ℕ) (w : IsReadWithin schedule reader k) (loop : LoopPlace) → w.own.place ≡ places.At loop
+        → MayBeArguments consumer_func consumer_plan consuming loop.inside turned placed_at own x y)
         (number_at : ℕ) (update : Update) (update_is : slice_get func.updates number_at ≡ Some update) (number : ℕ) (few : number < pixel.points update)
         (reads : Reads) (read_words : AnswerWords pipeline.inputs reads) where
       near : IsNear x × IsNear y
-      near = points_are_near own (boxes_are_produced pipeline schedule boxes is reader at.standing at.there.standing at.there.reached reader_computed own at.box_is).box values below x y lies
+      near = points_are_near own (boxes_are_produced pipeline schedule boxes is reader at.standing at.there.standing at.there.reached reader_computed own
+          at.box_is).box values below x y lies
 
       unflagged : flagged (flags_of schedule.standings) reader ≡ false
       unflagged = flag_is schedule.standings reader at.standing at.there.standing ∙ (ap is_inlined at.placed_is ∙ not_inlined reader placed_at here)
@@ -281,18 +318,24 @@ module _ (pipeline : Pipeline) (schedule : Schedule) (boxes : Boxes) (rules : Is
       update_read : AreReadBeside (update_points pipeline schedule reads reader update number x y)
       update_read = record {
         roots = λ k standing before there root.
-            update_reads_of_funcs_lie pipeline schedule boxes rules is reader func own at.func_is at.box_is number_at update update_is k standing before there.standing there.reached
-            (subst (λ (p : Place). IsComputed k p) (sym root) tt) None (ap (λ (p : Place). consumer_in schedule boxes.funcs p) root) own refl reads read_words values below no_below x y lies near.0 near.1 number few;
+            update_reads_of_funcs_lie pipeline schedule boxes rules is reader func own at.func_is at.box_is number_at update update_is k standing before
+            there.standing there.reached
+            (subst (λ (p : Place). IsComputed k p) (sym root) tt) None (ap (λ (p : Place). consumer_in schedule boxes.funcs p) root) own refl reads read_words
+            values below no_below x y lies near.0 near.1 number few;
         produced = λ k w loop e.
             let same = of_consumer k w loop e in
-            update_reads_in_loops_lie pipeline schedule boxes rules accepted is k w.own loop w.there.standing w.there.reached e consumer_func consumer_plan consuming
-            (ap (λ (n : ℕ). slice_get pipeline.funcs n) same ∙ consumer_at.func_is) (ap (λ (n : ℕ). slice_get schedule.funcs n) same ∙ consumer_at.plan_is) (ap (λ (n : ℕ). slice_get boxes.funcs n) same ∙ consumer_at.box_is)
+            update_reads_in_loops_lie pipeline schedule boxes rules accepted is k w.own loop w.there.standing w.there.reached e consumer_func consumer_plan
+            consuming
+            (ap (λ (n : ℕ). slice_get pipeline.funcs n) same ∙ consumer_at.func_is) (ap (λ (n : ℕ). slice_get schedule.funcs n) same
+            ∙ consumer_at.plan_is) (ap (λ (n : ℕ). slice_get boxes.funcs n) same ∙ consumer_at.box_is)
             reader func at.standing own w.before at.func_is at.there.standing at.there.reached at.box_is number_at update update_is reads read_words turned x y
-            (subst (λ (p : Place). MayBeArguments consumer_func consumer_plan consuming loop.inside turned p own x y) (sym at.placed_is) (may_be k w loop e)) near.0 near.1 number few;
+            (subst (λ (p : Place). MayBeArguments consumer_func consumer_plan consuming loop.inside turned p own x y) (sym at.placed_is) (may_be k w loop e))
+            near.0 near.1 number few;
         through = update_points_are_read_through pipeline schedule rules reader func at.func_is unflagged number_at update update_is reads number x y;
       }
 
-      pub answered_beside : AllByRecursion (λ point. same_source point.source (sources.Func reader) ≡ false → found point.source point.x point.y ≡ wanted point.source point.x point.y)
+      pub answered_beside : AllByRecursion (λ point. same_source point.source (sources.Func reader) ≡ false
+          → found point.source point.x point.y ≡ wanted point.source point.x point.y)
           (update_points pipeline schedule reads reader update number x y)
       answered_beside = all_beside (update_points pipeline schedule reads reader update number x y) update_read
 
@@ -306,13 +349,16 @@ module _ (pipeline : Pipeline) (schedule : Schedule) (boxes : Boxes) (rules : Is
   calling other e = ap (place_calls_of other) at.func_is ∙ or_left (calls other func.pure) (updates_call other func.updates) e
 
   pub value_is : (found : Reads) (x y : ℕ) → Agree wanted found (pure_points pipeline schedule wanted reader func x y)
-      → inlined (valuing found) (flagged (flags_of schedule.standings)) pipeline.funcs reader (variable (at_point x y)) func.pure ≡ value wanted (at_point x y) func.pure
+      → inlined (valuing found) (flagged (flags_of schedule.standings)) pipeline.funcs reader (variable (at_point x y)) func.pure ≡ value wanted (at_point x y)
+      func.pure
   value_is found x y agree =
       inlined_values_depend_on_reads wanted found (flags pipeline schedule) pipeline.funcs reader (at_point x y) func.pure agree
       ∙ sym (sees_inlined_values wanted (flags pipeline schedule) pipeline.funcs reader (at_point x y) func.pure)
       ∙ ap (λ (s : Seen). s.value)
-      (same_seen pipeline schedule rules accepted wanted reader (at_point x y) (is_argument (dimensions func)) func.pure (rules.funcs reader func at.func_is).pure
+      (same_seen pipeline schedule rules accepted wanted reader (at_point x y) (is_argument (dimensions func)) func.pure (rules.funcs reader func
+      at.func_is).pure
       (reaching pipeline schedule rules accepted wanted reader is_reached_here func.pure calling))
       ∙ sees_inlined_values wanted (put pipeline schedule) pipeline.funcs reader (at_point x y) func.pure
-      ∙ inlining_keeps_values wanted (put pipeline schedule) pipeline.inputs pipeline.funcs inputs rules.funcs (put_simple pipeline schedule accepted) reader (λ s n a b computed_so read. refl)
+      ∙ inlining_keeps_values wanted (put pipeline schedule) pipeline.inputs pipeline.funcs inputs rules.funcs (put_simple pipeline schedule accepted) reader
+      (λ s n a b computed_so read. refl)
       (is_argument (dimensions func)) (at_point x y) func.pure (rules.funcs reader func at.func_is).pure

@@ -1,6 +1,7 @@
 -- What is known of a vectorized loop of a stage: it has as many rounds as its split has a factor, each round takes its variable further, and
 -- loops of updates take it as far in each turn.
-use Rattle.std.proofs.Common.{◌≡◌, ℕ, zero, suc, ◌*◌, ◌≤◌, Bool, true, false, not, cond, List, [], ◌∷◌, ◌++◌, length, Option, Some, None, refl, sym, ap, subst, ◌∙◌, arith, eq-eqb, true≢false}
+use Rattle.std.proofs.Common.{◌≡◌, ℕ, zero, suc, ◌*◌, ◌≤◌, Bool, true, false, not, cond, List, [], ◌∷◌, ◌++◌, length, Option, Some, None, refl, sym, ap, subst}
+use Rattle.std.proofs.Common.{◌∙◌, arith, eq-eqb, true≢false}
 use Rattle.std.specs.Prelude.{◌==◌, ◌&&◌, ◌||◌, nat_le, is_some}
 use Rattle.std.specs.List.{AllByRecursion}
 use Rattle.std.proofs.lemmas.Bool.{and_parts, and_from, eqb-true, leb-true, le-leb}
@@ -68,7 +69,8 @@ module _ (extents : Extents) (is_update : Bool) (start : List Loop) where
 
   -- ---- one more split
 
-  module _ (before : List Loop) (own : Loop) (after : List Loop) (splits : List Split) (line : SplitLine) (is : IsSplit is_update line) (begun : Sound start []) (fine : Fine (before ++ own ∷ after) splits) where
+  module _ (before : List Loop) (own : Loop) (after : List Loop) (splits : List Split) (line : SplitLine) (is : IsSplit is_update line) (begun : Sound start [])
+      (fine : Fine (before ++ own ∷ after) splits) where
     abbrev place : ℕ
     place = length splits
 
@@ -100,14 +102,18 @@ module _ (extents : Extents) (is_update : Bool) (start : List Loop) where
       old_count : counted more id ≡ counted splits id
       old_count = ap (λ (v : Values). v id) counts_are ∙ rw (no_inner, no_outer) refl
 
-    old_flaw : (other : Loop) → is_old place other.id ≡ true → flaw (strides more) (counted more) start other ≡ flaw (strides splits) (counted splits) start other
+    old_flaw : (other : Loop) → is_old place other.id ≡ true → flaw (strides more) (counted more) start other ≡ flaw (strides splits) (counted splits) start
+        other
     old_flaw other old =
-        ap (λ (n : ℕ). cond {A = ℕ} (nat_le 1 n && (fits (counted more) other other.inner_of && has_variable other.variable start)) 0 1) (old_stride other.id old)
-        ∙ ap (λ (b : Bool). cond {A = ℕ} (nat_le 1 (strides splits other.id) && (b && has_variable other.variable start)) 0 1) (same_fits (counted more) (counted splits) other other.inner_of (old_count other.id old))
+        ap (λ (n : ℕ). cond {A = ℕ} (nat_le 1 n && (fits (counted more) other other.inner_of && has_variable other.variable start)) 0 1)
+        (old_stride other.id old)
+        ∙ ap (λ (b : Bool). cond {A = ℕ} (nat_le 1 (strides splits other.id) && (b && has_variable other.variable start)) 0 1) (same_fits (counted more)
+        (counted splits) other other.inner_of (old_count other.id old))
 
     old_total : total (flaw (strides more) (counted more) start) (before ++ own ∷ after) ≡ 0
     old_total =
-        same_total (flaw (strides more) (counted more) start) (flaw (strides splits) (counted splits) start) (before ++ own ∷ after) (λ other there. old_flaw other (fine.is_sound.old other.id there))
+        same_total (flaw (strides more) (counted more) start) (flaw (strides splits) (counted splits) start) (before ++ own ∷ after) (λ other there. old_flaw
+        other (fine.is_sound.old other.id there))
         ∙ fine.flawless
 
     own_there : 1 ≤ total (has_id own.id) (before ++ own ∷ after)
@@ -128,10 +134,26 @@ module _ (extents : Extents) (is_update : Bool) (start : List Loop) where
         (leb-true 1 (strides splits own.id) p.0, (and_parts (fits (counted splits) own own.inner_of) (has_variable own.variable start) p.1).1)
 
     abbrev inner : Loop
-    inner = record { id = ids.Inner place; name = line.inner; variable = own.variable; inner_of = Some line.factor; is_from_shift = own.is_from_shift || is_shift line.tail; marked = None }
+    inner = record {
+      id = ids.Inner place;
+      name = line.inner;
+      variable = own.variable;
+      inner_of = Some line.factor;
+      is_from_shift = own.is_from_shift
+          || is_shift line.tail;
+      marked = None;
+    }
 
     abbrev outer : Loop
-    outer = record { id = ids.Outer place; name = line.outer; variable = own.variable; inner_of = None; is_from_shift = own.is_from_shift || is_shift line.tail; marked = None }
+    outer = record {
+      id = ids.Outer place;
+      name = line.outer;
+      variable = own.variable;
+      inner_of = None;
+      is_from_shift = own.is_from_shift
+          || is_shift line.tail;
+      marked = None;
+    }
 
     inner_stride : strides more (ids.Inner place) ≡ strides splits own.id
     inner_stride = ap (λ (v : Values). v (ids.Inner place)) strides_are ∙ rw (same_id-self (ids.Inner place)) refl
@@ -150,7 +172,8 @@ module _ (extents : Extents) (is_update : Bool) (start : List Loop) where
         fine_by (is_fine (strides more) (counted more) start inner)
         (and_from (nat_le 1 (strides more (ids.Inner place))) (counted more (ids.Inner place) == line.factor && has_variable own.variable start)
         (le-leb 1 (strides more (ids.Inner place)) (omega (arith, own_parts.0, inner_stride)))
-        (and_from (counted more (ids.Inner place) == line.factor) (has_variable own.variable start) (eq-eqb (counted more (ids.Inner place)) line.factor inner_count) own_parts.1))
+        (and_from (counted more (ids.Inner place) == line.factor) (has_variable own.variable start) (eq-eqb (counted more (ids.Inner place)) line.factor
+        inner_count) own_parts.1))
 
     product_some : (a b : ℕ) → 1 ≤ a → 1 ≤ b → 1 ≤ a * b
     product_some zero b l m = absurd (omega (arith, l))
@@ -161,7 +184,8 @@ module _ (extents : Extents) (is_update : Bool) (start : List Loop) where
     outer_flaw =
         fine_by (is_fine (strides more) (counted more) start outer)
         (and_from (nat_le 1 (strides more (ids.Outer place))) (true && has_variable own.variable start)
-        (le-leb 1 (strides more (ids.Outer place)) (omega (arith, product_some (strides splits own.id) line.factor own_parts.0 is.some, outer_stride))) own_parts.1)
+        (le-leb 1 (strides more (ids.Outer place)) (omega (arith, product_some (strides splits own.id) line.factor own_parts.0 is.some, outer_stride)))
+        own_parts.1)
 
     more_fine : Fine (before ++ (parts own (length splits) line ++ after)) (splits ++ split_by own line ∷ [])
     more_fine = record {
@@ -170,7 +194,8 @@ module _ (extents : Extents) (is_update : Bool) (start : List Loop) where
       even = λ update id. ap (λ (u : LoopId → Bool). u id) uneven_is ∙ even_by update (same_id id (ids.Inner place)) (same_id id (ids.Outer place)) id;
     }
       where
-        even_by : is_update ≡ true → (a b : Bool) (id : LoopId) → cond a (is_uneven splits own.id) (cond b (is_uneven splits own.id || is_shift line.tail) (is_uneven splits id)) ≡ false
+        even_by : is_update ≡ true → (a b : Bool) (id : LoopId)
+            → cond a (is_uneven splits own.id) (cond b (is_uneven splits own.id || is_shift line.tail) (is_uneven splits id)) ≡ false
         even_by update true b id = fine.even update own.id
         even_by update false true id = rw (fine.even update own.id) (ap (λ (u : Bool). u && is_shift line.tail) (sym update) ∙ is.unshifted)
         even_by update false false id = fine.even update id
@@ -218,26 +243,33 @@ by_test_bare true one other are there = are
 by_test_bare false one other are there = there
 
 first_bare : (func : Func) (update : Option Update) → AreBare (first_loops func update)
-first_bare func None = second_bare (with_loop [] func.first_argument variables.FirstArgument) func.second_argument variables.SecondArgument (loop_bare [] func.first_argument variables.FirstArgument none_bare)
+first_bare func None = second_bare (with_loop [] func.first_argument variables.FirstArgument) func.second_argument variables.SecondArgument
+    (loop_bare [] func.first_argument variables.FirstArgument none_bare)
 first_bare func (Some update) =
-    let reductions = reduction_bare (with_loop [] update.first.name variables.FirstReduction) update.second (loop_bare [] update.first.name variables.FirstReduction none_bare) in
-    let first = by_test_bare (is_first_in_place update) (with_loop (reduction_loops update) func.first_argument variables.FirstArgument) (reduction_loops update)
+    let reductions = reduction_bare (with_loop [] update.first.name variables.FirstReduction) update.second (loop_bare [] update.first.name
+    variables.FirstReduction none_bare) in
+    let first = by_test_bare (is_first_in_place update) (with_loop (reduction_loops update) func.first_argument variables.FirstArgument)
+    (reduction_loops update)
     (loop_bare (reduction_loops update) func.first_argument variables.FirstArgument reductions) reductions in
     let before = with_first_in_place func update (reduction_loops update) in
-    by_test_bare (is_second_in_place update) (with_second before func.second_argument variables.SecondArgument) before (second_bare before func.second_argument variables.SecondArgument first) first
+    by_test_bare (is_second_in_place update) (with_second before func.second_argument variables.SecondArgument) before (second_bare before func.second_argument
+    variables.SecondArgument first) first
 
 module _ (extents : Extents) (start : List Loop) where
-  one_begun : (own : Loop) → own.id ≡ ids.Whole own.variable → own.inner_of ≡ None → has_variable own.variable start ≡ true → flaw (strides []) (counts extents []) start own ≡ 0
+  one_begun : (own : Loop) → own.id ≡ ids.Whole own.variable → own.inner_of ≡ None → has_variable own.variable start ≡ true
+      → flaw (strides []) (counts extents []) start own ≡ 0
   one_begun own id_is inner_is there =
       ap (λ (i : LoopId). cond {A = ℕ} (nat_le 1 (strides [] i) && (fits (counts extents []) own own.inner_of && has_variable own.variable start)) 0 1) id_is
       ∙ ap (λ (o : Option ℕ). cond {A = ℕ} (fits (counts extents []) own o && has_variable own.variable start) 0 1) inner_is
       ∙ ap (λ (b : Bool). cond {A = ℕ} b 0 1) there
 
-  all_begun : (loops : List Loop) → AreBare loops → ((v : Variable) → has_variable v loops ≡ true → has_variable v start ≡ true) → total (flaw (strides []) (counts extents []) start) loops ≡ 0
+  all_begun : (loops : List Loop) → AreBare loops → ((v : Variable) → has_variable v loops ≡ true → has_variable v start ≡ true)
+      → total (flaw (strides []) (counts extents []) start) loops ≡ 0
   unfolding AreBare
   all_begun [] are there = refl
   all_begun (own ∷ loops) are there =
-      let one = one_begun own are.0.0 are.0.1 (there own.variable (ap (λ (b : Bool). b || has_variable own.variable loops) (same_variable-self own.variable))) in
+      let one = one_begun own are.0.0 are.0.1 (there own.variable (ap (λ (b : Bool). b || has_variable own.variable loops) (same_variable-self own.variable)))
+      in
       omega (arith, one, all_begun loops are.1 (λ v e. there v (or_right (same_variable own.variable v) (has_variable v loops) e)))
 
 -- ---- loops of stages
@@ -250,7 +282,12 @@ module _ (func : Func) (update : Option Update) (extents : Extents) (stage : Sta
   stage_fine =
       by_making (Fine extents (is_some update) start)
       (fine_stays extents (is_some update) start
-      (record { is_sound = sound start (plain func update); flawless = all_begun extents start start (first_bare func update) (λ v e. e); even = λ e id. refl }))
+      (record {
+        is_sound = sound start (plain func update);
+        flawless = all_begun extents start start (first_bare func update) (λ v e. e);
+        even =
+            λ e id. refl;
+      }))
       is.made
 
   pub stage_flawless : total (flaw (strides stage.splits) (counts extents stage.splits) start) stage.loops ≡ 0
@@ -269,10 +306,12 @@ module _ (func : Func) (update : Option Update) (extents : Extents) (stage : Sta
     pub there : has_variable own.variable start ≡ true
 
   -- outside of the innermost loop, none is vectorized
-  none_outside : (at_root : Bool) (outside : List Loop) → keeps rules_of.VectorizedInnermost at_root false outside ≡ true → AllByRecursion (λ other. is_vectorized_loop other ≡ false) outside
+  none_outside : (at_root : Bool) (outside : List Loop) → keeps rules_of.VectorizedInnermost at_root false outside ≡ true
+      → AllByRecursion (λ other. is_vectorized_loop other ≡ false) outside
   none_outside at_root [] kept = tt
   none_outside at_root (own ∷ outside) kept =
-      let p = and_parts (not (breaks rules_of.VectorizedInnermost at_root false (is_empty outside) own)) (keeps rules_of.VectorizedInnermost at_root false outside) kept in
+      let p = and_parts (not (breaks rules_of.VectorizedInnermost at_root false (is_empty outside) own)) (keeps rules_of.VectorizedInnermost at_root false
+      outside) kept in
       (by_test (is_vectorized_loop own) p.0, none_outside at_root outside p.1)
     where
       by_test : (b : Bool) → not (b && true) ≡ true → b ≡ false
@@ -284,7 +323,8 @@ module _ (func : Func) (update : Option Update) (extents : Extents) (stage : Sta
     kept = subst (λ (ls : List Loop). keeps rules_of.VectorizedInnermost rules.0 true ls ≡ true) loops_are (rules.1 rules_of.VectorizedInnermost)
 
     pub others_are : AllByRecursion (λ other. is_vectorized_loop other ≡ false) outside
-    others_are = none_outside rules.0 outside (and_parts (not (breaks rules_of.VectorizedInnermost rules.0 true (is_empty outside) own)) (keeps rules_of.VectorizedInnermost rules.0 false outside) kept).1
+    others_are = none_outside rules.0 outside (and_parts (not (breaks rules_of.VectorizedInnermost rules.0 true (is_empty outside) own))
+        (keeps rules_of.VectorizedInnermost rules.0 false outside) kept).1
 
     own_is : is_fine (strides stage.splits) (counts extents stage.splits) start own ≡ true
     own_is = by_test (is_fine (strides stage.splits) (counts extents stage.splits) start own) refl
@@ -302,9 +342,11 @@ module _ (func : Func) (update : Option Update) (extents : Extents) (stage : Sta
     vector_by true true e k = absurd (true≢false (sym k ∙ ap (λ (t : Bool). not (t && true)) e))
     vector_by false r e k = absurd (true≢false (sym k ∙ ap (λ (t : Bool). not (t && true)) e))
 
-    count_by : (factor : Option ℕ) → is_vector_length factor ≡ true → fits (counts extents stage.splits) own factor ≡ true → is_round_count (counts extents stage.splits own.id) ≡ true
+    count_by : (factor : Option ℕ) → is_vector_length factor ≡ true → fits (counts extents stage.splits) own factor ≡ true
+        → is_round_count (counts extents stage.splits own.id) ≡ true
     count_by None long fit = cc
-    count_by (Some factor) long fit = ap is_round_count (eqb-true (counts extents stage.splits own.id) factor fit) ∙ turned (factor == 4) (factor == 8) (factor == 16) long
+    count_by (Some factor) long fit = ap is_round_count (eqb-true (counts extents stage.splits own.id) factor fit)
+        ∙ turned (factor == 4) (factor == 8) (factor == 16) long
       where
         turned : (a b c : Bool) → (a || b || c) ≡ true → (a || (b || c)) ≡ true
         turned true b c e = refl
@@ -314,7 +356,9 @@ module _ (func : Func) (update : Option Update) (extents : Extents) (stage : Sta
     pub vectorized : is_vectorized_loop own ≡ true → IsVectorized own outside
     vectorized e =
         let k = vector_by (is_vector_length own.inner_of) (is_reduction own.variable) e
-        (and_parts (not (breaks rules_of.VectorizedInnermost rules.0 true (is_empty outside) own)) (keeps rules_of.VectorizedInnermost rules.0 false outside) kept).0 in
-        let p = and_parts (nat_le 1 (strides stage.splits own.id)) (fits (counts extents stage.splits) own own.inner_of && has_variable own.variable start) own_is in
+        (and_parts (not (breaks rules_of.VectorizedInnermost rules.0 true (is_empty outside) own)) (keeps rules_of.VectorizedInnermost rules.0 false outside)
+        kept).0 in
+        let p = and_parts (nat_le 1 (strides stage.splits own.id)) (fits (counts extents stage.splits) own own.inner_of && has_variable own.variable start)
+        own_is in
         let q = and_parts (fits (counts extents stage.splits) own own.inner_of) (has_variable own.variable start) p.1 in
         record { count = count_by own.inner_of k.0 q.0; stride = leb-true 1 (strides stage.splits own.id) p.0; argument = k.1; there = q.1 }

@@ -24,7 +24,8 @@ use Rattle.halide_pipeline.specs.declared.expressions.Variable.{Variable}
 use Rattle.halide_pipeline.specs.declared.expressions.Variable.TheVariants as variables
 use Rattle.schedule.specs.Standing.{pure_loops_of}
 use Rattle.schedule_loops.proofs.Making.{Stays, by_making, total_parts, bare_total}
-use Rattle.bounds_weights.specs.Weight.{copies, all_copies, copies_from, consumer_copies, factor_of, flags_of, is_computed, nodes_in, update_nodes, stage_weight, updates_weight, func_weight, computed_weight, funcs_weight, weight}
+use Rattle.bounds_weights.specs.Weight.{copies, all_copies, copies_from, consumer_copies, factor_of, flags_of, is_computed, nodes_in, update_nodes}
+use Rattle.bounds_weights.specs.Weight.{stage_weight, updates_weight, func_weight, computed_weight, funcs_weight, weight}
 use Rattle.bounds.specs.declared.verdict.Boxes.{Boxes}
 use Rattle.loop_ir.specs.declared.statements.Phase.{Phase}
 use Rattle.lowering.specs.Lowered.{AreLowered}
@@ -38,7 +39,8 @@ module _ (flags : List Bool) (all : List Func) where
   abbrev updated : List Update → List Stage → ℕ → ℕ
   updated updates stages at = update_share flags all (slice_get updates at) (slice_get stages at)
 
-  shares-are : (func : Func) (plan : FuncPlan) (n : ℕ) → shares flags all func plan n ≡ stage_weight (nodes_in flags all func.pure) plan.pure + summed (updated func.updates plan.updates) 0 n
+  shares-are : (func : Func) (plan : FuncPlan) (n : ℕ) → shares flags all func plan n ≡ stage_weight (nodes_in flags all func.pure) plan.pure + summed
+      (updated func.updates plan.updates) 0 n
   shares-are func plan zero = omega arith
   shares-are func plan (suc n) =
       let r = shares-are func plan n in
@@ -54,7 +56,8 @@ module _ (flags : List Bool) (all : List Func) where
   no-updates stages zero (suc n) = omega (arith, no-updates stages 1 n)
   no-updates stages (suc at) (suc n) = omega (arith, no-updates stages (suc (suc at)) n)
 
-  updates-most : (func : Func) (updates : List Update) (stages : List Stage) → Pairwise (IsUpdateStage func) updates stages → (n : ℕ) → summed (updated updates stages) 0 n ≤ updates_weight flags all updates stages
+  updates-most : (func : Func) (updates : List Update) (stages : List Stage) → Pairwise (IsUpdateStage func) updates stages → (n : ℕ)
+      → summed (updated updates stages) 0 n ≤ updates_weight flags all updates stages
   updates-most func [] [] are n = let z = no-updates [] 0 n in omega (arith, z)
   updates-most func [] (stage ∷ stages) are n = absurd are
   updates-most func (update ∷ updates) [] are n = absurd are
@@ -64,11 +67,13 @@ module _ (flags : List Bool) (all : List Func) where
       let r = updates-most func updates stages are.1 n in
       omega (arith, e, r)
 
-  func-most : (plans : List FuncPlan) (func : Func) (plan : FuncPlan) (own : Standing) → IsPlan func plan → placed_share flags all plans func plan own ≤ func_weight flags all plans func plan own
+  func-most : (plans : List FuncPlan) (func : Func) (plan : FuncPlan) (own : Standing) → IsPlan func plan
+      → placed_share flags all plans func plan own ≤ func_weight flags all plans func plan own
   func-most plans func plan own is =
       let s = shares-are func plan (length func.updates) in
       let u = updates-most func func.updates plan.updates is.updates (length func.updates) in
-      times-most (func_share flags all func plan) (stage_weight (nodes_in flags all func.pure) plan.pure + updates_weight flags all func.updates plan.updates) (consumer_copies plans own.place) (omega (arith, s, u))
+      times-most (func_share flags all func plan) (stage_weight (nodes_in flags all func.pure) plan.pure + updates_weight flags all func.updates plan.updates)
+      (consumer_copies plans own.place) (omega (arith, s, u))
 
 -- ---- all that is computed
 
@@ -102,21 +107,25 @@ module _ (pipeline : Pipeline) (schedule : Schedule) (boxes : Boxes) (accepted :
   nothing zero = refl
   nothing (suc k) = refl
 
-  computed-most : (func : Func) (plan : FuncPlan) (own : Standing) → IsPlan func plan → share (Some func) (Some plan) (Some own) ≤ computed_weight flagged pipeline.funcs schedule.funcs func plan own
+  computed-most : (func : Func) (plan : FuncPlan) (own : Standing) → IsPlan func plan
+      → share (Some func) (Some plan) (Some own) ≤ computed_weight flagged pipeline.funcs schedule.funcs func plan own
   computed-most func plan own is = by-test (is_computed own)
     where
-      by-test : (t : Bool) → (if t then placed_share flagged pipeline.funcs schedule.funcs func plan own else 0) ≤ (if t then func_weight flagged pipeline.funcs schedule.funcs func plan own else 0)
+      by-test : (t : Bool) → (if t then placed_share flagged pipeline.funcs schedule.funcs func plan own else 0) ≤ (if t then func_weight flagged pipeline.funcs
+          schedule.funcs func plan own else 0)
       by-test true = func-most flagged pipeline.funcs schedule.funcs func plan own is
       by-test false = omega arith
 
   lists-most : (funcs : List Func) (plans : List FuncPlan) (standings : List Standing) → Pairwise IsPlan funcs plans → (n : ℕ)
       → summed (listed funcs plans standings) 0 n ≤ funcs_weight flagged pipeline.funcs schedule.funcs funcs plans standings
   lists-most [] plans standings are n =
-      let z = none-listed (listed [] plans standings) (λ k. ap (λ (f : Option Func). share f (slice_get plans k) (slice_get standings k)) (nothing k)) 0 n in omega (arith, z)
+      let z = none-listed (listed [] plans standings) (λ k. ap (λ (f : Option Func). share f (slice_get plans k) (slice_get standings k)) (nothing k)) 0 n in
+      omega (arith, z)
   lists-most (func ∷ funcs) [] standings are n = absurd are
   lists-most (func ∷ funcs) (plan ∷ plans) [] are n =
       let z = none-listed (listed (func ∷ funcs) (plan ∷ plans) [])
-      (λ k. ap (λ (o : Option Standing). share (slice_get (func ∷ funcs) k) (slice_get (plan ∷ plans) k) o) (nothing k) ∙ no-standing (slice_get (func ∷ funcs) k) (slice_get (plan ∷ plans) k)) 0 n in
+      (λ k. ap (λ (o : Option Standing). share (slice_get (func ∷ funcs) k) (slice_get (plan ∷ plans) k) o) (nothing k)
+      ∙ no-standing (slice_get (func ∷ funcs) k) (slice_get (plan ∷ plans) k)) 0 n in
       omega (arith, z)
   lists-most (func ∷ funcs) (plan ∷ plans) (own ∷ standings) are zero = omega arith
   lists-most (func ∷ funcs) (plan ∷ plans) (own ∷ standings) are (suc n) =

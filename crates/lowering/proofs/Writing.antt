@@ -52,11 +52,14 @@ use Rattle.lowering.proofs.Offsets.{from_first_on, add_turned}
 use Rattle.lowering.proofs.Painting.{Writes}
 use Rattle.lowering.proofs.Values.{value_is}
 
-put_same : (points : Points) (place : ℕ) (funcs : Planes) (f : ℕ → ℕ → ℕ) (a x b y : ℕ) → a ≡ x → b ≡ y → put points place a b (f a b) funcs ≡ put points place x y (f x y) funcs
+put_same : (points : Points) (place : ℕ) (funcs : Planes) (f : ℕ → ℕ → ℕ) (a x b y : ℕ) → a ≡ x → b ≡ y
+    → put points place a b (f a b) funcs ≡ put points place x y (f x y) funcs
 put_same points place funcs f a x b y e g = ap (λ (n : ℕ). put points place n b (f n b) funcs) e ∙ ap (λ (n : ℕ). put points place x n (f x n) funcs) g
 
-module _ (pipeline : Pipeline) (schedule : Schedule) (boxes : Boxes) (rules : IsWellFormed pipeline) (accepted : IsAccepted pipeline schedule) (is : inferred pipeline schedule ≡ Ok boxes)
-    (placed_at : Place) (place : ℕ) (func : Func) (plan : FuncPlan) (own : SourceBox) (here : IsComputed place placed_at) (at : IsComputedAt pipeline schedule boxes placed_at place func plan own)
+module _ (pipeline : Pipeline) (schedule : Schedule) (boxes : Boxes) (rules : IsWellFormed pipeline) (accepted : IsAccepted pipeline schedule)
+    (is : inferred pipeline schedule ≡ Ok boxes)
+    (placed_at : Place) (place : ℕ) (func : Func) (plan : FuncPlan) (own : SourceBox) (here : IsComputed place placed_at) (at : IsComputedAt pipeline schedule
+    boxes placed_at place func plan own)
     (store : Stmt) (store_of : IsStoreOf pipeline schedule boxes placed_at place func own store) (inputs : Planes)
     (values : List ℕ) (below : Below values own.lasts) (counters : Values)
     (turns_same : (inner : loops.Values) → turns_for schedule.funcs placed_at (put_loops place inner counters) ≡ values) where
@@ -91,7 +94,8 @@ module _ (pipeline : Pipeline) (schedule : Schedule) (boxes : Boxes) (rules : Is
   box_facts : IsBox own
   box_facts = is_box pipeline schedule boxes place func plan own accepted is placed_at here at
 
-  stands_at : (inner : loops.Values) (v : Variable) (most : ℕ) → most ≤ 2 ^ 20 → inner (ids.Whole v) < most → whole_at (put_loops place inner counters) place v ≡ inner (ids.Whole v)
+  stands_at : (inner : loops.Values) (v : Variable) (most : ℕ) → most ≤ 2 ^ 20 → inner (ids.Whole v) < most → whole_at (put_loops place inner counters) place v
+      ≡ inner (ids.Whole v)
   stands_at inner v most l e =
       ap (λ (b : Bool). cond b (inner (ids.Whole v)) (counters (record { func = place; id = ids.Whole v })) % 2 ^ 32) (eq-eqb place place refl)
       ∙ mod-eq_of_lt {n = inner (ids.Whole v)} {m = 2 ^ 32} (omega (arith, l, e))
@@ -110,10 +114,12 @@ module _ (pipeline : Pipeline) (schedule : Schedule) (boxes : Boxes) (rules : Is
     lies = visits_lie func None own box_facts values below extents refl refl (visit_of extents inner) v (across inner) (down inner) first_from second_from
 
     pub at_x : whole_at (put_loops place inner counters) place variables.FirstArgument ≡ x_of inner
-    at_x = stands_at inner variables.FirstArgument (extent own.x) (few pipeline schedule boxes place func plan own accepted is placed_at here at variables.FirstArgument) parts.0
+    at_x = stands_at inner variables.FirstArgument (extent own.x) (few pipeline schedule boxes place func plan own accepted is placed_at here at
+        variables.FirstArgument) parts.0
 
     pub at_y : whole_at (put_loops place inner counters) place variables.SecondArgument ≡ y_of inner
-    at_y = stands_at inner variables.SecondArgument (extent own.y) (few pipeline schedule boxes place func plan own accepted is placed_at here at variables.SecondArgument) parts.1
+    at_y = stands_at inner variables.SecondArgument (extent own.y) (few pipeline schedule boxes place func plan own accepted is placed_at here at
+        variables.SecondArgument) parts.1
 
     pub corner_x : linear_value (put_loops place inner counters) store_of.corner.x ≡ first_of own.x values
     corner_x = (store_of.is_corner (put_loops place inner counters)).0 ∙ ap (first_of own.x) (turns_same inner)
@@ -128,7 +134,8 @@ module _ (pipeline : Pipeline) (schedule : Schedule) (boxes : Boxes) (rules : Is
         ∙ ap (λ (n : ℕ). value wanted (at_point (word.add (first_of own.x values) (x_of inner)) n) func.pure) (add_turned (y_of inner) (first_of own.y values))
 
     module _ (funcs : Planes)
-        (agree : Agree wanted (placed store_of.corners (put_loops place inner counters) (reads_of inputs funcs)) (pure_points pipeline schedule wanted place func (across inner) (down inner))) where
+        (agree : Agree wanted (placed store_of.corners (put_loops place inner counters) (reads_of inputs funcs)) (pure_points pipeline schedule wanted place
+        func (across inner) (down inner))) where
       abbrev found : Reads
       found = placed store_of.corners (put_loops place inner counters) (reads_of inputs funcs)
 
@@ -138,15 +145,19 @@ module _ (pipeline : Pipeline) (schedule : Schedule) (boxes : Boxes) (rules : Is
       pub does : step inner funcs ≡ put points place (x_of inner) (y_of inner) (plane (x_of inner) (y_of inner)) funcs
       does =
           store_of.stores points inputs (put_loops place inner counters) funcs
-          ∙ put_same points place funcs (λ a b. stored (word.add a (linear_value (put_loops place inner counters) store_of.corner.x)) (word.add b (linear_value (put_loops place inner counters) store_of.corner.y)))
-          (whole_at (put_loops place inner counters) place variables.FirstArgument) (x_of inner) (whole_at (put_loops place inner counters) place variables.SecondArgument) (y_of inner) at_x at_y
-          ∙ ap (λ (n : ℕ). put points place (x_of inner) (y_of inner) (stored (word.add (x_of inner) n) (word.add (y_of inner) (linear_value (put_loops place inner counters) store_of.corner.y))) funcs) corner_x
+          ∙ put_same points place funcs (λ a b. stored (word.add a (linear_value (put_loops place inner counters) store_of.corner.x))
+          (word.add b (linear_value (put_loops place inner counters) store_of.corner.y)))
+          (whole_at (put_loops place inner counters) place variables.FirstArgument) (x_of inner) (whole_at (put_loops place inner counters) place
+          variables.SecondArgument) (y_of inner) at_x at_y
+          ∙ ap (λ (n : ℕ). put points place (x_of inner) (y_of inner) (stored (word.add (x_of inner) n)
+          (word.add (y_of inner) (linear_value (put_loops place inner counters) store_of.corner.y))) funcs) corner_x
           ∙ ap (λ (n : ℕ). put points place (x_of inner) (y_of inner) (stored (across inner) (word.add (y_of inner) n)) funcs) corner_y
           ∙ ap (λ (n : ℕ). put points place (x_of inner) (y_of inner) n funcs)
           (value_is pipeline schedule boxes rules accepted is placed_at place func plan own here at inputs found (across inner) (down inner) agree ∙ pure_is)
 
     module _ (Ready : Planes → Type 0) (stays : (funcs after : Planes) → Keeps place funcs after → Ready funcs → Ready after)
-        (agrees : (funcs : Planes) → Ready funcs → Agree wanted (placed store_of.corners (put_loops place inner counters) (reads_of inputs funcs)) (pure_points pipeline schedule wanted place func (across inner) (down inner))) where
+        (agrees : (funcs : Planes) → Ready funcs → Agree wanted (placed store_of.corners (put_loops place inner counters) (reads_of inputs funcs))
+        (pure_points pipeline schedule wanted place func (across inner) (down inner))) where
       pub writes : Writes points place plane Ready stays x_of y_of step inner
       writes = record {
         there = point_there pipeline schedule boxes rules accepted is placed_at place func plan own here at (x_of inner) (y_of inner) parts.0 parts.1;
@@ -160,14 +171,19 @@ module _ (pipeline : Pipeline) (schedule : Schedule) (boxes : Boxes) (rules : Is
       answers = placed store_of.corners (put_loops place inner counters) reads
 
       abbrev Loads : ℕ → ℕ → Type 0
-      Loads a b = Hold (λ point. loaded (place_in store_of.corners (put_loops place inner counters) point)) (inlined (seeing answers) (flagged (flags_of schedule.standings)) pipeline.funcs place (seen_variable (at_point a b)) func.pure).points
+      Loads a b = Hold (λ point. loaded (place_in store_of.corners (put_loops place inner counters) point)) (inlined (seeing answers)
+          (flagged (flags_of schedule.standings)) pipeline.funcs place (seen_variable (at_point a b)) func.pure).points
 
-      pub sound : written place (x_of inner) (y_of inner) ≡ true → Hold (λ point. loaded (place_in store_of.corners (put_loops place inner counters) point)) (pure_points pipeline schedule answers place func (across inner) (down inner))
+      pub sound : written place (x_of inner) (y_of inner) ≡ true → Hold (λ point. loaded (place_in store_of.corners (put_loops place inner counters) point))
+          (pure_points pipeline schedule answers place func (across inner) (down inner))
           → is_sound reads written loaded store (put_loops place inner counters) ≡ true
       sound writes all_loaded =
           let first = ap (λ (n : ℕ). word.add n (linear_value (put_loops place inner counters) store_of.corner.x)) at_x ∙ ap (word.add (x_of inner)) corner_x in
-          let second = ap (λ (n : ℕ). word.add n (linear_value (put_loops place inner counters) store_of.corner.y)) at_y ∙ ap (word.add (y_of inner)) corner_y in
+          let second = ap (λ (n : ℕ). word.add n (linear_value (put_loops place inner counters) store_of.corner.y)) at_y
+          ∙ ap (word.add (y_of inner)) corner_y in
           store_of.sound reads written loaded (put_loops place inner counters)
-          (ap (λ (n : ℕ). written place n (whole_at (put_loops place inner counters) place variables.SecondArgument)) at_x ∙ ap (written place (x_of inner)) at_y ∙ writes)
-          (subst (λ (n : ℕ). Loads n (word.add (whole_at (put_loops place inner counters) place variables.SecondArgument) (linear_value (put_loops place inner counters) store_of.corner.y))) (sym first)
+          (ap (λ (n : ℕ). written place n (whole_at (put_loops place inner counters) place variables.SecondArgument)) at_x
+          ∙ ap (written place (x_of inner)) at_y ∙ writes)
+          (subst (λ (n : ℕ). Loads n (word.add (whole_at (put_loops place inner counters) place variables.SecondArgument)
+          (linear_value (put_loops place inner counters) store_of.corner.y))) (sym first)
           (subst (Loads (across inner)) (sym second) all_loaded))

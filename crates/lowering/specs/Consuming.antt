@@ -135,9 +135,11 @@ pub record DoesTurns (consumer : ℕ) (own : Loop) (count : ℕ) (body made : St
   pub runs : (points : Points) (inputs : Planes) (values : Values) (funcs : Planes)
       → run points inputs made values funcs ≡ turns count (λ turn. run points inputs body (with (record { func = consumer; id = own.id }) turn values)) funcs
   pub traces : (points : Points) (inputs : Planes) (place x y : ℕ) (values : Values) (so_far : Trace)
-      → trace points inputs place x y made values so_far ≡ turns count (λ turn. trace points inputs place x y body (with (record { func = consumer; id = own.id }) turn values)) so_far
+      → trace points inputs place x y made values so_far ≡ turns count (λ turn. trace points inputs place x y body
+      (with (record { func = consumer; id = own.id }) turn values)) so_far
   pub sound : (reads : Reads) (written : Points) (loaded : Point → Bool) (values : Values)
-      → is_sound reads written loaded made values ≡ every count (λ turn. is_sound reads written loaded body (with (record { func = consumer; id = own.id }) turn values))
+      → is_sound reads written loaded made values ≡ every count (λ turn. is_sound reads written loaded body (with (record { func = consumer; id = own.id }) turn
+      values))
   pub depth_is : depth made ≡ suc (depth body)
   pub need_is : greatest_need made ≡ greatest_need body
   pub size_is : whole_size made ≡ loop_room (is_marked marks.Unrolled own) count (whole_size body)
@@ -172,7 +174,8 @@ module _ (pipeline : Pipeline) (schedule : Schedule) (boxes : Boxes) where
   DoesNest at place func own number made =
       (inputs : Planes) (turned : loops.Values) → Below (turns_for schedule.funcs (places.At at) (consuming at.func turned)) own.lasts
       → (funcs : Planes) → IsAnswered at.func place func own (turns_for schedule.funcs (places.At at) (consuming at.func turned)) inputs turned funcs
-      → Leaves place own (turns_for schedule.funcs (places.At at) (consuming at.func turned)) (stage place func inputs (pixels pipeline.funcs inputs place) number)
+      → Leaves place own (turns_for schedule.funcs (places.At at) (consuming at.func turned)) (stage place func inputs (pixels pipeline.funcs inputs place)
+      number)
       funcs (run (box_points boxes.funcs) inputs made (consuming at.func turned) funcs)
 
   -- So it is for inputs of words, where what updates read is answered too.
@@ -182,7 +185,8 @@ module _ (pipeline : Pipeline) (schedule : Schedule) (boxes : Boxes) where
       → (turned : loops.Values) → Below (turns_for schedule.funcs (places.At at) (consuming at.func turned)) own.lasts
       → (funcs : Planes) → IsAnswered at.func place func own (turns_for schedule.funcs (places.At at) (consuming at.func turned)) inputs turned funcs
       → AreUpdatesAnswered at.func place func own (turns_for schedule.funcs (places.At at) (consuming at.func turned)) inputs turned funcs
-      → Leaves place own (turns_for schedule.funcs (places.At at) (consuming at.func turned)) (stage place func inputs (pixels pipeline.funcs inputs place) number)
+      → Leaves place own (turns_for schedule.funcs (places.At at) (consuming at.func turned)) (stage place func inputs (pixels pipeline.funcs inputs place)
+      number)
       funcs (run (box_points boxes.funcs) inputs made (consuming at.func turned) funcs)
 
   -- ---- what a nest touches

@@ -1,6 +1,7 @@
 -- The phase of a pure definition of a Func that is computed at root, with the Funcs computed at its loops in it.
 -- This project's own.
-use Rattle.std.specs.Prelude.{◌≡◌, ℕ, suc, not, ◌-◌, ◌%◌, ◌^◌, ◌==◌, ◌&&◌, ◌||◌, Bool, true, false, if◌then◌else◌, List, [], ◌∷◌, take, length, Option, Some, None}
+use Rattle.std.specs.Prelude.{◌≡◌, ℕ, suc, not, ◌-◌, ◌%◌, ◌^◌, ◌==◌, ◌&&◌, ◌||◌, Bool, true, false, if◌then◌else◌, List, [], ◌∷◌, take, length, Option, Some}
+use Rattle.std.specs.Prelude.{None}
 use Rattle.halide_pipeline.specs.declared.definitions.Func.{Func}
 use Rattle.halide_pipeline.specs.declared.definitions.Input.{Input}
 use Rattle.halide_pipeline.specs.declared.expressions.Expr.{Expr}
@@ -85,7 +86,8 @@ StoresPure corners flags funcs place corner pure made =
     → run points inputs made values buffers
     ≡ put points place (whole_at values place variables.FirstArgument) (whole_at values place variables.SecondArgument)
     (inlined (valuing (placed corners values (reads_of inputs buffers))) flags funcs place
-    (variable (at_point (word.add (whole_at values place variables.FirstArgument) (linear_value values corner.x)) (word.add (whole_at values place variables.SecondArgument) (linear_value values corner.y)))) pure)
+    (variable (at_point (word.add (whole_at values place variables.FirstArgument) (linear_value values corner.x))
+    (word.add (whole_at values place variables.SecondArgument) (linear_value values corner.y)))) pure)
     buffers
 
 -- It stores at that point alone, and in that buffer.
@@ -109,12 +111,14 @@ IsSoundPure corners flags funcs place corner pure made =
     → written place (whole_at values place variables.FirstArgument) (whole_at values place variables.SecondArgument) ≡ true
     → Hold (λ point. loaded (place_in corners values point))
     (inlined (seeing (placed corners values reads)) flags funcs place
-    (seen_variable (at_point (word.add (whole_at values place variables.FirstArgument) (linear_value values corner.x)) (word.add (whole_at values place variables.SecondArgument) (linear_value values corner.y)))) pure).points
+    (seen_variable (at_point (word.add (whole_at values place variables.FirstArgument) (linear_value values corner.x))
+    (word.add (whole_at values place variables.SecondArgument) (linear_value values corner.y)))) pure).points
     → is_sound reads written loaded made values ≡ true
 
 -- It does so for the pure definition of a Func with this box that is computed there, where inlined Funcs are put in place, and each buffer
 -- begins at its box's corner.
-pub record IsStoreOf (pipeline : Pipeline) (schedule : Schedule) (boxes : Boxes) (placed : Place) (place : ℕ) (func : Func) (own : SourceBox) (made : Stmt) : Type 0 where
+pub record IsStoreOf (pipeline : Pipeline) (schedule : Schedule) (boxes : Boxes) (placed : Place) (place : ℕ) (func : Func) (own : SourceBox) (made : Stmt) :
+    Type 0 where
   pub corners : List Corner
   pub are_corners : AreCorners schedule.funcs boxes.funcs schedule.standings corners
   pub corner : Corner

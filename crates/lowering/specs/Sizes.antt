@@ -76,7 +76,8 @@ produced_share flags funcs plans consumer (Some func) (Some plan) (Some own) =
 -- of all Funcs that are computed at loops of the consumer
 abbrev pub produced_shares : Pipeline → Schedule → ℕ → ℕ
 produced_shares pipeline schedule consumer =
-    summed (λ place. produced_share (flags_of schedule.standings) pipeline.funcs schedule.funcs consumer (slice_get pipeline.funcs place) (slice_get schedule.funcs place) (slice_get schedule.standings place)) 0 (length schedule.standings)
+    summed (λ place. produced_share (flags_of schedule.standings) pipeline.funcs schedule.funcs consumer (slice_get pipeline.funcs place)
+    (slice_get schedule.funcs place) (slice_get schedule.standings place)) 0 (length schedule.standings)
 
 -- ---- phases
 
@@ -85,7 +86,8 @@ abbrev pub phase_share : Pipeline → Schedule → ℕ → Func → FuncPlan →
 phase_share pipeline schedule place func plan zero =
     stage_weight (nodes_in (flags_of schedule.standings) pipeline.funcs func.pure) plan.pure
     + produced_shares pipeline schedule place
-phase_share pipeline schedule place func plan (suc at) = update_share (flags_of schedule.standings) pipeline.funcs (slice_get func.updates at) (slice_get plan.updates at)
+phase_share pipeline schedule place func plan (suc at) = update_share (flags_of schedule.standings) pipeline.funcs (slice_get func.updates at)
+    (slice_get plan.updates at)
 
 -- Its task has no more words than 64 for each of these, with 24 that stand around it in a program.
 abbrev pub IsLight : Pipeline → Schedule → ℕ → Func → FuncPlan → ℕ → Phase → Type 0

@@ -55,5 +55,6 @@ may_load pipeline schedule boxes place owned private point = may_load_at pipelin
 abbrev pub TouchesItsOwn : Pipeline → Schedule → Boxes → ℕ → (ℕ → ℕ → ℕ → Bool) → Phase → Type 0
 TouchesItsOwn pipeline schedule boxes place owned phase =
     (task : ℕ) → task < phase.tasks
-    → IsSound (AnswerWords pipeline.inputs) (may_write boxes.funcs place (owned task) phase.private) (may_load pipeline schedule boxes place (owned task) phase.private)
+    → IsSound (AnswerWords pipeline.inputs) (may_write boxes.funcs place (owned task) phase.private) (may_load pipeline schedule boxes place (owned task)
+    phase.private)
     phase.body (task_values phase.counter task)

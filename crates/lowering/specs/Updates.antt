@@ -96,9 +96,12 @@ StoresUpdate corners flags funcs place corner update made =
     (points : Points) (inputs : Planes) (values : Values) (buffers : Planes)
     → run points inputs made values buffers
     ≡ put points place
-    (word.subtract (inlined (valuing (placed corners values (reads_of inputs buffers))) flags funcs place (variable (visited_point values place corner update)) update.left_x) (linear_value values corner.x))
-    (word.subtract (index_of (inlined (valuing (placed corners values (reads_of inputs buffers))) flags funcs place (variable (visited_point values place corner update))) update.left_y) (linear_value values corner.y))
-    (inlined (valuing (placed corners values (reads_of inputs buffers))) flags funcs (suc place) (variable (visited_point values place corner update)) update.right)
+    (word.subtract (inlined (valuing (placed corners values (reads_of inputs buffers))) flags funcs place (variable (visited_point values place corner update))
+    update.left_x) (linear_value values corner.x))
+    (word.subtract (index_of (inlined (valuing (placed corners values (reads_of inputs buffers))) flags funcs place
+    (variable (visited_point values place corner update))) update.left_y) (linear_value values corner.y))
+    (inlined (valuing (placed corners values (reads_of inputs buffers))) flags funcs (suc place) (variable (visited_point values place corner update))
+    update.right)
     buffers
 
 -- It stores at that point alone, and in that buffer.
@@ -108,8 +111,10 @@ HitsUpdate corners flags funcs place corner update made =
     → (trace points inputs func x y made values so_far).is_stored
     ≡ (so_far.is_stored
     || (place == func
-    && (word.subtract (inlined (valuing (placed corners values (reads_of inputs so_far.funcs))) flags funcs place (variable (visited_point values place corner update)) update.left_x) (linear_value values corner.x) == x
-    && word.subtract (index_of (inlined (valuing (placed corners values (reads_of inputs so_far.funcs))) flags funcs place (variable (visited_point values place corner update))) update.left_y) (linear_value values corner.y) == y)))
+    && (word.subtract (inlined (valuing (placed corners values (reads_of inputs so_far.funcs))) flags funcs place
+    (variable (visited_point values place corner update)) update.left_x) (linear_value values corner.x) == x
+    && word.subtract (index_of (inlined (valuing (placed corners values (reads_of inputs so_far.funcs))) flags funcs place
+    (variable (visited_point values place corner update))) update.left_y) (linear_value values corner.y) == y)))
 
 -- an index that isn't written reads nothing
 abbrev pub points_of_index : (Expr → List Point) → Option Expr → List Point
@@ -121,25 +126,29 @@ abbrev pub IsSoundUpdate : List Corner → (ℕ → Bool) → List Func → ℕ 
 IsSoundUpdate corners flags funcs place corner update made =
     (reads : Reads) (written : Points) (loaded : Point → Bool) (values : Values)
     → written place
-    (word.subtract (inlined (valuing (placed corners values reads)) flags funcs place (variable (visited_point values place corner update)) update.left_x) (linear_value values corner.x))
-    (word.subtract (index_of (inlined (valuing (placed corners values reads)) flags funcs place (variable (visited_point values place corner update))) update.left_y) (linear_value values corner.y)) ≡ true
+    (word.subtract (inlined (valuing (placed corners values reads)) flags funcs place (variable (visited_point values place corner update)) update.left_x)
+    (linear_value values corner.x))
+    (word.subtract (index_of (inlined (valuing (placed corners values reads)) flags funcs place (variable (visited_point values place corner update)))
+    update.left_y) (linear_value values corner.y)) ≡ true
     → Hold (λ point. loaded (place_in corners values point))
     (inlined (seeing (placed corners values reads)) flags funcs place (seen_variable (visited_point values place corner update)) update.left_x).points
     → Hold (λ point. loaded (place_in corners values point))
-    (points_of_index (λ e. (inlined (seeing (placed corners values reads)) flags funcs place (seen_variable (visited_point values place corner update)) e).points) update.left_y)
+    (points_of_index (λ e. (inlined (seeing (placed corners values reads)) flags funcs place (seen_variable (visited_point values place corner update))
+    e).points) update.left_y)
     → Hold (λ point. loaded (place_in corners values point))
     (inlined (seeing (placed corners values reads)) flags funcs (suc place) (seen_variable (visited_point values place corner update)) update.right).points
     → is_sound reads written loaded made values ≡ true
 
 -- It does so for an update of a Func with this box that is computed at root: each buffer begins at its box's corner.
-pub record IsUpdateStoreOf (pipeline : Pipeline) (schedule : Schedule) (boxes : Boxes) (place : ℕ) (own : SourceBox) (update : Update) (made : Stmt) : Type 0 where
-  pub corners : List Corner
-  pub are_corners : AreCorners schedule.funcs boxes.funcs schedule.standings corners
-  pub corner : Corner
-  pub is_corner : IsCorner schedule.funcs places.Root own corner
-  pub stores : StoresUpdate corners (flagged (flags_of schedule.standings)) pipeline.funcs place corner update made
-  pub hits : HitsUpdate corners (flagged (flags_of schedule.standings)) pipeline.funcs place corner update made
-  pub sound : IsSoundUpdate corners (flagged (flags_of schedule.standings)) pipeline.funcs place corner update made
+pub record IsUpdateStoreOf (pipeline : Pipeline) (schedule : Schedule) (boxes : Boxes) (place : ℕ) (own : SourceBox) (update : Update) (made : Stmt) : Type 0
+  where
+    pub corners : List Corner
+    pub are_corners : AreCorners schedule.funcs boxes.funcs schedule.standings corners
+    pub corner : Corner
+    pub is_corner : IsCorner schedule.funcs places.Root own corner
+    pub stores : StoresUpdate corners (flagged (flags_of schedule.standings)) pipeline.funcs place corner update made
+    pub hits : HitsUpdate corners (flagged (flags_of schedule.standings)) pipeline.funcs place corner update made
+    pub sound : IsSoundUpdate corners (flagged (flags_of schedule.standings)) pipeline.funcs place corner update made
 
 -- ---- slices
 

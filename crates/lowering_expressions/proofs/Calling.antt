@@ -54,7 +54,8 @@ module _ (corners : List Corner) (values : Values) (reads : Reads) where
 
     all_loads : (v : Variable) (test : Point → Bool) → Given test → Hold test (loads reads values (term_of a b c d v))
     all_loads variables.FirstArgument test g = first_part test g
-    all_loads variables.SecondArgument test g = (all_parts (passing test) (loads reads values b) (loads reads values c ++ loads reads values d) (behind test g)).0
+    all_loads variables.SecondArgument test g = (all_parts (passing test) (loads reads values b) (loads reads values c ++ loads reads values d)
+        (behind test g)).0
     all_loads variables.FirstReduction test g = (all_parts (passing test) (loads reads values c) (loads reads values d) (last_parts test g)).0
     all_loads variables.SecondReduction test g = (all_parts (passing test) (loads reads values c) (loads reads values d) (last_parts test g)).1
 
@@ -64,7 +65,8 @@ module _ (corners : List Corner) (values : Values) (reads : Reads) where
     same_stands variables.FirstReduction = refl
     same_stands variables.SecondReduction = refl
 
-    pub variable_follows : (v w : Variable) (made : Expr) → v ≡ w → made ≡ term_of a b c d w → Follows corners values reads (loaded_by reads values a b c d) made (standing reads values a b c d v)
+    pub variable_follows : (v w : Variable) (made : Expr) → v ≡ w → made ≡ term_of a b c d w
+        → Follows corners values reads (loaded_by reads values a b c d) made (standing reads values a b c d v)
     variable_follows v w made is same =
         subst (λ (own : Variable). Follows corners values reads (loaded_by reads values a b c d) made (standing reads values a b c d own)) (sym is)
         (subst (λ (own : Expr). Follows corners values reads (loaded_by reads values a b c d) own (standing reads values a b c d w)) (sym same)
@@ -75,7 +77,11 @@ module _ (corners : List Corner) (values : Values) (reads : Reads) where
 
   pub alone : (s : Source) (left : Seen) → alg.level (layer.Call2 s left (none alg)) ≡ alg.level (layer.Call1 s left)
   unfolding seeing
-  alone s left = ap (λ (ps : List Point). record { value = (alg.level (layer.Call1 s left)).value; points = ps ++ (record { source = s; x = left.value; y = 0 } ∷ []) }) (append-nil left.points)
+  alone s left = ap (λ (ps : List Point). record {
+    value = (alg.level (layer.Call1 s left)).value;
+    points = ps ++ (record { source = s; x = left.value; y = 0 }
+        ∷ []);
+  }) (append-nil left.points)
 
   same_made : (within : Inside Seen) (func : Func) (left : Seen) → made_of alg within func left (Some (none alg)) ≡ made_of alg within func left None
   unfolding seeing
@@ -89,11 +95,13 @@ module _ (corners : List Corner) (values : Values) (reads : Reads) where
   unfolding seeing
   made_follows within func x y zero made given left right fx fy fz own =
       let vars : standing reads values x y zero zero ≡ arguments (none alg) (unread left) (unread right) = fun_ext by_variable in
-      let own_follows = subst (λ (vs : Variable → Seen). Follows corners values reads (loaded_by reads values x y zero zero) made (through alg within vs func.pure)) vars own in
+      let own_follows = subst (λ (vs : Variable → Seen). Follows corners values reads (loaded_by reads values x y zero zero) made
+      (through alg within vs func.pure)) vars own in
       record {
         same = own_follows.same;
         holds = λ test g h.
-            let k = all_parts (Passes test) left.points (right.points ++ (through alg within (arguments (none alg) (unread left) (unread right)) func.pure).points) h in
+            let k = all_parts (Passes test) left.points (right.points ++ (through alg within (arguments (none alg) (unread left) (unread right))
+            func.pure).points) h in
             let m = all_parts (Passes test) right.points (through alg within (arguments (none alg) (unread left) (unread right)) func.pure).points k.1 in
             let z : Hold test (loads reads values zero) = fz.holds test g tt in
             own_follows.holds test
@@ -114,7 +122,8 @@ module _ (corners : List Corner) (values : Values) (reads : Reads) where
     answers s = answer (inside alg is_inlined funcs count) s
 
     -- where it isn't inlined
-    pub not_inlined : (place : ℕ) (s : Source) (a x : Seen) (y : Option Seen) → s ≡ sources.Func place → func_in funcs is_inlined count place ≡ None → a ≡ answered a x y (answers s)
+    pub not_inlined : (place : ℕ) (s : Source) (a x : Seen) (y : Option Seen) → s ≡ sources.Func place → func_in funcs is_inlined count place ≡ None
+        → a ≡ answered a x y (answers s)
     not_inlined place s a x y is found =
         sym (ap (λ (own : Source). answered a x y (answers own)) is
         ∙ ap (answered a x y) (inside_is alg is_inlined funcs count place ∙ ap (made_in alg (inside alg is_inlined funcs place)) found))
@@ -123,14 +132,16 @@ module _ (corners : List Corner) (values : Values) (reads : Reads) where
     input place s a x y is = sym (ap (λ (own : Source). answered a x y (answers own)) is)
 
     -- where it is
-    pub is_made : (place : ℕ) (s : Source) (func : Func) (a x : Seen) (y : Option Seen) → s ≡ sources.Func place → func_in funcs is_inlined count place ≡ Some func
+    pub is_made : (place : ℕ) (s : Source) (func : Func) (a x : Seen) (y : Option Seen) → s ≡ sources.Func place
+        → func_in funcs is_inlined count place ≡ Some func
         → made_of alg (inside alg is_inlined funcs place) func x y ≡ answered a x y (answers s)
     is_made place s func a x y is found =
         sym (ap (λ (own : Source). answered a x y (answers own)) is
         ∙ ap (answered a x y) (inside_is alg is_inlined funcs count place ∙ ap (made_in alg (inside alg is_inlined funcs place)) found))
 
     -- a call with one argument is one whose second argument is 0
-    pub one_argument : (s : Source) (left : Seen) → answered (alg.level (layer.Call2 s left (none alg))) left (Some (none alg)) (answers s) ≡ answered (alg.level (layer.Call1 s left)) left None (answers s)
+    pub one_argument : (s : Source) (left : Seen) → answered (alg.level (layer.Call2 s left (none alg))) left (Some (none alg)) (answers s)
+        ≡ answered (alg.level (layer.Call1 s left)) left None (answers s)
     one_argument (sources.Input place) left = alone (sources.Input place) left
     one_argument (sources.Func place) left = by_func (func_in funcs is_inlined count place) refl
       where

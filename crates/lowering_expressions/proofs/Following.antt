@@ -39,7 +39,8 @@ module _ (corners : List Corner) (values : Values) (reads : Reads) (given : List
     holds = λ test g h. subst (Hold test) (sym (ap points_of (at_number Seen (seen_at reads values) n))) tt;
   }
 
-  pub binary_follows : (op : Operation) (a b : Expr) (left right : Seen) → F a left → F b right → F (e.Binary op a b) ((algebra corners values reads).level (layer.Binary op left right))
+  pub binary_follows : (op : Operation) (a b : Expr) (left right : Seen) → F a left → F b right
+      → F (e.Binary op a b) ((algebra corners values reads).level (layer.Binary op left right))
   unfolding seeing value seen
   binary_follows op a b left right fa fb = record {
     same = at_binary ℕ (value_at reads values) op a b
@@ -52,7 +53,8 @@ module _ (corners : List Corner) (values : Values) (reads : Reads) (given : List
 
   -- a left side to which a number is added
   pub shifted_follows : (op : Operation) (a b made : Expr) (left right : Seen) (n : ℕ) → ((x : ℕ) → word.applied op x (value reads values b) ≡ word.add x n)
-      → value reads values made ≡ word.add (value reads values a) n → ((test : Point → Bool) → Hold test (loads reads values a) → Hold test (loads reads values made))
+      → value reads values made ≡ word.add (value reads values a) n → ((test : Point → Bool) → Hold test (loads reads values a)
+      → Hold test (loads reads values made))
       → F a left → F b right → F made ((algebra corners values reads).level (layer.Binary op left right))
   unfolding seeing
   shifted_follows op a b made left right n shift is all fa fb = record {
@@ -99,7 +101,8 @@ module _ (corners : List Corner) (values : Values) (reads : Reads) (given : List
 
   -- at a point that is counted from a corner
   pub load_follows : (s : Source) (corner : Option Corner) → corner ≡ corner_of corners s → (x y : Expr) (left right : Seen)
-      → value reads values x ≡ (from_corner values corner left.value right.value s).x → value reads values y ≡ (from_corner values corner left.value right.value s).y
+      → value reads values x ≡ (from_corner values corner left.value right.value s).x
+      → value reads values y ≡ (from_corner values corner left.value right.value s).y
       → ((test : Point → Bool) → Hold test given → Hold (λ p. test (place corners values p)) left.points → Hold test (loads reads values x))
       → ((test : Point → Bool) → Hold test given → Hold (λ p. test (place corners values p)) right.points → Hold test (loads reads values y))
       → F (e.Load s x y) ((algebra corners values reads).level (layer.Call2 s left right))
@@ -159,9 +162,11 @@ module _ (reads : Reads) (values : Values) where
   linear_passes own test = subst (Hold test) (sym (linear_loads own)) tt
 
   -- an operation on an expression and one that loads nothing
-  pub left_passes : (op : Operation) (made a b : Expr) → made ≡ e.Binary op a b → loads reads values b ≡ [] → (test : Point → Bool) → Hold test (loads reads values a) → Hold test (loads reads values made)
+  pub left_passes : (op : Operation) (made a b : Expr) → made ≡ e.Binary op a b → loads reads values b ≡ [] → (test : Point → Bool)
+      → Hold test (loads reads values a) → Hold test (loads reads values made)
   left_passes op made a b is none test h =
-      subst (Hold test) (sym (ap (loads reads values) is ∙ binary_loads op a b ∙ ap (λ (ps : List Point). loads reads values a ++ ps) none ∙ append-nil (loads reads values a))) h
+      subst (Hold test) (sym (ap (loads reads values) is ∙ binary_loads op a b ∙ ap (λ (ps : List Point). loads reads values a ++ ps) none
+      ∙ append-nil (loads reads values a))) h
 
 pub subtract_is : (x n m : ℕ) → m ≡ word.subtract 0 n → word.subtract x n ≡ word.add x m
 unfolding word.subtract word.add

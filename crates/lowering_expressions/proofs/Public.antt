@@ -50,21 +50,26 @@ module _ (corners : List Corner) (values : Values) (reads : Reads) (own : Argume
   none_loaded : (test : Point → Bool) → Hold test (loaded_by reads values a b c d)
   none_loaded test =
       let p : Point → Type 0 = λ point. test point ≡ true in
-      all_both p (loads reads values a) (loads reads values b ++ (loads reads values c ++ loads reads values d)) (no_loads reads values a own.first_argument a_is test)
+      all_both p (loads reads values a) (loads reads values b ++ (loads reads values c ++ loads reads values d)) (no_loads reads values a own.first_argument
+      a_is test)
       (all_both p (loads reads values b) (loads reads values c ++ loads reads values d) (no_loads reads values b own.second_argument b_is test)
-      (all_both p (loads reads values c) (loads reads values d) (no_loads reads values c own.first_reduction c_is test) (no_loads reads values d own.second_reduction d_is test)))
+      (all_both p (loads reads values c) (loads reads values d) (no_loads reads values c own.first_reduction c_is test) (no_loads reads values d
+      own.second_reduction d_is test)))
 
   module _ (is_inlined : ℕ → Bool) (funcs : List Func) (count : ℕ) (expr : definition.Expr) (made : Expr)
       (follows : Follows corners values reads (loaded_by reads values a b c d) made
       (inlined (algebra corners values reads) is_inlined funcs count (standing reads values a b c d) expr)) where
-    pub lowered_value : value reads values made ≡ inlined (valuing (placed corners values reads)) is_inlined funcs count (variable (environment values own)) expr
+    pub lowered_value : value reads values made ≡ inlined (valuing (placed corners values reads)) is_inlined funcs count (variable (environment values own))
+        expr
     lowered_value =
         follows.same
         ∙ ap (λ (vars : Variable → Seen). (inlined (algebra corners values reads) is_inlined funcs count vars expr).value) same_variables
         ∙ sees_inlined_values (placed corners values reads) is_inlined funcs count (environment values own) expr
 
-    pub lowered_loads : (test : Point → Bool) → Hold (λ point. test (place corners values point)) (inlined (seeing (placed corners values reads)) is_inlined funcs count (seen_variable (environment values own)) expr).points
+    pub lowered_loads : (test : Point → Bool) → Hold (λ point. test (place corners values point)) (inlined (seeing (placed corners values reads)) is_inlined
+        funcs count (seen_variable (environment values own)) expr).points
         → Hold test (loads reads values made)
     lowered_loads test h =
         follows.holds test (none_loaded test)
-        (subst (λ (vars : Variable → Seen). Hold (λ point. test (place corners values point)) (inlined (algebra corners values reads) is_inlined funcs count vars expr).points) (sym same_variables) h)
+        (subst (λ (vars : Variable → Seen). Hold (λ point. test (place corners values point)) (inlined (algebra corners values reads) is_inlined funcs count
+        vars expr).points) (sym same_variables) h)

@@ -80,7 +80,8 @@ select_size made c a b is = words_of made _ (ap size_of is ∙ size_select c a b
 
 -- Coordinates that were counted from a corner: each is at most 26 words more, and a number became a sum of at most 22 words.
 pub load_given : (s : Source) (made x y a b : Expr) (left : ℕ) (right : Option ℕ) → made ≡ e.Load s x y → size x ≤ size a + 26 → size y ≤ size b + 26
-    → ((n : ℕ) → b ≡ e.Number n → (kept (size_of y) ≡ 0) × (size y ≤ 22)) → IsGiven (size a) left → IsGivenSecond b right → IsGiven (size made) (call_nodes left right)
+    → ((n : ℕ) → b ≡ e.Number n → (kept (size_of y) ≡ 0) × (size y ≤ 22)) → IsGiven (size a) left → IsGivenSecond b right
+    → IsGiven (size made) (call_nodes left right)
 load_given s made x y a b left None is ex ey alone fx fy =
     let n : size made ≡ size x + size y + kept (size_of y) + 13 = words_of made _ (ap size_of is ∙ size_load s x y) in
     let own = alone 0 fy in
@@ -93,9 +94,11 @@ load_given s made x y a b left (Some right) is ex ey alone fx fy =
     omega (arith, n, ex, ey, k, fx, fy)
 
 -- a buffer that begins at 0, 0
-pub plain_given : (s : Source) (made x y : Expr) (left : ℕ) (right : Option ℕ) → made ≡ e.Load s x y → IsGiven (size x) left → IsGivenSecond y right → IsGiven (size made) (call_nodes left right)
+pub plain_given : (s : Source) (made x y : Expr) (left : ℕ) (right : Option ℕ) → made ≡ e.Load s x y → IsGiven (size x) left → IsGivenSecond y right
+    → IsGiven (size made) (call_nodes left right)
 plain_given s made x y left right is fx fy =
-    load_given s made x y x y left right is (omega arith) (omega arith) (λ n same. let i = number_size y n same in (number_kept y n same, omega (arith, i))) fx fy
+    load_given s made x y x y left right is (omega arith) (omega arith) (λ n same. let i = number_size y n same in (number_kept y n same, omega (arith, i))) fx
+    fy
 
 short_in : (corners : List Corner) (place : ℕ) (corner : Corner) → AreShort corners → slice_get corners place ≡ Some corner → IsShort corner
 short_in [] place corner short is = absurd cc
@@ -122,21 +125,25 @@ module _ (within : Inside ℕ) (vars : Variable → ℕ) (expr : definition.Expr
   pub variable_arm : (v : Variable) → expr ≡ d.Variable v → IsGiven (size made) (vars v) → IsGiven (size made) (of expr)
   variable_arm v is l = let j = of_variable counting within vars expr v is in omega (arith, l, j)
 
-  pub binary_arm : (op : Operation) (a b p q : definition.Expr) (x y : Expr) → expr ≡ d.Binary op a b → p ≡ a → q ≡ b → IsGiven (size x) (of p) → IsGiven (size y) (of q)
+  pub binary_arm : (op : Operation) (a b p q : definition.Expr) (x y : Expr) → expr ≡ d.Binary op a b → p ≡ a → q ≡ b → IsGiven (size x) (of p)
+      → IsGiven (size y) (of q)
       → size made ≤ size x + size y + 19 → IsGiven (size made) (of expr)
   unfolding counting
   binary_arm op a b p q x y is pa qb fx fy both =
       let j = of_binary counting within vars expr op a b is in let k = part p a x pa fx in let l = part q b y qb fy in omega (arith, j, k, l, both)
 
-  pub divide_arm : (a p : definition.Expr) (n : ℕ) (x : Expr) → expr ≡ d.Divide a n → p ≡ a → IsGiven (size x) (of p) → size made ≤ size x + 11 → IsGiven (size made) (of expr)
+  pub divide_arm : (a p : definition.Expr) (n : ℕ) (x : Expr) → expr ≡ d.Divide a n → p ≡ a → IsGiven (size x) (of p) → size made ≤ size x + 11
+      → IsGiven (size made) (of expr)
   unfolding counting
   divide_arm a p n x is pa fx one = let j = of_divide counting within vars expr a n is in let k = part p a x pa fx in omega (arith, j, k, one)
 
-  pub remainder_arm : (a p : definition.Expr) (n : ℕ) (x : Expr) → expr ≡ d.Remainder a n → p ≡ a → IsGiven (size x) (of p) → size made ≤ size x + 13 → IsGiven (size made) (of expr)
+  pub remainder_arm : (a p : definition.Expr) (n : ℕ) (x : Expr) → expr ≡ d.Remainder a n → p ≡ a → IsGiven (size x) (of p) → size made ≤ size x + 13
+      → IsGiven (size made) (of expr)
   unfolding counting
   remainder_arm a p n x is pa fx one = let j = of_remainder counting within vars expr a n is in let k = part p a x pa fx in omega (arith, j, k, one)
 
-  pub select_arm : (c a b o p q : definition.Expr) (t x y : Expr) → expr ≡ d.Select c a b → o ≡ c → p ≡ a → q ≡ b → IsGiven (size t) (of o) → IsGiven (size x) (of p) → IsGiven (size y) (of q)
+  pub select_arm : (c a b o p q : definition.Expr) (t x y : Expr) → expr ≡ d.Select c a b → o ≡ c → p ≡ a → q ≡ b → IsGiven (size t) (of o)
+      → IsGiven (size x) (of p) → IsGiven (size y) (of q)
       → size made ≤ size t + size x + size y + 33 → IsGiven (size made) (of expr)
   unfolding counting
   select_arm c a b o p q t x y is oc pa qb ft fx fy all =
@@ -145,14 +152,17 @@ module _ (within : Inside ℕ) (vars : Variable → ℕ) (expr : definition.Expr
       omega (arith, j, h, k, l, all)
 
   abbrev Called : Expr → Expr → Source → Type 0
-  Called x y s = (left : ℕ) (right : Option ℕ) → IsGiven (size x) left → IsGivenSecond y right → IsGiven (size made) (answered (call_nodes left right) left right (answer within s))
+  Called x y s = (left : ℕ) (right : Option ℕ) → IsGiven (size x) left → IsGivenSecond y right
+      → IsGiven (size made) (answered (call_nodes left right) left right (answer within s))
 
-  pub call1_arm : (s : Source) (a p : definition.Expr) (x none : Expr) → expr ≡ d.Call1 s a → p ≡ a → IsGiven (size x) (of p) → none ≡ e.Number 0 → Called x none s → IsGiven (size made) (of expr)
+  pub call1_arm : (s : Source) (a p : definition.Expr) (x none : Expr) → expr ≡ d.Call1 s a → p ≡ a → IsGiven (size x) (of p) → none ≡ e.Number 0
+      → Called x none s → IsGiven (size made) (of expr)
   unfolding counting
   call1_arm s a p x none is pa fx ez both =
       subst (IsGiven (size made)) (sym (of_call1 counting within vars expr s a is)) (both (of a) None (part p a x pa fx) ez)
 
-  pub call2_arm : (s : Source) (a b p q : definition.Expr) (x y : Expr) → expr ≡ d.Call2 s a b → p ≡ a → q ≡ b → IsGiven (size x) (of p) → IsGiven (size y) (of q) → Called x y s
+  pub call2_arm : (s : Source) (a b p q : definition.Expr) (x y : Expr) → expr ≡ d.Call2 s a b → p ≡ a → q ≡ b → IsGiven (size x) (of p)
+      → IsGiven (size y) (of q) → Called x y s
       → IsGiven (size made) (of expr)
   unfolding counting
   call2_arm s a b p q x y is pa qb fx fy both =
@@ -164,7 +174,8 @@ module _ (is_inlined : ℕ → Bool) (funcs : List Func) (count : ℕ) where
   abbrev answers : Source → Option (ℕ → Option ℕ → ℕ)
   answers s = answer (inside counting is_inlined funcs count) s
 
-  pub not_inlined : (place : ℕ) (s : Source) (a x : ℕ) (y : Option ℕ) → s ≡ sources.Func place → func_in funcs is_inlined count place ≡ None → a ≡ answered a x y (answers s)
+  pub not_inlined : (place : ℕ) (s : Source) (a x : ℕ) (y : Option ℕ) → s ≡ sources.Func place → func_in funcs is_inlined count place ≡ None
+      → a ≡ answered a x y (answers s)
   not_inlined place s a x y is found =
       sym (ap (λ (own : Source). answered a x y (answers own)) is
       ∙ ap (answered a x y) (inside_is counting is_inlined funcs count place ∙ ap (made_in counting (inside counting is_inlined funcs place)) found))
@@ -176,9 +187,12 @@ module _ (is_inlined : ℕ → Bool) (funcs : List Func) (count : ℕ) where
       ∙ ap (answered a x y) (inside_is counting is_inlined funcs count place ∙ ap (made_in counting (inside counting is_inlined funcs place)) found))
 
   -- what is made of a Func that is put in place, whose arguments are given no more than these
-  pub made_given : (place : ℕ) (s : Source) (func : Func) (made x y : Expr) (terms : Variable → ℕ) (left : ℕ) (right : Option ℕ) → s ≡ sources.Func place → func_in funcs is_inlined count place ≡ Some func
-      → IsGiven (size x) left → IsGivenSecond y right → terms variables.FirstArgument ≡ size x → terms variables.SecondArgument ≡ size y → terms variables.FirstReduction ≡ 2 → terms variables.SecondReduction ≡ 2
-      → ((nodes : Variable → ℕ) → ((v : Variable) → IsGiven (terms v) (nodes v)) → IsGiven (size made) (through counting (inside counting is_inlined funcs place) nodes func.pure))
+  pub made_given : (place : ℕ) (s : Source) (func : Func) (made x y : Expr) (terms : Variable → ℕ) (left : ℕ) (right : Option ℕ) → s ≡ sources.Func place
+      → func_in funcs is_inlined count place ≡ Some func
+      → IsGiven (size x) left → IsGivenSecond y right → terms variables.FirstArgument ≡ size x → terms variables.SecondArgument ≡ size y
+      → terms variables.FirstReduction ≡ 2 → terms variables.SecondReduction ≡ 2
+      → ((nodes : Variable → ℕ) → ((v : Variable) → IsGiven (terms v) (nodes v))
+      → IsGiven (size made) (through counting (inside counting is_inlined funcs place) nodes func.pure))
       → IsGiven (size made) (answered (call_nodes left right) left right (answers s))
   unfolding counting
   made_given place s func made x y terms left right is found fx fy ex ey er es all =
@@ -196,7 +210,8 @@ module _ (is_inlined : ℕ → Bool) (funcs : List Func) (count : ℕ) where
       given variables.SecondReduction = omega (arith, es)
 
 -- all of four
-pub all_short : (terms : Variable → ℕ) → IsGiven (terms variables.FirstArgument) 1 → IsGiven (terms variables.SecondArgument) 1 → IsGiven (terms variables.FirstReduction) 1 → IsGiven (terms variables.SecondReduction) 1
+pub all_short : (terms : Variable → ℕ) → IsGiven (terms variables.FirstArgument) 1 → IsGiven (terms variables.SecondArgument) 1
+    → IsGiven (terms variables.FirstReduction) 1 → IsGiven (terms variables.SecondReduction) 1
     → (v : Variable) → IsGiven (terms v) 1
 all_short terms a b c d variables.FirstArgument = a
 all_short terms a b c d variables.SecondArgument = b

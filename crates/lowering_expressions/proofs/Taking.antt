@@ -102,15 +102,18 @@ module _ (within : Inside ℕ) (vars : Variable → ℕ) (expr : definition.Expr
   binary_arm op a b p q x y is pa qb fx fy both =
       let j = of_binary taking within vars expr op a b is in let k = part p a x pa fx in let l = part q b y qb fy in omega (arith, j, k, l, both)
 
-  pub divide_arm : (a p : definition.Expr) (n : ℕ) (x : Expr) → expr ≡ d.Divide a n → p ≡ a → need x ≤ of p → need made ≤ max (need x) (divisor_need n) → need made ≤ of expr
+  pub divide_arm : (a p : definition.Expr) (n : ℕ) (x : Expr) → expr ≡ d.Divide a n → p ≡ a → need x ≤ of p → need made ≤ max (need x) (divisor_need n)
+      → need made ≤ of expr
   unfolding taking
   divide_arm a p n x is pa fx one = let j = of_divide taking within vars expr a n is in let k = part p a x pa fx in omega (arith, j, k, one)
 
-  pub remainder_arm : (a p : definition.Expr) (n : ℕ) (x : Expr) → expr ≡ d.Remainder a n → p ≡ a → need x ≤ of p → need made ≤ max (need x) (divisor_need n) → need made ≤ of expr
+  pub remainder_arm : (a p : definition.Expr) (n : ℕ) (x : Expr) → expr ≡ d.Remainder a n → p ≡ a → need x ≤ of p → need made ≤ max (need x) (divisor_need n)
+      → need made ≤ of expr
   unfolding taking
   remainder_arm a p n x is pa fx one = let j = of_remainder taking within vars expr a n is in let k = part p a x pa fx in omega (arith, j, k, one)
 
-  pub select_arm : (c a b o p q : definition.Expr) (t x y : Expr) → expr ≡ d.Select c a b → o ≡ c → p ≡ a → q ≡ b → need t ≤ of o → need x ≤ of p → need y ≤ of q
+  pub select_arm : (c a b o p q : definition.Expr) (t x y : Expr) → expr ≡ d.Select c a b → o ≡ c → p ≡ a → q ≡ b → need t ≤ of o → need x ≤ of p
+      → need y ≤ of q
       → need made ≤ max (need t) (max (1 + need x) (2 + need y)) → need made ≤ of expr
   unfolding taking
   select_arm c a b o p q t x y is oc pa qb ft fx fy all =
@@ -119,13 +122,15 @@ module _ (within : Inside ℕ) (vars : Variable → ℕ) (expr : definition.Expr
       omega (arith, j, h, k, l, all)
 
   pub call1_arm : (s : Source) (a p : definition.Expr) (x zero : Expr) → expr ≡ d.Call1 s a → p ≡ a → need x ≤ of p → zero ≡ e.Number 0
-      → ((left : ℕ) (right : Option ℕ) → need x ≤ left → IsSecond zero right → need made ≤ answered (call_need left right) left right (answer within s)) → need made ≤ of expr
+      → ((left : ℕ) (right : Option ℕ) → need x ≤ left → IsSecond zero right → need made ≤ answered (call_need left right) left right (answer within s))
+      → need made ≤ of expr
   unfolding taking
   call1_arm s a p x zero is pa fx ez both =
       subst (λ (n : ℕ). need made ≤ n) (sym (of_call1 taking within vars expr s a is)) (both (of a) None (part p a x pa fx) ez)
 
   pub call2_arm : (s : Source) (a b p q : definition.Expr) (x y : Expr) → expr ≡ d.Call2 s a b → p ≡ a → q ≡ b → need x ≤ of p → need y ≤ of q
-      → ((left : ℕ) (right : Option ℕ) → need x ≤ left → IsSecond y right → need made ≤ answered (call_need left right) left right (answer within s)) → need made ≤ of expr
+      → ((left : ℕ) (right : Option ℕ) → need x ≤ left → IsSecond y right → need made ≤ answered (call_need left right) left right (answer within s))
+      → need made ≤ of expr
   unfolding taking
   call2_arm s a b p q x y is pa qb fx fy both =
       subst (λ (n : ℕ). need made ≤ n) (sym (of_call2 taking within vars expr s a b is)) (both (of a) (Some (of b)) (part p a x pa fx) (part q b y qb fy))
@@ -133,7 +138,8 @@ module _ (within : Inside ℕ) (vars : Variable → ℕ) (expr : definition.Expr
 -- ---- calls
 
 -- a load, whether there is a second argument or not
-pub call_few : (made x y : Expr) (left : ℕ) (right : Option ℕ) → need made ≤ max (need x) (1 + need y) → ((n : ℕ) → y ≡ e.Number n → need made ≤ need x) → need x ≤ left → IsSecond y right
+pub call_few : (made x y : Expr) (left : ℕ) (right : Option ℕ) → need made ≤ max (need x) (1 + need y) → ((n : ℕ) → y ≡ e.Number n → need made ≤ need x)
+    → need x ≤ left → IsSecond y right
     → need made ≤ call_need left right
 call_few made x y left None few alone fx fy = let l = alone 0 fy in omega (arith, l, fx)
 call_few made x y left (Some right) few alone fx fy = omega (arith, few, fx, fy)
@@ -142,7 +148,8 @@ module _ (is_inlined : ℕ → Bool) (funcs : List Func) (count : ℕ) where
   abbrev answers : Source → Option (ℕ → Option ℕ → ℕ)
   answers s = answer (inside taking is_inlined funcs count) s
 
-  pub not_inlined : (place : ℕ) (s : Source) (a x : ℕ) (y : Option ℕ) → s ≡ sources.Func place → func_in funcs is_inlined count place ≡ None → a ≡ answered a x y (answers s)
+  pub not_inlined : (place : ℕ) (s : Source) (a x : ℕ) (y : Option ℕ) → s ≡ sources.Func place → func_in funcs is_inlined count place ≡ None
+      → a ≡ answered a x y (answers s)
   not_inlined place s a x y is found =
       sym (ap (λ (own : Source). answered a x y (answers own)) is
       ∙ ap (answered a x y) (inside_is taking is_inlined funcs count place ∙ ap (made_in taking (inside taking is_inlined funcs place)) found))
@@ -154,8 +161,10 @@ module _ (is_inlined : ℕ → Bool) (funcs : List Func) (count : ℕ) where
       ∙ ap (answered a x y) (inside_is taking is_inlined funcs count place ∙ ap (made_in taking (inside taking is_inlined funcs place)) found))
 
   -- what is made of a Func that is put in place, whose arguments need no more than these
-  pub made_few : (place : ℕ) (s : Source) (func : Func) (made x y : Expr) (terms : Variable → ℕ) (left : ℕ) (right : Option ℕ) → s ≡ sources.Func place → func_in funcs is_inlined count place ≡ Some func
-      → need x ≤ left → IsSecond y right → terms variables.FirstArgument ≡ need x → terms variables.SecondArgument ≡ need y → terms variables.FirstReduction ≡ 1 → terms variables.SecondReduction ≡ 1
+  pub made_few : (place : ℕ) (s : Source) (func : Func) (made x y : Expr) (terms : Variable → ℕ) (left : ℕ) (right : Option ℕ) → s ≡ sources.Func place
+      → func_in funcs is_inlined count place ≡ Some func
+      → need x ≤ left → IsSecond y right → terms variables.FirstArgument ≡ need x → terms variables.SecondArgument ≡ need y → terms variables.FirstReduction ≡ 1
+      → terms variables.SecondReduction ≡ 1
       → ((most : Variable → ℕ) → ((v : Variable) → terms v ≤ most v) → need made ≤ through taking (inside taking is_inlined funcs place) most func.pure)
       → need made ≤ answered (call_need left right) left right (answers s)
   unfolding taking
@@ -173,7 +182,8 @@ module _ (is_inlined : ℕ → Bool) (funcs : List Func) (count : ℕ) where
       taken variables.SecondReduction = omega (arith, es)
 
 -- all of four
-pub all_ones : (terms : Variable → ℕ) → terms variables.FirstArgument ≡ 1 → terms variables.SecondArgument ≡ 1 → terms variables.FirstReduction ≡ 1 → terms variables.SecondReduction ≡ 1
+pub all_ones : (terms : Variable → ℕ) → terms variables.FirstArgument ≡ 1 → terms variables.SecondArgument ≡ 1 → terms variables.FirstReduction ≡ 1
+    → terms variables.SecondReduction ≡ 1
     → (v : Variable) → terms v ≤ 1
 all_ones terms a b c d variables.FirstArgument = omega (arith, a)
 all_ones terms a b c d variables.SecondArgument = omega (arith, b)

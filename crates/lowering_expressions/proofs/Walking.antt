@@ -56,16 +56,20 @@ module _ (corners : List Corner) (values : Values) (reads : Reads) (given : List
         subst (F made) (sym (of_select alg within vars expr c a b is)) (all (of c) (of a) (of b) (part o c t oc ft) (part p a x pa fx) (part q b y qb fy))
 
     pub call2_arm : (s : Source) (a b p q : definition.Expr) (x y : Expr) → expr ≡ d.Call2 s a b → p ≡ a → q ≡ b → F x (of p) → F y (of q)
-        → ((left right : Seen) → F x left → F y right → F made (answered (alg.level (layer.Call2 s left right)) left (Some right) (answer within s))) → F made (of expr)
+        → ((left right : Seen) → F x left → F y right → F made (answered (alg.level (layer.Call2 s left right)) left (Some right) (answer within s)))
+        → F made (of expr)
     call2_arm s a b p q x y is pa qb fx fy both =
         subst (F made) (sym (of_call2 alg within vars expr s a b is)) (both (of a) (of b) (part p a x pa fx) (part q b y qb fy))
 
   pub call1_arm : (is_inlined : ℕ → Bool) (funcs : List Func) (count : ℕ) (vars : Variable → Seen) (expr : definition.Expr) (made : Expr)
-      → (s : Source) (a p : definition.Expr) (x zero : Expr) → expr ≡ d.Call1 s a → p ≡ a → F x (through alg (inside alg is_inlined funcs count) vars p) → F zero (none alg)
-      → ((left right : Seen) → F x left → F zero right → F made (answered (alg.level (layer.Call2 s left right)) left (Some right) (answer (inside alg is_inlined funcs count) s)))
+      → (s : Source) (a p : definition.Expr) (x zero : Expr) → expr ≡ d.Call1 s a → p ≡ a → F x (through alg (inside alg is_inlined funcs count) vars p)
+      → F zero (none alg)
+      → ((left right : Seen) → F x left → F zero right
+      → F made (answered (alg.level (layer.Call2 s left right)) left (Some right) (answer (inside alg is_inlined funcs count) s)))
       → F made (through alg (inside alg is_inlined funcs count) vars expr)
   call1_arm is_inlined funcs count vars expr made s a p x zero is pa fx fz both =
       let within = inside alg is_inlined funcs count in
       let own = through alg within vars a in
       let f = subst (λ (e : definition.Expr). F x (through alg within vars e)) pa fx in
-      subst (F made) (sym (of_call1 alg within vars expr s a is)) (subst (F made) (one_argument corners values reads is_inlined funcs count s own) (both own (none alg) f fz))
+      subst (F made) (sym (of_call1 alg within vars expr s a is)) (subst (F made) (one_argument corners values reads is_inlined funcs count s own)
+      (both own (none alg) f fz))

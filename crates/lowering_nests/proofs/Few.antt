@@ -1,5 +1,6 @@
 -- Loops have few turns; splits taken from the last one.
-use Rattle.std.proofs.Common.{◌≡◌, ℕ, suc, ◌+◌, ◌-◌, ◌*◌, ◌^◌, ◌<◌, ◌≤◌, Bool, true, false, cond, List, [], ◌∷◌, ◌++◌, length, get_or, take, sym, ap, subst, ◌∙◌, arith, length-append}
+use Rattle.std.proofs.Common.{◌≡◌, ℕ, suc, ◌+◌, ◌-◌, ◌*◌, ◌^◌, ◌<◌, ◌≤◌, Bool, true, false, cond, List, [], ◌∷◌, ◌++◌, length, get_or, take, sym, ap, subst}
+use Rattle.std.proofs.Common.{◌∙◌, arith, length-append}
 use Rattle.std.specs.List.{AllByRecursion}
 use Rattle.std.proofs.Math.Nat.{div-le_self}
 use Rattle.halide_pipeline.proofs.Seeing.{all_parts}
@@ -8,7 +9,8 @@ use Rattle.schedule_lines.specs.declared.stages.LoopId.TheVariants as ids
 use Rattle.schedule_lines.specs.declared.stages.Split.{Split}
 use Rattle.schedule_lines.specs.Directives.{same_id}
 use Rattle.schedule_loops.specs.declared.extents.Extents.{Extents}
-use Rattle.schedule_loops.specs.Visits.{Values, rounds, whole_counts, more_counts, counts_from, counts, IsFactor, AreSplits, split_body, split_bodies, over_loops}
+use Rattle.schedule_loops.specs.Visits.{Values, rounds, whole_counts, more_counts, counts_from, counts, IsFactor, AreSplits, split_body, split_bodies}
+use Rattle.schedule_loops.specs.Visits.{over_loops}
 use Rattle.lowering_nests.specs.Nests.{AreFew}
 
 -- ---- rounds
@@ -19,18 +21,21 @@ rounds_few most extent factor few small = let d = div-le_self (extent + (factor 
 abbrev AreAtMost : ℕ → Values → Type 0
 AreAtMost most counts = (id : LoopId) → counts id ≤ most
 
-more_few : (counts : Values) (place most : ℕ) (split : Split) → AreAtMost most counts → split.factor ≤ 64 → AreAtMost (most + 64) (more_counts counts place split)
+more_few : (counts : Values) (place most : ℕ) (split : Split) → AreAtMost most counts → split.factor ≤ 64
+    → AreAtMost (most + 64) (more_counts counts place split)
 more_few counts place most split few small id =
     let r = rounds_few most (counts split.of) split.factor (few split.of) small in
     let o = few id in
     by_tests (same_id id (ids.Inner place)) (same_id id (ids.Outer place)) r o
   where
-    by_tests : (a b : Bool) → rounds (counts split.of) split.factor ≤ most + 63 → counts id ≤ most → cond a split.factor (cond b (rounds (counts split.of) split.factor) (counts id)) ≤ most + 64
+    by_tests : (a b : Bool) → rounds (counts split.of) split.factor ≤ most + 63 → counts id ≤ most
+        → cond a split.factor (cond b (rounds (counts split.of) split.factor) (counts id)) ≤ most + 64
     by_tests true b r o = omega (arith, small)
     by_tests false true r o = omega (arith, r)
     by_tests false false r o = omega (arith, o)
 
-all_few : (splits : List Split) (counts : Values) (place most : ℕ) → AreAtMost most counts → AllByRecursion IsFactor splits → AreAtMost (most + 64 * length splits) (counts_from counts place splits)
+all_few : (splits : List Split) (counts : Values) (place most : ℕ) → AreAtMost most counts → AllByRecursion IsFactor splits
+    → AreAtMost (most + 64 * length splits) (counts_from counts place splits)
 all_few [] counts place most few factors id = let f = few id in omega (arith, f)
 all_few (split ∷ splits) counts place most few factors id =
     let r = all_few splits (more_counts counts place split) (suc place) (most + 64) (more_few counts place most split few factors.0.few) factors.1 id in
@@ -50,15 +55,21 @@ few_turns extents splits few are id =
 -- ---- the last split
 
 pub bodies_last : {A : Type 0} (splits : List Split) (last : Split) (counts : Values) (place : ℕ) (body : Values → List A)
-    → split_bodies counts place (splits ++ last ∷ []) body ≡ split_body (counts_from counts place splits) (place + length splits) last (split_bodies counts place splits body)
+    → split_bodies counts place (splits ++ last ∷ []) body ≡ split_body (counts_from counts place splits) (place + length splits) last
+    (split_bodies counts place splits body)
 bodies_last [] last counts place body = let e : place ≡ place + 0 = omega arith in ap (λ (p : ℕ). split_body counts p last body) e
 bodies_last (split ∷ splits) last counts place body =
     let e : suc place + length splits ≡ place + suc (length splits) = omega arith in
     bodies_last splits last (more_counts counts place split) (suc place) (split_body counts place split body)
-    ∙ ap (λ (p : ℕ). split_body (counts_from (more_counts counts place split) (suc place) splits) p last (split_bodies (more_counts counts place split) (suc place) splits (split_body counts place split body))) e
+    ∙ ap (λ (p : ℕ). split_body (counts_from (more_counts counts place split) (suc place) splits) p last (split_bodies (more_counts counts place split)
+    (suc place) splits (split_body counts place split body))) e
 
 pub splits_before : (splits : List Split) (last : Split) → AreSplits (splits ++ last ∷ []) → AreSplits splits
-splits_before splits last are = record { few = omega (arith, length-append splits (last ∷ []), are.few); factors = (all_parts IsFactor splits (last ∷ []) are.factors).0 }
+splits_before splits last are = record {
+  few = omega (arith, length-append splits (last ∷ []), are.few);
+  factors =
+      (all_parts IsFactor splits (last ∷ []) are.factors).0;
+}
 
 pub last_factor : (splits : List Split) (last : Split) → AreSplits (splits ++ last ∷ []) → last.factor ≤ 64
 last_factor splits last are = (all_parts IsFactor splits (last ∷ []) are.factors).1.0.few

@@ -26,13 +26,15 @@ module _ (func : ℕ) (extents : Extents) where
       let front : own ∷ take (length all - 1) (drop 1 all) ≡ all =
       ap (λ (o : Loop). o ∷ take (length all - 1) (drop 1 all)) is ∙ sym (first_of_rest all own some) in
       subst (λ (ls : List Loop). Repeats func made leaf (nest (loops.counts extents splits) ls list)) front
-      (others leaf (λ (outer : loops.Values). upto (loops.counts extents splits own.id) (λ (turn : ℕ). list (loops.with own.id turn outer))) (once leaf list repeats))
+      (others leaf (λ (outer : loops.Values). upto (loops.counts extents splits own.id) (λ (turn : ℕ). list (loops.with own.id turn outer)))
+      (once leaf list repeats))
 
   pub last_repeats : (splits : List Split) (other : Split) (made inner body : Stmt) (extent : ℕ) (some : 1 ≤ length splits) (are : loops.AreSplits splits)
       (sizes : SizedLoops) → sizes ≡ record { extents = extents; splits = take (length splits - 1) splits }
       → extent ≡ loops.counts sizes.extents sizes.splits (get_or splits (length splits - 1) other).of
       → Wraps inner body (over_loops extents (take (length splits - 1) splits))
-      → ((before : loops.Values) → before (get_or splits (length splits - 1) other).of ≡ extent → Wraps made inner (split_body before (length (take (length splits - 1) splits)) (get_or splits (length splits - 1) other)))
+      → ((before : loops.Values) → before (get_or splits (length splits - 1) other).of ≡ extent
+      → Wraps made inner (split_body before (length (take (length splits - 1) splits)) (get_or splits (length splits - 1) other)))
       → Wraps made body (over_loops extents splits)
   last_repeats splits other made inner body extent some are sizes sizes_are is others once leaf list repeats =
       let rest = take (length splits - 1) splits in
@@ -41,9 +43,12 @@ module _ (func : ℕ) (extents : Extents) where
       subst (Repeats func made leaf) (over_last splits other some are extents list)
       (once (loops.counts extents rest) turns leaf (over_loops extents rest list) (others leaf list repeats))
 
-  pub whole_nest : (splits : List Split) (inside : List Loop) (made inner body : Stmt) (sizes : SizedLoops) → sizes ≡ record { extents = extents; splits = splits }
+  pub whole_nest : (splits : List Split) (inside : List Loop) (made inner body : Stmt) (sizes : SizedLoops)
+      → sizes ≡ record { extents = extents; splits = splits }
       → Wraps inner body (over_loops extents splits) → Wraps made inner (nest (loops.counts sizes.extents sizes.splits) inside)
       → Repeats func made body (wholes extents splits inside)
   whole_nest splits inside made inner body sizes sizes_are within around =
-      subst (λ (s : SizedLoops). Repeats func made body (nest (loops.counts s.extents s.splits) inside (over_loops extents splits (λ (whole : loops.Values). whole ∷ [])))) sizes_are
-      (around body (over_loops extents splits (λ (whole : loops.Values). whole ∷ [])) (within body (λ (whole : loops.Values). whole ∷ []) (repeats_itself func body)))
+      subst (λ (s : SizedLoops). Repeats func made body (nest (loops.counts s.extents s.splits) inside (over_loops extents splits (λ (whole : loops.Values).
+      whole ∷ [])))) sizes_are
+      (around body (over_loops extents splits (λ (whole : loops.Values). whole ∷ [])) (within body (λ (whole : loops.Values). whole ∷ [])
+      (repeats_itself func body)))

@@ -58,7 +58,8 @@ module _ (func : ℕ) where
   pub loops_with : (id : LoopId) (n : ℕ) (values : Values) → loops_of func (with (counter id) n values) ≡ loops.with id n (loops_of func values)
   loops_with id n values = fun_ext (λ other. ap (λ (b : Bool). cond (b && same_id other id) n (values (counter other))) (eq-eqb func func refl))
 
-  pub put_with : (inner : loops.Values) (id : LoopId) (n : ℕ) (values : Values) → put_loops func inner (with (counter id) n values) ≡ put_loops func inner values
+  pub put_with : (inner : loops.Values) (id : LoopId) (n : ℕ) (values : Values) → put_loops func inner (with (counter id) n values)
+      ≡ put_loops func inner values
   put_with inner id n values = fun_ext (λ own. by_test own (own.func == func))
     where
       by_test : (own : Counter) (b : Bool) → cond b (inner own.id) (cond (b && same_id own.id id) n (values own)) ≡ cond b (inner own.id) (values own)
@@ -78,7 +79,8 @@ module _ (func : ℕ) where
   repeats_itself body = record {
     runs = λ points inputs values funcs are. ap (λ (v : Values). run points inputs body v funcs) (sym (put_own values));
     traces = λ points inputs place x y values so_far are. ap (λ (v : Values). trace points inputs place x y body v so_far) (sym (put_own values));
-    sound = λ reads written loaded values are. ap (λ (v : Values). is_sound reads written loaded body v) (sym (put_own values)) ∙ and_more (is_sound reads written loaded body (put_loops func (loops_of func values) values));
+    sound = λ reads written loaded values are. ap (λ (v : Values). is_sound reads written loaded body v) (sym (put_own values))
+        ∙ and_more (is_sound reads written loaded body (put_loops func (loops_of func values) values));
   }
     where
       and_more : (b : Bool) → b ≡ (b && true)
@@ -94,7 +96,8 @@ module _ (func : ℕ) where
       by_test true = few
       by_test false = are other
 
-  module _ (leaf body : Stmt) (list : loops.Values → List loops.Values) (repeats : Repeats func body leaf list) (id : LoopId) (n : ℕ) (few : n < 2 ^ 25) (values : Values) (are : AreSmall (loops_of func values)) where
+  module _ (leaf body : Stmt) (list : loops.Values → List loops.Values) (repeats : Repeats func body leaf list) (id : LoopId) (n : ℕ) (few : n < 2 ^ 25)
+      (values : Values) (are : AreSmall (loops_of func values)) where
     still : AreSmall (loops_of func (with (counter id) n values))
     still = subst AreSmall (sym (loops_with id n values)) (small_with id n (loops_of func values) few are)
 
@@ -109,115 +112,141 @@ module _ (func : ℕ) where
         ≡ all (λ inner. run points inputs leaf (put_loops func inner values)) (list (loops.with id n (loops_of func values))) funcs
     runs_with points inputs funcs =
         repeats.runs points inputs (with (counter id) n values) funcs still
-        ∙ ap (λ (at : loops.Values). all (λ (inner : loops.Values). run points inputs leaf (put_loops func inner (with (counter id) n values))) (list at) funcs) (loops_with id n values)
-        ∙ ap (λ (put : loops.Values → Values). all (λ (inner : loops.Values). run points inputs leaf (put inner)) (list (loops.with id n (loops_of func values))) funcs) same_puts
+        ∙ ap (λ (at : loops.Values). all (λ (inner : loops.Values). run points inputs leaf (put_loops func inner (with (counter id) n values))) (list at) funcs)
+        (loops_with id n values)
+        ∙ ap (λ (put : loops.Values → Values). all (λ (inner : loops.Values). run points inputs leaf (put inner))
+        (list (loops.with id n (loops_of func values))) funcs) same_puts
 
     traces_with : (points : Points) (inputs : Planes) (place x y : ℕ) (so_far : Trace) → trace points inputs place x y body (with (counter id) n values) so_far
         ≡ all (λ inner. trace points inputs place x y leaf (put_loops func inner values)) (list (loops.with id n (loops_of func values))) so_far
     traces_with points inputs place x y so_far =
         repeats.traces points inputs place x y (with (counter id) n values) so_far still
-        ∙ ap (λ (at : loops.Values). all (λ (inner : loops.Values). trace points inputs place x y leaf (put_loops func inner (with (counter id) n values))) (list at) so_far) (loops_with id n values)
-        ∙ ap (λ (put : loops.Values → Values). all (λ (inner : loops.Values). trace points inputs place x y leaf (put inner)) (list (loops.with id n (loops_of func values))) so_far) same_puts
+        ∙ ap (λ (at : loops.Values). all (λ (inner : loops.Values). trace points inputs place x y leaf (put_loops func inner (with (counter id) n values)))
+        (list at) so_far) (loops_with id n values)
+        ∙ ap (λ (put : loops.Values → Values). all (λ (inner : loops.Values). trace points inputs place x y leaf (put inner))
+        (list (loops.with id n (loops_of func values))) so_far) same_puts
 
     pub sound_with : (reads : Reads) (written : Points) (loaded : Point → Bool) → is_sound reads written loaded body (with (counter id) n values)
         ≡ list_all (λ inner. is_sound reads written loaded leaf (put_loops func inner values)) (list (loops.with id n (loops_of func values)))
     sound_with reads written loaded =
         repeats.sound reads written loaded (with (counter id) n values) still
-        ∙ ap (λ (at : loops.Values). list_all (λ (inner : loops.Values). is_sound reads written loaded leaf (put_loops func inner (with (counter id) n values))) (list at)) (loops_with id n values)
-        ∙ ap (λ (put : loops.Values → Values). list_all (λ (inner : loops.Values). is_sound reads written loaded leaf (put inner)) (list (loops.with id n (loops_of func values)))) same_puts
+        ∙ ap (λ (at : loops.Values). list_all (λ (inner : loops.Values). is_sound reads written loaded leaf (put_loops func inner (with (counter id) n values)))
+        (list at)) (loops_with id n values)
+        ∙ ap (λ (put : loops.Values → Values). list_all (λ (inner : loops.Values). is_sound reads written loaded leaf (put inner))
+        (list (loops.with id n (loops_of func values)))) same_puts
 
   pub loop_repeats : (made body : Stmt) (id : LoopId) (count : ℕ) → count < 2 ^ 25
-      → ((points : Points) (inputs : Planes) (values : Values) (funcs : Planes) → run points inputs made values funcs ≡ turns count (λ turn. run points inputs body (with (counter id) turn values)) funcs)
+      → ((points : Points) (inputs : Planes) (values : Values) (funcs : Planes)
+      → run points inputs made values funcs ≡ turns count (λ turn. run points inputs body (with (counter id) turn values)) funcs)
       → ((points : Points) (inputs : Planes) (place x y : ℕ) (values : Values) (so_far : Trace)
       → trace points inputs place x y made values so_far ≡ turns count (λ turn. trace points inputs place x y body (with (counter id) turn values)) so_far)
-      → ((reads : Reads) (written : Points) (loaded : Point → Bool) (values : Values) → is_sound reads written loaded made values ≡ every count (λ turn. is_sound reads written loaded body (with (counter id) turn values)))
+      → ((reads : Reads) (written : Points) (loaded : Point → Bool) (values : Values) → is_sound reads written loaded made values
+      ≡ every count (λ turn. is_sound reads written loaded body (with (counter id) turn values)))
       → (leaf : Stmt) (list : loops.Values → List loops.Values) → Repeats func body leaf list
       → Repeats func made leaf (λ outer. upto count (λ turn. list (loops.with id turn outer)))
   loop_repeats made body id count few runs_is traces_is sound_is leaf list repeats = record {
     runs = λ points inputs values funcs are.
         runs_is points inputs values funcs
-        ∙ turns_upto count count (omega arith) (λ (turn : ℕ). run points inputs body (with (counter id) turn values)) (λ (inner : loops.Values). run points inputs leaf (put_loops func inner values)) (λ (turn : ℕ). list (loops.with id turn (loops_of func values)))
+        ∙ turns_upto count count (omega arith) (λ (turn : ℕ). run points inputs body (with (counter id) turn values)) (λ (inner : loops.Values). run points
+        inputs leaf (put_loops func inner values)) (λ (turn : ℕ). list (loops.with id turn (loops_of func values)))
         (λ turn b below. runs_with leaf body list repeats id turn (omega (arith, few, below)) values are points inputs b) funcs;
     traces = λ points inputs place x y values so_far are.
         traces_is points inputs place x y values so_far
-        ∙ turns_upto count count (omega arith) (λ (turn : ℕ). trace points inputs place x y body (with (counter id) turn values)) (λ (inner : loops.Values). trace points inputs place x y leaf (put_loops func inner values)) (λ (turn : ℕ). list (loops.with id turn (loops_of func values)))
+        ∙ turns_upto count count (omega arith) (λ (turn : ℕ). trace points inputs place x y body (with (counter id) turn values)) (λ (inner : loops.Values).
+        trace points inputs place x y leaf (put_loops func inner values)) (λ (turn : ℕ). list (loops.with id turn (loops_of func values)))
         (λ turn b below. traces_with leaf body list repeats id turn (omega (arith, few, below)) values are points inputs place x y b) so_far;
     sound = λ reads written loaded values are.
         sound_is reads written loaded values
-        ∙ every_upto count count (omega arith) (λ (turn : ℕ). is_sound reads written loaded body (with (counter id) turn values)) (λ (inner : loops.Values). is_sound reads written loaded leaf (put_loops func inner values)) (λ (turn : ℕ). list (loops.with id turn (loops_of func values)))
+        ∙ every_upto count count (omega arith) (λ (turn : ℕ). is_sound reads written loaded body (with (counter id) turn values)) (λ (inner : loops.Values).
+        is_sound reads written loaded leaf (put_loops func inner values)) (λ (turn : ℕ). list (loops.with id turn (loops_of func values)))
         (λ turn below. sound_with leaf body list repeats id turn (omega (arith, few, below)) values are reads written loaded);
   }
 
   -- ---- a split
 
   module _ (made body : Stmt) (place : ℕ) (split : Split) (extent : ℕ) (whole : Whole) (few : extent < 2 ^ 25)
-      (whole_is : (values : Values) → AreSmall (loops_of func values) → whole_value whole values ≡ begin_of split.tail split.factor extent (loops_of func values (ids.Outer place)) + loops_of func values (ids.Inner place))
+      (whole_is : (values : Values) → AreSmall (loops_of func values)
+      → whole_value whole values ≡ begin_of split.tail split.factor extent (loops_of func values (ids.Outer place)) + loops_of func values
+      (ids.Inner place))
       (runs_is : (points : Points) (inputs : Planes) (values : Values) (funcs : Planes) → run points inputs made values funcs
       ≡ cond (nat_lt (whole_value whole values) extent) (run points inputs body (with (counter split.of) (whole_value whole values) values) funcs) funcs)
-      (traces_is : (points : Points) (inputs : Planes) (place_of x y : ℕ) (values : Values) (so_far : Trace) → trace points inputs place_of x y made values so_far
-      ≡ cond (nat_lt (whole_value whole values) extent) (trace points inputs place_of x y body (with (counter split.of) (whole_value whole values) values) so_far) so_far)
+      (traces_is : (points : Points) (inputs : Planes) (place_of x y : ℕ) (values : Values) (so_far : Trace)
+      → trace points inputs place_of x y made values so_far
+      ≡ cond (nat_lt (whole_value whole values) extent) (trace points inputs place_of x y body (with (counter split.of) (whole_value whole values) values)
+      so_far) so_far)
       (sound_is : (reads : Reads) (written : Points) (loaded : Point → Bool) (values : Values) → is_sound reads written loaded made values
       ≡ cond (nat_lt (whole_value whole values) extent) (is_sound reads written loaded body (with (counter split.of) (whole_value whole values) values)) true)
-      (before : loops.Values) (is : before split.of ≡ extent) (leaf : Stmt) (list : loops.Values → List loops.Values) (repeats : Repeats func body leaf list) where
-    at : Values → ℕ
-    at values = whole_of before place split (loops_of func values)
+      (before : loops.Values) (is : before split.of ≡ extent) (leaf : Stmt) (list : loops.Values → List loops.Values) (repeats : Repeats func body leaf list)
+    where
+      at : Values → ℕ
+      at values = whole_of before place split (loops_of func values)
 
-    at_is : (values : Values) → AreSmall (loops_of func values) → whole_value whole values ≡ at values
-    unfolding at
-    at_is values are = whole_is values are ∙ ap (λ (e : ℕ). begin_of split.tail split.factor e (loops_of func values (ids.Outer place)) + loops_of func values (ids.Inner place)) (sym is)
+      at_is : (values : Values) → AreSmall (loops_of func values) → whole_value whole values ≡ at values
+      unfolding at
+      at_is values are = whole_is values are ∙ ap (λ (e : ℕ). begin_of split.tail split.factor e (loops_of func values (ids.Outer place)) + loops_of func values
+          (ids.Inner place)) (sym is)
 
-    below : (n : ℕ) → nat_lt n (before split.of) ≡ true → n < 2 ^ 25
-    below n e = let l = ltb-true n (before split.of) e in omega (arith, l, few, is)
+      below : (n : ℕ) → nat_lt n (before split.of) ≡ true → n < 2 ^ 25
+      below n e = let l = ltb-true n (before split.of) e in omega (arith, l, few, is)
 
-    module _ (values : Values) (are : AreSmall (loops_of func values)) where
-      module _ (points : Points) (inputs : Planes) (funcs : Planes) where
-        run_by : (n : ℕ) (t : Bool) → nat_lt n (before split.of) ≡ t
-            → cond t (run points inputs body (with (counter split.of) n values) funcs) funcs
-            ≡ all (λ inner. run points inputs leaf (put_loops func inner values)) (cond t (list (loops.with split.of n (loops_of func values))) []) funcs
-        run_by n true e = runs_with leaf body list repeats split.of n (below n e) values are points inputs funcs
-        run_by n false e = refl
+      module _ (values : Values) (are : AreSmall (loops_of func values)) where
+        module _ (points : Points) (inputs : Planes) (funcs : Planes) where
+          run_by : (n : ℕ) (t : Bool) → nat_lt n (before split.of) ≡ t
+              → cond t (run points inputs body (with (counter split.of) n values) funcs) funcs
+              ≡ all (λ inner. run points inputs leaf (put_loops func inner values)) (cond t (list (loops.with split.of n (loops_of func values))) []) funcs
+          run_by n true e = runs_with leaf body list repeats split.of n (below n e) values are points inputs funcs
+          run_by n false e = refl
 
-        split_runs : run points inputs made values funcs ≡ all (λ inner. run points inputs leaf (put_loops func inner values)) (split_body before place split list (loops_of func values)) funcs
-        unfolding at
-        split_runs =
-            runs_is points inputs values funcs
-            ∙ ap (λ (v : ℕ). cond (nat_lt v extent) (run points inputs body (with (counter split.of) v values) funcs) funcs) (at_is values are)
-            ∙ ap (λ (e : ℕ). cond (nat_lt (at values) e) (run points inputs body (with (counter split.of) (at values) values) funcs) funcs) (sym is)
-            ∙ run_by (at values) (nat_lt (at values) (before split.of)) refl
+          split_runs : run points inputs made values funcs ≡ all (λ inner. run points inputs leaf (put_loops func inner values)) (split_body before place split
+              list (loops_of func values)) funcs
+          unfolding at
+          split_runs =
+              runs_is points inputs values funcs
+              ∙ ap (λ (v : ℕ). cond (nat_lt v extent) (run points inputs body (with (counter split.of) v values) funcs) funcs) (at_is values are)
+              ∙ ap (λ (e : ℕ). cond (nat_lt (at values) e) (run points inputs body (with (counter split.of) (at values) values) funcs) funcs) (sym is)
+              ∙ run_by (at values) (nat_lt (at values) (before split.of)) refl
 
-      module _ (points : Points) (inputs : Planes) (place_of x y : ℕ) (so_far : Trace) where
-        trace_by : (n : ℕ) (t : Bool) → nat_lt n (before split.of) ≡ t
-            → cond t (trace points inputs place_of x y body (with (counter split.of) n values) so_far) so_far
-            ≡ all (λ inner. trace points inputs place_of x y leaf (put_loops func inner values)) (cond t (list (loops.with split.of n (loops_of func values))) []) so_far
-        trace_by n true e = traces_with leaf body list repeats split.of n (below n e) values are points inputs place_of x y so_far
-        trace_by n false e = refl
+        module _ (points : Points) (inputs : Planes) (place_of x y : ℕ) (so_far : Trace) where
+          trace_by : (n : ℕ) (t : Bool) → nat_lt n (before split.of) ≡ t
+              → cond t (trace points inputs place_of x y body (with (counter split.of) n values) so_far) so_far
+              ≡ all (λ inner. trace points inputs place_of x y leaf (put_loops func inner values)) (cond t (list (loops.with split.of n (loops_of func values)))
+              []) so_far
+          trace_by n true e = traces_with leaf body list repeats split.of n (below n e) values are points inputs place_of x y so_far
+          trace_by n false e = refl
 
-        split_traces : trace points inputs place_of x y made values so_far ≡ all (λ inner. trace points inputs place_of x y leaf (put_loops func inner values)) (split_body before place split list (loops_of func values)) so_far
-        unfolding at
-        split_traces =
-            traces_is points inputs place_of x y values so_far
-            ∙ ap (λ (v : ℕ). cond (nat_lt v extent) (trace points inputs place_of x y body (with (counter split.of) v values) so_far) so_far) (at_is values are)
-            ∙ ap (λ (e : ℕ). cond (nat_lt (at values) e) (trace points inputs place_of x y body (with (counter split.of) (at values) values) so_far) so_far) (sym is)
-            ∙ trace_by (at values) (nat_lt (at values) (before split.of)) refl
+          split_traces : trace points inputs place_of x y made values so_far
+              ≡ all (λ inner. trace points inputs place_of x y leaf (put_loops func inner values))
+              (split_body before place split list (loops_of func values)) so_far
+          unfolding at
+          split_traces =
+              traces_is points inputs place_of x y values so_far
+              ∙ ap (λ (v : ℕ). cond (nat_lt v extent) (trace points inputs place_of x y body (with (counter split.of) v values) so_far) so_far)
+              (at_is values are)
+              ∙ ap (λ (e : ℕ). cond (nat_lt (at values) e) (trace points inputs place_of x y body (with (counter split.of) (at values) values) so_far) so_far)
+              (sym is)
+              ∙ trace_by (at values) (nat_lt (at values) (before split.of)) refl
 
-      module _ (reads : Reads) (written : Points) (loaded : Point → Bool) where
-        sound_by : (n : ℕ) (t : Bool) → nat_lt n (before split.of) ≡ t
-            → cond t (is_sound reads written loaded body (with (counter split.of) n values)) true
-            ≡ list_all (λ inner. is_sound reads written loaded leaf (put_loops func inner values)) (cond t (list (loops.with split.of n (loops_of func values))) [])
-        sound_by n true e = sound_with leaf body list repeats split.of n (below n e) values are reads written loaded
-        sound_by n false e = refl
+        module _ (reads : Reads) (written : Points) (loaded : Point → Bool) where
+          sound_by : (n : ℕ) (t : Bool) → nat_lt n (before split.of) ≡ t
+              → cond t (is_sound reads written loaded body (with (counter split.of) n values)) true
+              ≡ list_all (λ inner. is_sound reads written loaded leaf (put_loops func inner values))
+              (cond t (list (loops.with split.of n (loops_of func values)))
+              [])
+          sound_by n true e = sound_with leaf body list repeats split.of n (below n e) values are reads written loaded
+          sound_by n false e = refl
 
-        split_sound : is_sound reads written loaded made values ≡ list_all (λ inner. is_sound reads written loaded leaf (put_loops func inner values)) (split_body before place split list (loops_of func values))
-        unfolding at
-        split_sound =
-            sound_is reads written loaded values
-            ∙ ap (λ (v : ℕ). cond (nat_lt v extent) (is_sound reads written loaded body (with (counter split.of) v values)) true) (at_is values are)
-            ∙ ap (λ (e : ℕ). cond (nat_lt (at values) e) (is_sound reads written loaded body (with (counter split.of) (at values) values)) true) (sym is)
-            ∙ sound_by (at values) (nat_lt (at values) (before split.of)) refl
+          split_sound : is_sound reads written loaded made values ≡ list_all (λ inner. is_sound reads written loaded leaf (put_loops func inner values))
+              (split_body before place split list (loops_of func values))
+          unfolding at
+          split_sound =
+              sound_is reads written loaded values
+              ∙ ap (λ (v : ℕ). cond (nat_lt v extent) (is_sound reads written loaded body (with (counter split.of) v values)) true) (at_is values are)
+              ∙ ap (λ (e : ℕ). cond (nat_lt (at values) e) (is_sound reads written loaded body (with (counter split.of) (at values) values)) true) (sym is)
+              ∙ sound_by (at values) (nat_lt (at values) (before split.of)) refl
 
-    pub split_repeats : Repeats func made leaf (split_body before place split list)
-    split_repeats = record {
-      runs = λ points inputs values funcs are. split_runs values are points inputs funcs;
-      traces = λ points inputs place_of x y values so_far are. split_traces values are points inputs place_of x y so_far;
-      sound = λ reads written loaded values are. split_sound values are reads written loaded;
-    }
+      pub split_repeats : Repeats func made leaf (split_body before place split list)
+      split_repeats = record {
+        runs = λ points inputs values funcs are. split_runs values are points inputs funcs;
+        traces = λ points inputs place_of x y values so_far are. split_traces values are points inputs place_of x y so_far;
+        sound = λ reads written loaded values are. split_sound values are reads written loaded;
+      }

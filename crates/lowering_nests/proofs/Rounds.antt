@@ -1,5 +1,6 @@
 -- Loops and splits around bodies keep it that rounds may be done at once.
-use Rattle.std.proofs.Common.{◌≡◌, ℕ, zero, suc, ◌+◌, ◌-◌, ◌*◌, ◌<◌, ◌≤◌, ◌^◌, Bool, true, false, cond, List, [], ◌∷◌, ◌++◌, length, get_or, take, drop, refl, sym, ap, subst, ◌∙◌, arith, true≢false}
+use Rattle.std.proofs.Common.{◌≡◌, ℕ, zero, suc, ◌+◌, ◌-◌, ◌*◌, ◌<◌, ◌≤◌, ◌^◌, Bool, true, false, cond, List, [], ◌∷◌, ◌++◌, length, get_or, take, drop, refl}
+use Rattle.std.proofs.Common.{sym, ap, subst, ◌∙◌, arith, true≢false}
 use Rattle.std.specs.Prelude.{◌&&◌, ◌||◌, not, nat_le, nat_lt}
 use Rattle.std.proofs.lemmas.Bool.Decides.{nat_tests}
 use Rattle.std.proofs.Math.Nat.{mul-le-mul}
@@ -27,12 +28,14 @@ use Rattle.loop_ir.specs.declared.statements.Stmt.{Stmt}
 use Rattle.loop_ir.specs.declared.statements.Stmt.TheOpen as layer
 use Rattle.loop_ir.specs.declared.statements.Whole.{Whole}
 use Rattle.loop_ir.specs.Counters.{Values, same_counter, with}
-use Rattle.loop_ir.specs.Rounds.{Rounds, rounds, rounds_at, may_be_at_once, is_round_count, is_vectorized, everywhere, all_points, all_but, misses, are_apart, all_step_up}
+use Rattle.loop_ir.specs.Rounds.{Rounds, rounds, rounds_at, may_be_at_once, is_round_count, is_vectorized, everywhere, all_points, all_but, misses, are_apart}
+use Rattle.loop_ir.specs.Rounds.{all_step_up}
 use Rattle.loop_ir.specs.Running.{whole_value}
 use Rattle.loop_ir.specs.Soundness.{every, is_sound}
 use Rattle.loop_ir.proofs.Rounds.{touches_are}
 use Rattle.lowering_nests.specs.Nests.{loops_of, put_loops, AreSmall, Repeats}
-use Rattle.lowering_nests.specs.Rounds.{AllAreSmall, NeverFall, StepsUp, IsLeaf, MayBeAtOnce, LoadsNoneOf, MayBeVectorized, GoesAround, MayBeAround, StoreMayBeVectorized, MayBeUnder}
+use Rattle.lowering_nests.specs.Rounds.{AllAreSmall, NeverFall, StepsUp, IsLeaf, MayBeAtOnce, LoadsNoneOf, MayBeVectorized, GoesAround, MayBeAround}
+use Rattle.lowering_nests.specs.Rounds.{StoreMayBeVectorized, MayBeUnder}
 use Rattle.lowering_nests.proofs.Repeating.{loops_with, sound_with}
 
 -- ---- tests
@@ -57,7 +60,8 @@ small_with own n values few are counter = by_test (same_counter counter own)
     by_test false = are counter
 
 module _ (counts : loops.Values) where
-  turns_with : (id : LoopId) (n : ℕ) → n < counts id → (all : List Loop) (turns : loops.Values) → AreTurns counts all turns → AreTurns counts all (loops.with id n turns)
+  turns_with : (id : LoopId) (n : ℕ) → n < counts id → (all : List Loop) (turns : loops.Values) → AreTurns counts all turns
+      → AreTurns counts all (loops.with id n turns)
   turns_with id n below [] turns are = tt
   turns_with id n below (first ∷ others) turns are = (by_test (same_id first.id id) refl, turns_with id n below others turns are.1)
     where
@@ -65,14 +69,16 @@ module _ (counts : loops.Values) where
       by_test true e = subst (λ (i : LoopId). n < counts i) (sym (same_id-true first.id id e)) below
       by_test false e = are.0
 
-  pub turns_more : (own : Loop) (n : ℕ) → n < counts own.id → (outside : List Loop) (turns : loops.Values) → AreTurns counts outside turns → AreTurns counts (own ∷ outside) (loops.with own.id n turns)
+  pub turns_more : (own : Loop) (n : ℕ) → n < counts own.id → (outside : List Loop) (turns : loops.Values) → AreTurns counts outside turns
+      → AreTurns counts (own ∷ outside) (loops.with own.id n turns)
   turns_more own n below outside turns are =
       (subst (λ (b : Bool). cond b n (turns own.id) < counts own.id) (sym (same_id-self own.id)) below, turns_with own.id n below outside turns are)
 
 -- ---- loads of rounds
 
 touches_none : (reads : Reads) (body : Stmt) (earlier later : Values)
-    → (rounds reads body).touches everywhere (misses (rounds reads body) earlier) later ≡ is_sound reads everywhere (λ point. is_sound reads (all_but point) all_points body earlier) body later
+    → (rounds reads body).touches everywhere (misses (rounds reads body) earlier) later ≡ is_sound reads everywhere (λ point. is_sound reads (all_but point)
+    all_points body earlier) body later
 touches_none reads body earlier later =
     ap (λ (test : Point → Bool). (rounds reads body).touches everywhere test later)
     (fun_ext (λ (point : Point). ap (λ (own : Values → Bool). own earlier) (touches_are reads (all_but point) all_points body)))
@@ -80,12 +86,14 @@ touches_none reads body earlier later =
 
 -- ---- a loop
 
-module _ (func : ℕ) (counts : loops.Values) (own : Loop) (body made : Stmt) (kind : LoopKind) (kind_is : is_vectorized kind ≡ is_vectorized_loop own) (count : ℕ) (count_is : count ≡ counts own.id) (few : count < 2 ^ 25)
+module _ (func : ℕ) (counts : loops.Values) (own : Loop) (body made : Stmt) (kind : LoopKind) (kind_is : is_vectorized kind ≡ is_vectorized_loop own)
+    (count : ℕ) (count_is : count ≡ counts own.id) (few : count < 2 ^ 25)
     (made_is : (reads : Reads) → rounds reads made ≡ rounds_at reads (layer.For (record { func = func; id = own.id }) count kind (rounds reads body))) where
   abbrev at : Values → ℕ → Values
   at values turn = with (record { func = func; id = own.id }) turn values
 
-  module _ (outside : List Loop) (inside : MayBeAtOnce func counts (own ∷ outside) body) (fine : is_vectorized_loop own ≡ true → MayBeVectorized func counts own outside body)
+  module _ (outside : List Loop) (inside : MayBeAtOnce func counts (own ∷ outside) body) (fine : is_vectorized_loop own ≡ true
+      → MayBeVectorized func counts own outside body)
       (reads : Reads) (values : Values) (small : AllAreSmall values) (are : AreTurns counts outside (loops_of func values)) where
     turned : (turn : ℕ) → turn < count → may_be_at_once reads body (at values turn) ≡ true
     turned turn below =
@@ -112,7 +120,8 @@ module _ (func : ℕ) (counts : loops.Values) (own : Loop) (body made : Stmt) (k
 
     steps : MayBeVectorized func counts own outside body → all_step_up (rounds reads body) (at values) count ≡ true
     steps is = every_passes (count - 1) _ (λ turn below. is.steps_up reads (at values turn) (at values (turn + 1))
-        (small_with (record { func = func; id = own.id }) turn values (omega (arith, below, few)) small) (small_with (record { func = func; id = own.id }) (turn + 1) values (omega (arith, below, few)) small) (rounds_never_fall turn))
+        (small_with (record { func = func; id = own.id }) turn values (omega (arith, below, few)) small) (small_with (record { func = func; id = own.id })
+        (turn + 1) values (omega (arith, below, few)) small) (rounds_never_fall turn))
 
     first_is : (b : Bool) → is_vectorized_loop own ≡ b → first_part b ≡ true
     first_is false e = refl
@@ -120,7 +129,8 @@ module _ (func : ℕ) (counts : loops.Values) (own : Loop) (body made : Stmt) (k
         let is = fine e in
         let n : is_round_count count ≡ true = ap is_round_count count_is ∙ is.count in
         ap (λ (b : Bool). b && ((rounds reads body).is_one_store && at_once_part)) n
-        ∙ ap (λ (b : Bool). b && at_once_part) (is.once reads) ∙ ap (λ (b : Bool). b && all_step_up (rounds reads body) (at values) count) (is_apart is) ∙ steps is
+        ∙ ap (λ (b : Bool). b && at_once_part) (is.once reads) ∙ ap (λ (b : Bool). b && all_step_up (rounds reads body) (at values) count) (is_apart is)
+        ∙ steps is
 
     looped : may_be_at_once reads made values ≡ true
     looped =
@@ -136,12 +146,14 @@ module _ (func : ℕ) (counts : loops.Values) (own : Loop) (body made : Stmt) (k
 
 pub goes_around_more : (func : ℕ) (counts : loops.Values) (all : List Loop) (own : Loop) (made inner body : Stmt) → 1 ≤ length all → own ≡ get_or all 0 own
     → GoesAround func counts own body inner
-    → ((outside : List Loop) → MayBeAtOnce func counts (take (length all - 1) (drop 1 all) ++ outside) inner → MayBeAround func counts (take (length all - 1) (drop 1 all)) outside inner → MayBeAtOnce func counts outside made)
+    → ((outside : List Loop) → MayBeAtOnce func counts (take (length all - 1) (drop 1 all) ++ outside) inner
+    → MayBeAround func counts (take (length all - 1) (drop 1 all)) outside inner → MayBeAtOnce func counts outside made)
     → (outside : List Loop) → MayBeAtOnce func counts (all ++ outside) body → MayBeAround func counts all outside body → MayBeAtOnce func counts outside made
 goes_around_more func counts all own made inner body some is once others outside inside fine =
     let rest = take (length all - 1) (drop 1 all) in
     let front : own ∷ rest ≡ all = ap (λ (o : Loop). o ∷ rest) is ∙ sym (first_of_rest all own some) in
-    let here : MayBeAtOnce func counts (own ∷ (rest ++ outside)) body = subst (λ (ls : List Loop). MayBeAtOnce func counts (ls ++ outside) body) (sym front) inside in
+    let here : MayBeAtOnce func counts (own ∷ (rest ++ outside)) body = subst (λ (ls : List Loop). MayBeAtOnce func counts (ls ++ outside) body) (sym front)
+    inside in
     let known : MayBeAround func counts (own ∷ rest) outside body = subst (λ (ls : List Loop). MayBeAround func counts ls outside body) (sym front) fine in
     others outside (once (rest ++ outside) here known.0) (not_vectorized rest known.1)
   where
@@ -167,7 +179,8 @@ is_below a b t = grind (arith, nat_tests)
 
 module _ (counter : Counter) (whole : Whole) (extent : ℕ) (body made : Stmt)
     (made_is : (reads : Reads) → rounds reads made ≡ rounds_at reads (layer.Bind counter whole extent (rounds reads body)))
-    (few : extent < 2 ^ 25) (rises : (now next : Values) → AllAreSmall now → AllAreSmall next → NeverFall now next → whole_value whole now ≤ whole_value whole next) where
+    (few : extent < 2 ^ 25) (rises : (now next : Values) → AllAreSmall now → AllAreSmall next → NeverFall now next
+    → whole_value whole now ≤ whole_value whole next) where
   never_fall_with : (a b : ℕ) (now next : Values) → a ≤ b → NeverFall now next → NeverFall (with counter a now) (with counter b next)
   never_fall_with a b now next l never other = by_test (same_counter other counter)
     where
@@ -176,21 +189,26 @@ module _ (counter : Counter) (whole : Whole) (extent : ℕ) (body made : Stmt)
       by_test false = never other
 
   steps_bound : StepsUp body → StepsUp made
-  steps_bound steps reads now next small_now small_next never = ap (λ (r : Rounds). r.steps_up now next) (made_is reads) ∙ by_test (nat_lt (whole_value whole next) extent) refl
+  steps_bound steps reads now next small_now small_next never = ap (λ (r : Rounds). r.steps_up now next) (made_is reads)
+      ∙ by_test (nat_lt (whole_value whole next) extent) refl
     where
       up : whole_value whole now ≤ whole_value whole next
       up = rises now next small_now small_next never
 
-      inner : whole_value whole next < extent → (rounds reads body).steps_up (with counter (whole_value whole now) now) (with counter (whole_value whole next) next) ≡ true
+      inner : whole_value whole next < extent → (rounds reads body).steps_up (with counter (whole_value whole now) now) (with counter (whole_value whole next)
+          next) ≡ true
       inner below =
           steps reads (with counter (whole_value whole now) now) (with counter (whole_value whole next) next)
-          (small_with counter (whole_value whole now) now (omega (arith, up, below, few)) small_now) (small_with counter (whole_value whole next) next (omega (arith, below, few)) small_next)
+          (small_with counter (whole_value whole now) now (omega (arith, up, below, few)) small_now) (small_with counter (whole_value whole next) next
+          (omega (arith, below, few)) small_next)
           (never_fall_with (whole_value whole now) (whole_value whole next) now next up never)
 
       by_test : (t : Bool) → nat_lt (whole_value whole next) extent ≡ t
-          → cond t (nat_le (whole_value whole now) (whole_value whole next) && (rounds reads body).steps_up (with counter (whole_value whole now) now) (with counter (whole_value whole next) next)) true ≡ true
+          → cond t (nat_le (whole_value whole now) (whole_value whole next) && (rounds reads body).steps_up (with counter (whole_value whole now) now)
+          (with counter (whole_value whole next) next)) true ≡ true
       by_test true e =
-          ap (λ (b : Bool). b && (rounds reads body).steps_up (with counter (whole_value whole now) now) (with counter (whole_value whole next) next)) (is_at_most (whole_value whole now) (whole_value whole next) up)
+          ap (λ (b : Bool). b && (rounds reads body).steps_up (with counter (whole_value whole now) now) (with counter (whole_value whole next) next))
+          (is_at_most (whole_value whole now) (whole_value whole next) up)
           ∙ inner (is_below (whole_value whole next) extent e)
       by_test false e = refl
 
@@ -202,10 +220,12 @@ module _ (counter : Counter) (whole : Whole) (extent : ℕ) (body made : Stmt)
     steps_up = steps_bound leaf.steps_up;
     at_once = λ reads values.
         ap (λ (r : Rounds). r.may_be_at_once values) (made_is reads)
-        ∙ by_test (nat_lt (whole_value whole values) extent) (may_be_at_once reads body (with counter (whole_value whole values) values)) (leaf.at_once reads (with counter (whole_value whole values) values));
+        ∙ by_test (nat_lt (whole_value whole values) extent) (may_be_at_once reads body (with counter (whole_value whole values) values))
+        (leaf.at_once reads (with counter (whole_value whole values) values));
     touches = λ reads values.
         sound_is reads values
-        ∙ by_test (nat_lt (whole_value whole values) extent) (is_sound reads everywhere all_points body (with counter (whole_value whole values) values)) (leaf.touches reads (with counter (whole_value whole values) values));
+        ∙ by_test (nat_lt (whole_value whole values) extent) (is_sound reads everywhere all_points body (with counter (whole_value whole values) values))
+        (leaf.touches reads (with counter (whole_value whole values) values));
   }
     where
       by_test : (test b : Bool) → b ≡ true → cond test b true ≡ true
@@ -230,10 +250,12 @@ data IsFew {A : Type 0} : List A → Type 0 where
   Nothing : IsFew []
   One : (x : A) → IsFew (x ∷ [])
 
-few_bodies : {A : Type 0} (counts : loops.Values) (place : ℕ) (splits : List Split) (body : loops.Values → List A) → ((values : loops.Values) → IsFew (body values)) → (values : loops.Values) → IsFew (split_bodies counts place splits body values)
+few_bodies : {A : Type 0} (counts : loops.Values) (place : ℕ) (splits : List Split) (body : loops.Values → List A) → ((values : loops.Values)
+    → IsFew (body values)) → (values : loops.Values) → IsFew (split_bodies counts place splits body values)
 few_bodies counts place [] body few values = few values
 few_bodies {A} counts place (split ∷ others) body few values =
-    few_bodies (loops.more_counts counts place split) (suc place) others (split_body counts place split body) (λ at. by_test at (nat_lt (whole_of counts place split at) (counts split.of))) values
+    few_bodies (loops.more_counts counts place split) (suc place) others (split_body counts place split body)
+    (λ at. by_test at (nat_lt (whole_of counts place split at) (counts split.of))) values
   where
     by_test : (at : loops.Values) (test : Bool) → IsFew (cond test (body (loops.with split.of (whole_of counts place split at) at)) [])
     by_test at true = few (loops.with split.of (whole_of counts place split at) at)
@@ -242,8 +264,10 @@ few_bodies {A} counts place (split ∷ others) body few values =
 few_wholes : (extents : Extents) (splits : List Split) (values : loops.Values) → IsFew (wholes extents splits [] values)
 few_wholes extents splits values = few_bodies (loops.whole_counts extents) 0 splits (λ whole. whole ∷ []) (λ whole. One whole) values
 
-module _ (func : ℕ) (extents : Extents) (splits : List Split) (body leaf : Stmt) (repeats : Repeats func body leaf (wholes extents splits [])) (leaf_is : IsLeaf leaf) where
-  module _ (own : Loop) (outside : List Loop) (few : loops.counts extents splits own.id < 2 ^ 25) (store : StoreMayBeVectorized func extents splits own outside leaf)
+module _ (func : ℕ) (extents : Extents) (splits : List Split) (body leaf : Stmt) (repeats : Repeats func body leaf (wholes extents splits []))
+    (leaf_is : IsLeaf leaf) where
+  module _ (own : Loop) (outside : List Loop) (few : loops.counts extents splits own.id < 2 ^ 25) (store : StoreMayBeVectorized func extents splits own outside
+      leaf)
       (reads : Reads) (values : Values) (small : AllAreSmall values) (are : AreTurns (loops.counts extents splits) outside (loops_of func values))
       (earlier later : ℕ) (before : earlier < later) (below : later < loops.counts extents splits own.id) where
     abbrev listed : ℕ → List loops.Values
@@ -257,21 +281,27 @@ module _ (func : ℕ) (extents : Extents) (splits : List Split) (body leaf : Stm
 
     by_lists : (first second : List loops.Values) → IsFew first → IsFew second → listed earlier ≡ first → listed later ≡ second → loads_none first second ≡ true
     by_lists _ _ few_first Nothing e f = refl
-    by_lists _ _ Nothing (One other) e f = and_true (is_sound reads everywhere all_points leaf (put_loops func other values)) ∙ leaf_is.touches reads (put_loops func other values)
+    by_lists _ _ Nothing (One other) e f = and_true (is_sound reads everywhere all_points leaf (put_loops func other values))
+        ∙ leaf_is.touches reads (put_loops func other values)
     by_lists _ _ (One one) (One other) e f =
         and_true (is_sound reads everywhere (misses_in (one ∷ [])) leaf (put_loops func other values))
-        ∙ ap (λ (test : Point → Bool). is_sound reads everywhere test leaf (put_loops func other values)) (fun_ext (λ (point : Point). and_true (is_sound reads (all_but point) all_points leaf (put_loops func one values))))
+        ∙ ap (λ (test : Point → Bool). is_sound reads everywhere test leaf (put_loops func other values))
+        (fun_ext (λ (point : Point). and_true (is_sound reads (all_but point) all_points leaf (put_loops func one values))))
         ∙ store.apart reads values small are earlier later before below one other e f
 
     body_apart : LoadsNoneOf reads body (with (record { func = func; id = own.id }) earlier values) (with (record { func = func; id = own.id }) later values)
     body_apart =
         let counted : AreSmall (loops_of func values) = λ id. small (record { func = func; id = id }) in
         ap (λ (test : Point → Bool). is_sound reads everywhere test body (with (record { func = func; id = own.id }) later values))
-        (fun_ext (λ (point : Point). sound_with func leaf body (wholes extents splits []) repeats own.id earlier (omega (arith, before, below, few)) values counted reads (all_but point) all_points))
-        ∙ sound_with func leaf body (wholes extents splits []) repeats own.id later (omega (arith, below, few)) values counted reads everywhere (misses_in (listed earlier))
-        ∙ by_lists (listed earlier) (listed later) (few_wholes extents splits (loops.with own.id earlier (loops_of func values))) (few_wholes extents splits (loops.with own.id later (loops_of func values))) refl refl
+        (fun_ext (λ (point : Point). sound_with func leaf body (wholes extents splits []) repeats own.id earlier (omega (arith, before, below, few)) values
+        counted reads (all_but point) all_points))
+        ∙ sound_with func leaf body (wholes extents splits []) repeats own.id later (omega (arith, below, few)) values counted reads everywhere
+        (misses_in (listed earlier))
+        ∙ by_lists (listed earlier) (listed later) (few_wholes extents splits (loops.with own.id earlier (loops_of func values))) (few_wholes extents splits
+        (loops.with own.id later (loops_of func values))) refl refl
 
-  pub may_be_vectorized : (own : Loop) (outside : List Loop) → loops.counts extents splits own.id < 2 ^ 25 → ((reads : Reads) → (rounds reads body).is_one_store ≡ true) → StepsUp body
+  pub may_be_vectorized : (own : Loop) (outside : List Loop) → loops.counts extents splits own.id < 2 ^ 25
+      → ((reads : Reads) → (rounds reads body).is_one_store ≡ true) → StepsUp body
       → StoreMayBeVectorized func extents splits own outside leaf → MayBeVectorized func (loops.counts extents splits) own outside body
   may_be_vectorized own outside few once steps store = record {
     count = store.count;
@@ -280,13 +310,19 @@ module _ (func : ℕ) (extents : Extents) (splits : List Split) (body leaf : Stm
     apart = λ reads values small are earlier later before below. body_apart own outside few store reads values small are earlier later before below;
   }
 
-pub nest_at_once : (func : ℕ) (extents : Extents) (splits : List Split) (inside : List Loop) (made inner leaf : Stmt) → ((id : LoopId) → loops.counts extents splits id < 2 ^ 25)
+pub nest_at_once : (func : ℕ) (extents : Extents) (splits : List Split) (inside : List Loop) (made inner leaf : Stmt)
+    → ((id : LoopId) → loops.counts extents splits id < 2 ^ 25)
     → Repeats func inner leaf (wholes extents splits []) → IsLeaf leaf → IsLeaf inner
-    → ((outside : List Loop) → MayBeAtOnce func (loops.counts extents splits) (inside ++ outside) inner → MayBeAround func (loops.counts extents splits) inside outside inner → MayBeAtOnce func (loops.counts extents splits) outside made)
+    → ((outside : List Loop) → MayBeAtOnce func (loops.counts extents splits) (inside ++ outside) inner
+    → MayBeAround func (loops.counts extents splits) inside outside inner → MayBeAtOnce func (loops.counts extents splits) outside made)
     → (outside : List Loop) → MayBeUnder func extents splits inside outside leaf → MayBeAtOnce func (loops.counts extents splits) outside made
 nest_at_once func extents splits inside made inner leaf few repeats leaf_is inner_is around outside under =
     around outside (λ reads values small are. inner_is.at_once reads values) (known inside under)
   where
     known : (ls : List Loop) → MayBeUnder func extents splits ls outside leaf → MayBeAround func (loops.counts extents splits) ls outside inner
     known [] is = tt
-    known (own ∷ others) is = (λ e. may_be_vectorized func extents splits inner leaf repeats leaf_is own (others ++ outside) (few own.id) (λ reads. inner_is.once reads) inner_is.steps_up (is.0 e), is.1)
+    known (own ∷ others) is = (
+      λ e. may_be_vectorized func extents splits inner leaf repeats leaf_is own (others ++ outside) (few own.id)
+          (λ reads. inner_is.once reads) inner_is.steps_up (is.0 e),
+      is.1,
+    )

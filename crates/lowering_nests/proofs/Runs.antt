@@ -18,24 +18,28 @@ use Rattle.loop_ir.proofs.Runs.{misses_are}
 use Rattle.schedule_loops.specs.Runs.{is_vectorized_loop}
 use Rattle.lowering_nests.specs.Runs.{RunsAround}
 
-module _ (func : ℕ) (counts : loops.Values) (own : Loop) (body made : Stmt) (kind : LoopKind) (kind_is : is_vectorized kind ≡ is_vectorized_loop own) (count : ℕ) (count_is : count ≡ counts own.id) where
+module _ (func : ℕ) (counts : loops.Values) (own : Loop) (body made : Stmt) (kind : LoopKind) (kind_is : is_vectorized kind ≡ is_vectorized_loop own)
+    (count : ℕ) (count_is : count ≡ counts own.id) where
   abbrev counter : Counter
   counter = record { func = func; id = own.id }
 
   abbrev at : Values → ℕ → Values
   at values turn = with counter turn values
 
-  pub loop_about : ((place : ℕ) → is_about place made ≡ is_about_at place (layer.For counter count kind (is_about place body))) → is_about func made ≡ is_about func body
+  pub loop_about : ((place : ℕ) → is_about place made ≡ is_about_at place (layer.For counter count kind (is_about place body)))
+      → is_about func made ≡ is_about func body
   loop_about is = is func ∙ ap (λ (b : Bool). b && is_about func body) (eq-eqb func func refl)
 
-  module _ (made_is : (reads : Reads) (place x y : ℕ) (expected : Values → Bool) → runs reads place x y expected made ≡ runs_at reads place x y expected (layer.For counter count kind (runs reads place x y expected body)))
+  module _ (made_is : (reads : Reads) (place x y : ℕ) (expected : Values → Bool) → runs reads place x y expected made ≡ runs_at reads place x y expected
+      (layer.For counter count kind (runs reads place x y expected body)))
       (reads : Reads) (x y : ℕ) (expected : Values → Bool) (values : Values) where
     abbrev inner : Runs
     inner = runs reads func x y expected body
 
     abbrev by_kind : Bool → Bool → ℕ → Bool
     by_kind vectorized same n =
-        cond (vectorized && same) (are_same (every n (λ round. inner.misses (at values round))) (not (expected values))) (every n (λ turn. inner.are_runs (at values turn)))
+        cond (vectorized && same) (are_same (every n (λ round. inner.misses (at values round))) (not (expected values)))
+        (every n (λ turn. inner.are_runs (at values turn)))
 
     told : (b : Bool) → is_vectorized_loop own ≡ b → stores_in_runs reads func x y expected made values ≡ by_kind b true (counts own.id)
     told b e =
@@ -44,12 +48,16 @@ module _ (func : ℕ) (counts : loops.Values) (own : Loop) (body made : Stmt) (k
         ∙ ap (λ (v : Bool). by_kind b v count) (eq-eqb func func refl)
         ∙ ap (λ (n : ℕ). by_kind b true n) count_is
 
-    missed : every (counts own.id) (λ round. inner.misses (at values round)) ≡ every (counts own.id) (λ round. is_sound reads (all_but (point_of func x y)) all_points body (at values round))
-    missed = ap (every (counts own.id)) (fun_ext (λ (round : ℕ). ap (λ (test : Values → Bool). test (at values round)) (misses_are reads func x y expected body)))
+    missed : every (counts own.id) (λ round. inner.misses (at values round)) ≡ every (counts own.id) (λ round. is_sound reads (all_but (point_of func x y))
+        all_points body (at values round))
+    missed = ap (every (counts own.id)) (fun_ext (λ (round : ℕ). ap (λ (test : Values → Bool). test (at values round)) (misses_are reads func x y expected
+        body)))
 
-  pub loop_runs : ((reads : Reads) (place x y : ℕ) (expected : Values → Bool) → runs reads place x y expected made ≡ runs_at reads place x y expected (layer.For counter count kind (runs reads place x y expected body)))
+  pub loop_runs : ((reads : Reads) (place x y : ℕ) (expected : Values → Bool) → runs reads place x y expected made ≡ runs_at reads place x y expected
+      (layer.For counter count kind (runs reads place x y expected body)))
       → RunsAround func counts own body made
   loop_runs made_is = record {
     plain = λ e reads x y expected values. told made_is reads x y expected values false e;
-    vector = λ e reads x y expected values. told made_is reads x y expected values true e ∙ ap (λ (b : Bool). are_same b (not (expected values))) (missed made_is reads x y expected values);
+    vector = λ e reads x y expected values. told made_is reads x y expected values true e
+        ∙ ap (λ (b : Bool). are_same b (not (expected values))) (missed made_is reads x y expected values);
   }

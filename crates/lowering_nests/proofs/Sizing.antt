@@ -15,7 +15,8 @@ module _ (counts : loops.Values) where
   once_size own kind kind_is count count_is made body is =
       is ∙ ap (λ (b : Bool). loop_room b count body) kind_is ∙ ap (λ (n : ℕ). loop_room (is_marked marks.Unrolled own) n body) count_is
 
-  pub nested_size : (all : List Loop) (own : Loop) (made inner body : ℕ) → 1 ≤ length all → own ≡ get_or all 0 own → inner ≡ loop_room (is_marked marks.Unrolled own) (counts own.id) body
+  pub nested_size : (all : List Loop) (own : Loop) (made inner body : ℕ) → 1 ≤ length all → own ≡ get_or all 0 own
+      → inner ≡ loop_room (is_marked marks.Unrolled own) (counts own.id) body
       → made ≡ nest_size counts (take (length all - 1) (drop 1 all)) inner → made ≡ nest_size counts all body
   nested_size all own made inner body some is once others =
       let rest = take (length all - 1) (drop 1 all) in

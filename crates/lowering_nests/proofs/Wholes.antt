@@ -23,7 +23,9 @@ guarded outer inner factor few small factor_small =
     let m = product_below outer factor few factor_small in
     ap (λ (n : ℕ). word.add n inner) (product_is outer factor few factor_small) ∙ sum_is (outer * factor) inner m (omega (arith, small))
 
-pub shifted : (outer inner factor last : ℕ) → outer < 2 ^ 25 → inner < 2 ^ 25 → factor ≤ 64 → word.add (min (word.multiply outer factor) last) inner ≡ min (outer * factor) last + inner
+pub shifted : (outer inner factor last : ℕ) → outer < 2 ^ 25 → inner < 2 ^ 25 → factor ≤ 64 → word.add (min (word.multiply outer factor) last) inner
+    ≡ min (outer * factor) last + inner
 shifted outer inner factor last few small factor_small =
     let m = product_below outer factor few factor_small in
-    ap (λ (n : ℕ). word.add (min n last) inner) (product_is outer factor few factor_small) ∙ sum_is (min (outer * factor) last) inner (omega (arith, m)) (omega (arith, small))
+    ap (λ (n : ℕ). word.add (min n last) inner) (product_is outer factor few factor_small) ∙ sum_is (min (outer * factor) last) inner (omega (arith, m))
+    (omega (arith, small))

@@ -43,9 +43,11 @@ pub record Repeats (func : ℕ) (made body : Stmt) (list : loops.Values → List
   pub runs : (points : Points) (inputs : Planes) (values : Values) (funcs : Planes) → AreSmall (loops_of func values)
       → run points inputs made values funcs ≡ all (λ inner. run points inputs body (put_loops func inner values)) (list (loops_of func values)) funcs
   pub traces : (points : Points) (inputs : Planes) (place x y : ℕ) (values : Values) (so_far : Trace) → AreSmall (loops_of func values)
-      → trace points inputs place x y made values so_far ≡ all (λ inner. trace points inputs place x y body (put_loops func inner values)) (list (loops_of func values)) so_far
+      → trace points inputs place x y made values so_far ≡ all (λ inner. trace points inputs place x y body (put_loops func inner values))
+      (list (loops_of func values)) so_far
   pub sound : (reads : Reads) (written : Points) (loaded : Point → Bool) (values : Values) → AreSmall (loops_of func values)
-      → is_sound reads written loaded made values ≡ list_all (λ inner. is_sound reads written loaded body (put_loops func inner values)) (list (loops_of func values))
+      → is_sound reads written loaded made values ≡ list_all (λ inner. is_sound reads written loaded body (put_loops func inner values))
+      (list (loops_of func values))
 
 -- A statement repeats itself under the one value that its loops stand at.
 abbrev pub StatementsRepeatThemselves : Type 0

@@ -66,7 +66,8 @@ GoesAround func counts own body made =
 abbrev pub MayBeAround : ℕ → loops.Values → List Loop → List Loop → Stmt → Type 0
 MayBeAround func counts [] outside body = Unit {0}
 MayBeAround func counts (own ∷ others) outside body =
-    (is_vectorized_loop own ≡ true → MayBeVectorized func counts own (others ++ outside) body) × AllByRecursion (λ other. is_vectorized_loop other ≡ false) others
+    (is_vectorized_loop own ≡ true → MayBeVectorized func counts own (others ++ outside) body) × AllByRecursion (λ other. is_vectorized_loop other ≡ false)
+    others
 
 -- ---- splits
 
@@ -89,4 +90,5 @@ pub record StoreMayBeVectorized (func : ℕ) (extents : Extents) (splits : List 
 abbrev pub MayBeUnder : ℕ → Extents → List Split → List Loop → List Loop → Stmt → Type 0
 MayBeUnder func extents splits [] outside leaf = Unit {0}
 MayBeUnder func extents splits (own ∷ others) outside leaf =
-    (is_vectorized_loop own ≡ true → StoreMayBeVectorized func extents splits own (others ++ outside) leaf) × AllByRecursion (λ other. is_vectorized_loop other ≡ false) others
+    (is_vectorized_loop own ≡ true → StoreMayBeVectorized func extents splits own (others ++ outside) leaf) × AllByRecursion (λ other. is_vectorized_loop other
+    ≡ false) others

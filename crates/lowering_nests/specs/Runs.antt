@@ -15,7 +15,9 @@ use Rattle.schedule_loops.specs.Runs.{is_vectorized_loop}
 -- exactly if some round stores there.
 pub record RunsAround (func : ℕ) (counts : loops.Values) (own : Loop) (body made : Stmt) : Type 0 where
   pub plain : is_vectorized_loop own ≡ false → (reads : Reads) (x y : ℕ) (expected : Values → Bool) (values : Values)
-      → stores_in_runs reads func x y expected made values ≡ every (counts own.id) (λ turn. stores_in_runs reads func x y expected body (with (record { func = func; id = own.id }) turn values))
+      → stores_in_runs reads func x y expected made values ≡ every (counts own.id) (λ turn. stores_in_runs reads func x y expected body
+      (with (record { func = func; id = own.id }) turn values))
   pub vector : is_vectorized_loop own ≡ true → (reads : Reads) (x y : ℕ) (expected : Values → Bool) (values : Values)
       → stores_in_runs reads func x y expected made values
-      ≡ are_same (every (counts own.id) (λ round. is_sound reads (all_but (point_of func x y)) all_points body (with (record { func = func; id = own.id }) round values))) (not (expected values))
+      ≡ are_same (every (counts own.id) (λ round. is_sound reads (all_but (point_of func x y)) all_points body (with (record { func = func; id = own.id }) round
+      values))) (not (expected values))

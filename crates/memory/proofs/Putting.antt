@@ -17,10 +17,13 @@ same-cond : {A : Type 0} (t : Bool) (x y z : A) → (t ≡ false → y ≡ z) �
 same-cond true x y z h = refl
 same-cond false x y z h = h refl
 
-put-other : (memory : List ℕ) (place byte x : ℕ) → data_start ≤ x → x ≢ place → get_or (put_byte memory place byte) (x - data_start) 0 ≡ get_or memory (x - data_start) 0
+put-other : (memory : List ℕ) (place byte x : ℕ) → data_start ≤ x → x ≢ place → get_or (put_byte memory place byte) (x - data_start) 0
+    ≡ get_or memory (x - data_start) 0
 put-other memory place byte x low other =
-    cond_both (nat_lt place data_start) memory (set memory (place - data_start) byte) (λ m. get_or m (x - data_start) 0 ≡ get_or memory (x - data_start) 0) (λ _. refl)
-    (λ e. let above = ltb-false place data_start e in let apart : x - data_start ≢ place - data_start = (λ q. other (omega arith)) in get_or-set_other memory (place - data_start) (x - data_start) byte 0 apart)
+    cond_both (nat_lt place data_start) memory (set memory (place - data_start) byte) (λ m. get_or m (x - data_start) 0 ≡ get_or memory (x - data_start) 0)
+    (λ _. refl)
+    (λ e. let above = ltb-false place data_start e in let apart : x - data_start ≢ place - data_start = (λ q. other (omega arith)) in
+    get_or-set_other memory (place - data_start) (x - data_start) byte 0 apart)
 
 pub byte-put_byte : (text memory : List ℕ) (place byte x : ℕ) → x ≢ place → byte_at text (put_byte memory place byte) x ≡ byte_at text memory x
 byte-put_byte text memory place byte x other = same-cond (nat_lt x data_start) _ _ _ (λ e. put-other memory place byte x (ltb-false x data_start e) other)
@@ -28,19 +31,25 @@ byte-put_byte text memory place byte x other = same-cond (nat_lt x data_start) _
 pub byte-put : (text memory places bytes : List ℕ) (x : ℕ) → NotIn x places → byte_at text (put memory places bytes) x ≡ byte_at text memory x
 byte-put text memory [] bytes x h = refl
 byte-put text memory (place ∷ places) [] x h = refl
-byte-put text memory (place ∷ places) (byte ∷ bytes) x h = byte-put text (put_byte memory place byte) places bytes x h.1 ∙ byte-put_byte text memory place byte x h.0
+byte-put text memory (place ∷ places) (byte ∷ bytes) x h = byte-put text (put_byte memory place byte) places bytes x h.1
+    ∙ byte-put_byte text memory place byte x h.0
 
-set_apart : (memory : List ℕ) (p b q c : ℕ) → data_start ≤ p → data_start ≤ q → p ≢ q → set (set memory (p - data_start) b) (q - data_start) c ≡ set (set memory (q - data_start) c) (p - data_start) b
-set_apart memory p b q c hp hq other = let apart : p - data_start ≢ q - data_start = (λ e. other (omega arith)) in set_comm memory (p - data_start) (q - data_start) b c apart
+set_apart : (memory : List ℕ) (p b q c : ℕ) → data_start ≤ p → data_start ≤ q → p ≢ q → set (set memory (p - data_start) b) (q - data_start) c
+    ≡ set (set memory (q - data_start) c) (p - data_start) b
+set_apart memory p b q c hp hq other = let apart : p - data_start ≢ q - data_start = (λ e. other (omega arith)) in set_comm memory (p - data_start)
+    (q - data_start) b c apart
 
-put_byte-two : (s t : Bool) (memory : List ℕ) (p b q c : ℕ) → (s ≡ false → data_start ≤ p) → (t ≡ false → data_start ≤ q) → p ≢ q → cond t (cond s memory (set memory (p - data_start) b)) (set (cond s memory (set memory (p - data_start) b)) (q - data_start) c) ≡ cond s (cond t memory (set memory (q - data_start) c)) (set (cond t memory (set memory (q - data_start) c)) (p - data_start) b)
+put_byte-two : (s t : Bool) (memory : List ℕ) (p b q c : ℕ) → (s ≡ false → data_start ≤ p) → (t ≡ false → data_start ≤ q) → p ≢ q
+    → cond t (cond s memory (set memory (p - data_start) b)) (set (cond s memory (set memory (p - data_start) b)) (q - data_start) c)
+    ≡ cond s (cond t memory (set memory (q - data_start) c)) (set (cond t memory (set memory (q - data_start) c)) (p - data_start) b)
 put_byte-two true true memory p b q c hp hq other = refl
 put_byte-two true false memory p b q c hp hq other = refl
 put_byte-two false true memory p b q c hp hq other = refl
 put_byte-two false false memory p b q c hp hq other = set_apart memory p b q c (hp refl) (hq refl) other
 
 put_byte-comm : (memory : List ℕ) (p b q c : ℕ) → p ≢ q → put_byte (put_byte memory p b) q c ≡ put_byte (put_byte memory q c) p b
-put_byte-comm memory p b q c other = put_byte-two (nat_lt p data_start) (nat_lt q data_start) memory p b q c (ltb-false p data_start) (ltb-false q data_start) other
+put_byte-comm memory p b q c other = put_byte-two (nat_lt p data_start) (nat_lt q data_start) memory p b q c (ltb-false p data_start) (ltb-false q data_start)
+    other
 
 pub put-past : (memory : List ℕ) (p b : ℕ) (qs cs : List ℕ) → NotIn p qs → put (put_byte memory p b) qs cs ≡ put_byte (put memory qs cs) p b
 put-past memory p b [] cs h = refl

@@ -52,4 +52,5 @@ number-bytes Word n (suc (suc (suc (suc i)))) = omega arith
 pub spread-bytes : (accesses : List Access) (numbers : List ℕ) → AreBytes (spread accesses numbers)
 spread-bytes [] numbers = none-bytes
 spread-bytes (access ∷ accesses) [] = none-bytes
-spread-bytes (access ∷ accesses) (n ∷ numbers) = append-bytes (bytes_of access.size n) (spread accesses numbers) (number-bytes access.size n) (spread-bytes accesses numbers)
+spread-bytes (access ∷ accesses) (n ∷ numbers) = append-bytes (bytes_of access.size n) (spread accesses numbers) (number-bytes access.size n)
+    (spread-bytes accesses numbers)

@@ -3,7 +3,8 @@
 -- RISC-V Unprivileged ISA 20191213, section 2.6 "Load and Store Instructions" and 8.4 "Atomic Memory
 -- Operations". That accesses must be aligned, which trap comes first, that text may be loaded and not written, and the numbers of the
 -- traps are this project's own.
-use Rattle.std.specs.Prelude.{ℕ, ◌+◌, ◌%◌, ◌==◌, if◌then◌else◌, List, [], ◌∷◌, ◌++◌, map, Option, Some, None, ◌≢◌, ◌<◌, ◌-◌, ◌*◌, ◌/◌, ◌^◌, ◌&&◌, ◌||◌, Bool, nat_lt, nat_le, slice_index, slice_get, slice_set}
+use Rattle.std.specs.Prelude.{ℕ, ◌+◌, ◌%◌, ◌==◌, if◌then◌else◌, List, [], ◌∷◌, ◌++◌, map, Option, Some, None, ◌≢◌, ◌<◌, ◌-◌, ◌*◌, ◌/◌, ◌^◌, ◌&&◌, ◌||◌, Bool}
+use Rattle.std.specs.Prelude.{nat_lt, nat_le, slice_index, slice_get, slice_set}
 use Rattle.std.specs.Int.{w8, w16, w32, from_le_bytes, to_le_bytes}
 use Rattle.rv_insn.specs.declared.outcomes.Trap.{Trap}
 use Rattle.rv_insn.specs.declared.outcomes.Trap.TheVariants.{LoadMisaligned, LoadOutside, StoreMisaligned, StoreOutside}

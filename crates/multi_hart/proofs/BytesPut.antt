@@ -1,5 +1,6 @@
 -- Bytes that are put one behind the other.
-use Rattle.std.proofs.Common.{◌≡◌, ℕ, ◌+◌, ◌-◌, ◌<◌, ◌≤◌, List, length, get_or, set, Bool, true, false, refl, ap, sym, ◌∙◌, arith, length-set, get_or-set_other, inl, inr}
+use Rattle.std.proofs.Common.{◌≡◌, ℕ, ◌+◌, ◌-◌, ◌<◌, ◌≤◌, List, length, get_or, set, Bool, true, false, refl, ap, sym, ◌∙◌, arith, length-set, get_or-set_other}
+use Rattle.std.proofs.Common.{inl, inr}
 use Rattle.std.specs.Prelude.{◌≢◌, nat_lt, cond, slice_index}
 use Rattle.std.proofs.lemmas.List.{get_or-set_same}
 use Rattle.std.proofs.lemmas.Bool.{ltb-false, ltb-true, cond_both, cases_lt}
@@ -19,7 +20,8 @@ pub record PutSoFar (old bytes memory : List ℕ) (at i : ℕ) : Type 0 where
   pub before : (k : ℕ) → k < at → slice_index memory k ≡ slice_index old k
   pub behind : (k : ℕ) → at + i ≤ k → slice_index memory k ≡ slice_index old k
 
-pub put-more : (old bytes memory : List ℕ) (at i byte : ℕ) → at + i < length old → byte ≡ slice_index bytes i → PutSoFar old bytes memory at i → PutSoFar old bytes (set memory (at + i) byte) at (i + 1)
+pub put-more : (old bytes memory : List ℕ) (at i byte : ℕ) → at + i < length old → byte ≡ slice_index bytes i → PutSoFar old bytes memory at i
+    → PutSoFar old bytes (set memory (at + i) byte) at (i + 1)
 put-more old bytes memory at i byte within is so_far = record {
   as_many = length-set memory (at + i) byte ∙ so_far.as_many;
   inside = λ k below. elim (cases_lt k i) [

@@ -19,17 +19,21 @@ agree-parts : (f g : ℕ → ℕ) (places others : List ℕ) → Agree f g (plac
 agree-parts f g [] others same = (tt, same)
 agree-parts f g (place ∷ places) others same = let rest = agree-parts f g places others same.1 in ((same.0, rest.0), rest.1)
 
-numbers-agree : (text memory memory' : List ℕ) (all : List Access) → Agree (byte_at text memory) (byte_at text memory') (touched all) → map (number_at text memory) all ≡ map (number_at text memory') all
+numbers-agree : (text memory memory' : List ℕ) (all : List Access) → Agree (byte_at text memory) (byte_at text memory') (touched all)
+    → map (number_at text memory) all ≡ map (number_at text memory') all
 numbers-agree text memory memory' [] same = refl
 numbers-agree text memory memory' (access ∷ all) same =
     let parts = agree-parts (byte_at text memory) (byte_at text memory') (places_of access) (touched all) same in
-    let one : number_at text memory access ≡ number_at text memory' access = ap (number_of access.size) (map-agree (byte_at text memory) (byte_at text memory') (places_of access) parts.0) in
+    let one : number_at text memory access ≡ number_at text memory' access = ap (number_of access.size) (map-agree (byte_at text memory) (byte_at text memory')
+    (places_of access) parts.0) in
     ap (λ n. n ∷ map (number_at text memory) all) one ∙ ap (λ ns. number_at text memory' access ∷ ns) (numbers-agree text memory memory' all parts.1)
 
-made-frame : (text memory memory' : List ℕ) (hart : HartState) (next : Next) → Agree (byte_at text memory) (byte_at text memory') (reads next hart) → made text memory hart next ≡ made text memory' hart next
+made-frame : (text memory memory' : List ℕ) (hart : HartState) (next : Next) → Agree (byte_at text memory) (byte_at text memory') (reads next hart)
+    → made text memory hart next ≡ made text memory' hart next
 made-frame text memory memory' hart Rests same = refl
 made-frame text memory memory' hart (Traps trap) same = refl
-made-frame text memory memory' hart (Does insn) same = ap (done hart insn) (numbers-agree text memory memory' (read_by (kind_of insn) (accesses insn hart)) same)
+made-frame text memory memory' hart (Does insn) same = ap (done hart insn) (numbers-agree text memory memory' (read_by (kind_of insn) (accesses insn hart))
+    same)
 
 pub frame : Frame
 frame text memory memory' hart e same =
@@ -39,7 +43,9 @@ pub agree-within : (rule : ℕ → Type 0) (f g : ℕ → ℕ) (places : List �
 agree-within rule f g [] same all = tt
 agree-within rule f g (place ∷ places) same all = (same place all.0, agree-within rule f g places same all.1)
 
-pub frame-by : (rule : ℕ → Type 0) (text memory memory' : List ℕ) (hart : HartState) → length memory ≡ length memory' → ((place : ℕ) → rule place → byte_at text memory place ≡ byte_at text memory' place) → Within rule (reads (next_of text (length memory) hart) hart) → effect text memory hart ≡ effect text memory' hart
+pub frame-by : (rule : ℕ → Type 0) (text memory memory' : List ℕ) (hart : HartState) → length memory ≡ length memory' → ((place : ℕ) → rule place
+    → byte_at text memory place ≡ byte_at text memory' place) → Within rule (reads (next_of text (length memory) hart) hart)
+    → effect text memory hart ≡ effect text memory' hart
 frame-by rule text memory memory' hart e same all =
     frame text memory memory' hart e (agree-within rule _ _ _ same all)
 
@@ -86,14 +92,19 @@ others-stay state hart other apart = go (slice_get state.harts hart)
     go (Some one) = slice_get-set_other state.harts hart other _ apart
 
 -- the second of two turns finds the same bytes
-second : (state : State) (g h : HartState) → Apart (reads (next_of state.text (length state.memory) h) h) (writes (next_of state.text (length state.memory) g) g) → effect state.text (step state.text state.memory g).memory h ≡ effect state.text state.memory h
+second : (state : State) (g h : HartState) → Apart (reads (next_of state.text (length state.memory) h) h) (writes (next_of state.text (length state.memory) g)
+    g) → effect state.text (step state.text state.memory g).memory h ≡ effect state.text state.memory h
 second state g h free =
     let e = effect state.text state.memory g in
     let free' = subst (λ ps. Apart (reads (next_of state.text (length state.memory) h) h) ps) (sym (places-are state.text state.memory g)) free in
-    sym (frame state.text state.memory (put state.memory e.places e.bytes) h (sym (length-put state.memory e.places e.bytes)) (agree-put state.text state.memory e.places e.bytes _ free'))
+    sym (frame state.text state.memory (put state.memory e.places e.bytes) h (sym (length-put state.memory e.places e.bytes)) (agree-put state.text state.memory
+    e.places e.bytes _ free'))
 
 -- two turns, where both harts are there
-two : (state : State) (a b : ℕ) (g h : HartState) → a ≢ b → slice_get state.harts a ≡ Some g → slice_get state.harts b ≡ Some h → Apart (reads (next_of state.text (length state.memory) h) h) (writes (next_of state.text (length state.memory) g) g) → turn (turn state a) b ≡ put_back (put_back state a (step state.text state.memory g)) b (applied (step state.text state.memory g).memory (effect state.text state.memory h))
+two : (state : State) (a b : ℕ) (g h : HartState) → a ≢ b → slice_get state.harts a ≡ Some g → slice_get state.harts b ≡ Some h
+    → Apart (reads (next_of state.text (length state.memory) h) h) (writes (next_of state.text (length state.memory) g) g)
+    → turn (turn state a) b ≡ put_back (put_back state a (step state.text state.memory g)) b (applied (step state.text state.memory g).memory
+    (effect state.text state.memory h))
 two state a b g h other ea eb free =
     let s1 = put_back state a (step state.text state.memory g) in
     let e1 : turn state a ≡ s1 = ap (turned state a) ea in
@@ -105,8 +116,11 @@ commute state a b g h other ea eb free =
     let e = effect state.text state.memory g in
     let f = effect state.text state.memory h in
     let n = length state.memory in
-    let w : Apart e.places f.places = subst (λ ps. Apart ps f.places) (sym (places-are state.text state.memory g)) (subst (λ qs. Apart (writes (next_of state.text n g) g) qs) (sym (places-are state.text state.memory h)) free.both_write) in
+    let w : Apart e.places f.places = subst (λ ps. Apart ps f.places) (sym (places-are state.text state.memory g))
+    (subst (λ qs. Apart (writes (next_of state.text n g) g) qs) (sym (places-are state.text state.memory h)) free.both_write) in
     two state a b g h other ea eb free.second_reads
-    ∙ ap (λ m. put_back (put_back state a (step state.text state.memory g)) b (record { hart = f.hart; memory = m; outcome = f.outcome })) (put-comm state.memory e.places e.bytes f.places f.bytes w)
-    ∙ ap (λ hs. record { text = state.text; memory = put (put state.memory f.places f.bytes) e.places e.bytes; harts = hs }) (set_comm state.harts a b e.hart f.hart other)
+    ∙ ap (λ m. put_back (put_back state a (step state.text state.memory g)) b (record { hart = f.hart; memory = m; outcome = f.outcome }))
+    (put-comm state.memory e.places e.bytes f.places f.bytes w)
+    ∙ ap (λ hs. record { text = state.text; memory = put (put state.memory f.places f.bytes) e.places e.bytes; harts = hs }) (set_comm state.harts a b e.hart
+    f.hart other)
     ∙ sym (two state b a h g (λ q. other (sym q)) eb ea free.first_reads)

@@ -17,7 +17,12 @@ resting Finished next halted = refl
 resting (Trapped trap) next halted = refl
 
 -- what such a turn is
-step-resting : (text memory : List ℕ) (hart : HartState) → hart.status ≢ Running → step text memory hart ≡ record { hart = hart; memory = memory; outcome = Idle }
+step-resting : (text memory : List ℕ) (hart : HartState) → hart.status ≢ Running → step text memory hart ≡ record {
+  hart = hart;
+  memory = memory;
+  outcome =
+      Idle;
+}
 step-resting text memory hart halted = ap (λ n. applied memory (made text memory hart n)) (resting hart.status _ halted)
 
 pub there : (state : State) (hart : ℕ) → hart < length state.harts → slice_get state.harts hart ≡ Some (hart_at state hart)
@@ -25,7 +30,8 @@ there state hart below = slice_get-get_or state.harts hart (opening_hart 0 0 0) 
 
 pub turn-resting : (state : State) (hart : ℕ) → hart < length state.harts → (hart_at state hart).status ≢ Running → turn state hart ≡ state
 turn-resting state hart below halted =
-    ap (turned state hart) (there state hart below) ∙ ap (put_back state hart) (step-resting state.text state.memory (hart_at state hart) halted) ∙ ap (λ hs. record { text = state.text; memory = state.memory; harts = hs }) (set-get_or state.harts hart (opening_hart 0 0 0))
+    ap (turned state hart) (there state hart below) ∙ ap (put_back state hart) (step-resting state.text state.memory (hart_at state hart) halted)
+    ∙ ap (λ hs. record { text = state.text; memory = state.memory; harts = hs }) (set-get_or state.harts hart (opening_hart 0 0 0))
 
 pub outcome-resting : (state : State) (hart : ℕ) → hart < length state.harts → (hart_at state hart).status ≢ Running → outcome state hart ≡ Idle
 outcome-resting state hart below halted =
@@ -43,10 +49,12 @@ run-staying state hart zero stays = refl
 run-staying state hart (suc turns) stays = ap (λ s. run s (replicate turns hart)) stays ∙ run-staying state hart turns stays
 
 -- from the place where a turn changes nothing, all further ones lead to one state
-pub run-stayed : (state : State) (hart made turns : ℕ) → made ≤ turns → turn (run state (replicate made hart)) hart ≡ run state (replicate made hart) → run state (replicate turns hart) ≡ run state (replicate made hart)
+pub run-stayed : (state : State) (hart made turns : ℕ) → made ≤ turns → turn (run state (replicate made hart)) hart ≡ run state (replicate made hart)
+    → run state (replicate turns hart) ≡ run state (replicate made hart)
 run-stayed state hart made turns within stays =
     let parts : turns ≡ made + (turns - made) = omega arith in
-    let split : run state (replicate turns hart) ≡ run state (replicate made hart ++ replicate (turns - made) hart) = ap (λ n. run state (replicate n hart)) parts ∙ ap (run state) (sym (replicate-append-replicate made (turns - made) hart)) in
+    let split : run state (replicate turns hart) ≡ run state (replicate made hart ++ replicate (turns - made) hart) = ap (λ n. run state (replicate n hart))
+    parts ∙ ap (run state) (sym (replicate-append-replicate made (turns - made) hart)) in
     split ∙ run-append state (replicate made hart) (replicate (turns - made) hart) ∙ run-staying (run state (replicate made hart)) hart (turns - made) stays
 
 -- one turn more of the same hart

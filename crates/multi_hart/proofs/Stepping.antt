@@ -1,12 +1,14 @@
 -- A turn of a hart that runs steps exactly where the hart goes on running.
-use Rattle.std.proofs.Common.{◌≡◌, ◌≢◌, ◌⊎◌, ℕ, ◌+◌, ◌-◌, ◌<◌, ◌≤◌, Bool, true, false, List, length, replicate, arith, Option, Some, None, inl, inr, ⊎_elim, sym, refl, ap, ◌∙◌, subst, true≢false}
+use Rattle.std.proofs.Common.{◌≡◌, ◌≢◌, ◌⊎◌, ℕ, ◌+◌, ◌-◌, ◌<◌, ◌≤◌, Bool, true, false, List, length, replicate, arith, Option, Some, None, inl, inr, ⊎_elim}
+use Rattle.std.proofs.Common.{sym, refl, ap, ◌∙◌, subst, true≢false}
 use Rattle.std.proofs.lemmas.List.{get_or-set_same}
 use Rattle.rv_insn.specs.declared.outcomes.Outcome.{Outcome}
 use Rattle.rv_insn.specs.declared.outcomes.Outcome.TheVariants.{Stepped, Finished, Trapped, Idle}
 use Rattle.rv_insn.specs.declared.outcomes.Trap.{Trap}
 use Rattle.rv_insn.specs.declared.outcomes.Trap.TheVariants.{IllegalInstruction, FetchOutside}
 use Rattle.rv_insn.specs.declared.instructions.Insn.{Insn}
-use Rattle.rv_insn.specs.declared.instructions.Insn.TheVariants.{Lui, Auipc, Jal, Jalr, Branch, Load, Store, AluImm, Shift, Alu, AmoaddW, Fence, Ecall, Ebreak, Vector}
+use Rattle.rv_insn.specs.declared.instructions.Insn.TheVariants.{Lui, Auipc, Jal, Jalr, Branch, Load, Store, AluImm, Shift, Alu, AmoaddW, Fence, Ecall, Ebreak}
+use Rattle.rv_insn.specs.declared.instructions.Insn.TheVariants.{Vector}
 use Rattle.rv_insn.specs.declared.vector_instructions.VectorInsn.{VectorInsn}
 use Rattle.rv_insn.specs.declared.vector_instructions.VectorInsn.TheVariants as v
 use Rattle.rv_encoding.specs.Decoding.{decoded}
@@ -102,36 +104,47 @@ module _ (text memory : List ℕ) (hart : HartState) (runs : hart.status ≡ Run
   traps : (trap : Trap) → Went (made text memory hart (Traps trap)).outcome (made text memory hart (Traps trap)).hart.status
   traps trap = stops (Trapped trap) (HasTrapped trap) refl refl
 
-  judged-went : (insn : Insn) (found : Option Trap) → Went (made text memory hart (judged insn found)).outcome (made text memory hart (judged insn found)).hart.status
+  judged-went : (insn : Insn) (found : Option Trap)
+      → Went (made text memory hart (judged insn found)).outcome (made text memory hart (judged insn found)).hart.status
   judged-went insn None = does insn hart _ runs
   judged-went insn (Some trap) = traps trap
 
-  meant-went : (words bytes : ℕ) (insn : Option Insn) → Went (made text memory hart (meant words bytes hart insn)).outcome (made text memory hart (meant words bytes hart insn)).hart.status
+  meant-went : (words bytes : ℕ) (insn : Option Insn)
+      → Went (made text memory hart (meant words bytes hart insn)).outcome (made text memory hart (meant words bytes hart insn)).hart.status
   meant-went words bytes None = traps IllegalInstruction
   meant-went words bytes (Some insn) = judged-went insn _
 
-  due-went : (words bytes : ℕ) (word : Option ℕ) → Went (made text memory hart (due words bytes hart word)).outcome (made text memory hart (due words bytes hart word)).hart.status
+  due-went : (words bytes : ℕ) (word : Option ℕ)
+      → Went (made text memory hart (due words bytes hart word)).outcome (made text memory hart (due words bytes hart word)).hart.status
   due-went words bytes None = traps FetchOutside
   due-went words bytes (Some word) = meant-went words bytes (decoded word)
 
   step-went : Went (step text memory hart).outcome (step text memory hart).hart.status
-  step-went = subst (λ next. Went (made text memory hart next).outcome (made text memory hart next).hart.status) (sym (ap (λ status. if_running status (due (length text) (length memory) hart (fetched text hart.pc))) runs)) (due-went (length text) (length memory) (fetched text hart.pc))
+  step-went = subst (λ next. Went (made text memory hart next).outcome (made text memory hart next).hart.status)
+      (sym (ap (λ status. if_running status (due (length text) (length memory) hart (fetched text hart.pc))) runs)) (due-went (length text) (length memory)
+      (fetched text hart.pc))
 
-turn-went : (state : State) (hart : ℕ) → hart < length state.harts → (hart_at state hart).status ≡ Running → Went (outcome state hart) (hart_at (turn state hart) hart).status
+turn-went : (state : State) (hart : ℕ) → hart < length state.harts → (hart_at state hart).status ≡ Running
+    → Went (outcome state hart) (hart_at (turn state hart) hart).status
 turn-went state hart below runs =
     let one = hart_at state hart in
-    let after_turn : hart_at (turn state hart) hart ≡ (step state.text state.memory one).hart = ap (λ s. hart_at s hart) (ap (turned state hart) (there state hart below)) ∙ get_or-set_same state.harts hart (step state.text state.memory one).hart (opening_hart 0 0 0) below in
+    let after_turn : hart_at (turn state hart) hart ≡ (step state.text state.memory one).hart = ap (λ s. hart_at s hart)
+    (ap (turned state hart) (there state hart below)) ∙ get_or-set_same state.harts hart (step state.text state.memory one).hart (opening_hart 0 0 0) below
+    in
     let told_turn : outcome state hart ≡ (step state.text state.memory one).outcome = ap (told state) (there state hart below) in
-    subst (λ o. Went o (hart_at (turn state hart) hart).status) (sym told_turn) (subst (λ h. Went (step state.text state.memory one).outcome h.status) (sym after_turn) (step-went state.text state.memory one runs))
+    subst (λ o. Went o (hart_at (turn state hart) hart).status) (sym told_turn) (subst (λ h. Went (step state.text state.memory one).outcome h.status)
+    (sym after_turn) (step-went state.text state.memory one runs))
 
-pub runs-after : (state : State) (hart : ℕ) → hart < length state.harts → (hart_at state hart).status ≡ Running → outcome state hart ≡ Stepped → (hart_at (turn state hart) hart).status ≡ Running
+pub runs-after : (state : State) (hart : ℕ) → hart < length state.harts → (hart_at state hart).status ≡ Running → outcome state hart ≡ Stepped
+    → (hart_at (turn state hart) hart).status ≡ Running
 runs-after state hart below runs stepped =
     ⊎_elim
     (λ (on : (outcome state hart ≡ Stepped) × ((hart_at (turn state hart) hart).status ≡ Running)). on.1)
     (λ (off : (outcome state hart ≢ Stepped) × ((hart_at (turn state hart) hart).status ≢ Running)). absurd (off.0 stepped))
     (turn-went state hart below runs)
 
-pub halts-after : (state : State) (hart : ℕ) → hart < length state.harts → (hart_at state hart).status ≡ Running → outcome state hart ≢ Stepped → (hart_at (turn state hart) hart).status ≢ Running
+pub halts-after : (state : State) (hart : ℕ) → hart < length state.harts → (hart_at state hart).status ≡ Running → outcome state hart ≢ Stepped
+    → (hart_at (turn state hart) hart).status ≢ Running
 halts-after state hart below runs ended =
     ⊎_elim
     (λ (on : (outcome state hart ≡ Stepped) × ((hart_at (turn state hart) hart).status ≡ Running)). absurd (ended on.0))
@@ -139,7 +152,8 @@ halts-after state hart below runs ended =
     (turn-went state hart below runs)
 
 -- behind a turn that doesn't step the hart doesn't run
-halted-after : (state : State) (hart : ℕ) → hart < length state.harts → outcome state hart ≢ Stepped → (status : Status) → (hart_at state hart).status ≡ status → (hart_at (turn state hart) hart).status ≢ Running
+halted-after : (state : State) (hart : ℕ) → hart < length state.harts → outcome state hart ≢ Stepped → (status : Status) → (hart_at state hart).status ≡ status
+    → (hart_at (turn state hart) hart).status ≢ Running
 halted-after state hart below ended Running is = halts-after state hart below is ended
 halted-after state hart below ended HasFinished is =
     let rests : (hart_at state hart).status ≢ Running = λ e. true≢false (sym (ap runs-on e) ∙ ap runs-on is) in
@@ -176,4 +190,5 @@ module _ (state : State) (hart made turns : ℕ) (below : hart < length state.ha
   stretched = sym (run-stayed state hart made turns (omega (arith, fewer)) stays)
 
   pub idles : Idle ≡ outcome (run state (replicate (turns - 1) hart)) hart
-  idles = sym (ap (λ s. outcome s hart) (run-stayed state hart made (turns - 1) (omega (arith, fewer)) stays) ∙ outcome-resting next hart (there-then made) rests)
+  idles = sym (ap (λ s. outcome s hart) (run-stayed state hart made (turns - 1) (omega (arith, fewer)) stays)
+      ∙ outcome-resting next hart (there-then made) rests)

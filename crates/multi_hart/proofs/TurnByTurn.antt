@@ -1,5 +1,6 @@
 -- Runs, one turn longer.
-use Rattle.std.proofs.Common.{◌≡◌, ℕ, zero, suc, arith, length-append, ◌+◌, ◌<◌, List, [], ◌∷◌, ◌++◌, length, take, get_or, Option, Some, None, ap, ◌∙◌, length-set, refl}
+use Rattle.std.proofs.Common.{◌≡◌, ℕ, zero, suc, arith, length-append, ◌+◌, ◌<◌, List, [], ◌∷◌, ◌++◌, length, take, get_or, Option, Some, None, ap, ◌∙◌}
+use Rattle.std.proofs.Common.{length-set, refl}
 use Rattle.std.specs.Prelude.{slice_get}
 use Rattle.std.proofs.lemmas.List.{take_more}
 use Rattle.hart_core.specs.HartState.{HartState}

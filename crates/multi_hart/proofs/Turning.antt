@@ -1,5 +1,6 @@
 -- A number of 32 bits, turned to the right by two: its two low bits come to be the highest.
-use Rattle.std.proofs.Common.{◌≡◌, ℕ, ◌+◌, ◌*◌, ◌/◌, ◌%◌, ◌^◌, ◌<◌, ◌≤◌, ◌-◌, ◌||◌, bit_or, nat_lt, if◌then◌else◌, Bool, true, false, List, length, Option, Some, None, option_map, Bor, refl, sym, ap, ◌∙◌, arith}
+use Rattle.std.proofs.Common.{◌≡◌, ℕ, ◌+◌, ◌*◌, ◌/◌, ◌%◌, ◌^◌, ◌<◌, ◌≤◌, ◌-◌, ◌||◌, bit_or, nat_lt, if◌then◌else◌, Bool, true, false, List, length, Option}
+use Rattle.std.proofs.Common.{Some, None, option_map, Bor, refl, sym, ap, ◌∙◌, arith}
 use Rattle.std.specs.Prelude.{slice_get}
 use Rattle.std.specs.Slice.{IsItemAt}
 use Rattle.std.proofs.lemmas.Nat.{or_comm, or_shifted}
@@ -24,16 +25,19 @@ before pc offset far below = omega (arith, far below)
 between : (pc offset : ℕ) → (text_start ≤ pc → offset ≡ pc - text_start) → text_start ≤ pc → 0 < pc % 4 → most_words ≤ offset % 4 * 2 ^ 30 + offset / 4
 between pc offset near above odd = omega (arith, near above, odd)
 
-at_word : (pc offset : ℕ) → (text_start ≤ pc → offset ≡ pc - text_start) → text_start ≤ pc → pc % 4 ≤ 0 → (pc - text_start) / 4 ≡ offset % 4 * 2 ^ 30 + offset / 4
+at_word : (pc offset : ℕ) → (text_start ≤ pc → offset ≡ pc - text_start) → text_start ≤ pc → pc % 4 ≤ 0
+    → (pc - text_start) / 4 ≡ offset % 4 * 2 ^ 30 + offset / 4
 at_word pc offset near above even = omega (arith, near above, even)
 
-pub fetched-turned : (text : List ℕ) (pc offset : ℕ) → length text ≤ most_words → (text_start ≤ pc → offset ≡ pc - text_start) → (pc < text_start → 4 * most_words ≤ offset) → slice_get text (offset % 4 * 2 ^ 30 + offset / 4) ≡ fetched text pc
+pub fetched-turned : (text : List ℕ) (pc offset : ℕ) → length text ≤ most_words → (text_start ≤ pc → offset ≡ pc - text_start)
+    → (pc < text_start → 4 * most_words ≤ offset) → slice_get text (offset % 4 * 2 ^ 30 + offset / 4) ≡ fetched text pc
 fetched-turned text pc offset fits near far = go (nat_lt pc text_start) (nat_lt 0 (pc % 4)) refl refl
   where
     place : ℕ
     place = offset % 4 * 2 ^ 30 + offset / 4
 
-    go : (a b : Bool) → nat_lt pc text_start ≡ a → nat_lt 0 (pc % 4) ≡ b → slice_get text place ≡ (if a || b then None else slice_get text ((pc - text_start) / 4))
+    go : (a b : Bool) → nat_lt pc text_start ≡ a → nat_lt 0 (pc % 4) ≡ b
+        → slice_get text place ≡ (if a || b then None else slice_get text ((pc - text_start) / 4))
     go true b ea eb = slice_get_past text place (omega (arith, fits, before pc offset far (ltb-true _ _ ea)))
     go false true ea eb = slice_get_past text place (omega (arith, fits, between pc offset near (ltb-false _ _ ea) (ltb-true _ _ eb)))
     go false false ea eb = ap (slice_get text) (sym (at_word pc offset near (ltb-false _ _ ea) (ltb-false _ _ eb)))

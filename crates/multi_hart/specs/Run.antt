@@ -1,7 +1,8 @@
 -- The whole machine, its state at the start, one turn of a named hart, and runs of turns: one event is one
 -- whole instruction of one named hart, and events come one after the other; what a turn depends on and changes, and turns that
 -- don't conflict. This project's own.
-use Rattle.std.specs.Prelude.{◌≡◌, ℕ, zero, suc, List, [], ◌∷◌, ◌++◌, length, slice_get, slice_set, slice_index_or, Option, Some, None, Bool, ◌≢◌, ◌==◌, true, false, if◌then◌else◌}
+use Rattle.std.specs.Prelude.{◌≡◌, ℕ, zero, suc, List, [], ◌∷◌, ◌++◌, length, slice_get, slice_set, slice_index_or, Option, Some, None, Bool, ◌≢◌, ◌==◌, true}
+use Rattle.std.specs.Prelude.{false, if◌then◌else◌}
 use Rattle.std.specs.List.{list_all}
 use Rattle.rv_insn.specs.declared.outcomes.Outcome.{Outcome}
 use Rattle.rv_insn.specs.declared.outcomes.Outcome.TheVariants.{Idle}

@@ -1,5 +1,6 @@
 -- A vector row that loads bytes, one behind the other, into one register.
-use Rattle.std.proofs.Common.{◌≡◌, ℕ, zero, suc, ◌+◌, ◌*◌, ◌%◌, ◌^◌, ◌<◌, ◌≤◌, List, [], ◌∷◌, ◌++◌, length, get_or, None, Some, Bool, true, false, refl, ap, ◌∙◌, sym, subst, arith, inl, inr, length-set, get_or-set_same, get_or-set_other}
+use Rattle.std.proofs.Common.{◌≡◌, ℕ, zero, suc, ◌+◌, ◌*◌, ◌%◌, ◌^◌, ◌<◌, ◌≤◌, List, [], ◌∷◌, ◌++◌, length, get_or, None, Some, Bool, true, false, refl, ap}
+use Rattle.std.proofs.Common.{◌∙◌, sym, subst, arith, inl, inr, length-set, get_or-set_same, get_or-set_other}
 use Rattle.std.specs.Prelude.{◌⊎◌, ◌≢◌, ◌/◌, ◌==◌, ◌||◌, ◌&&◌, not, cond, map, replicate, take, drop, slice_index_or, slice_set, if◌then◌else◌, nat_lt}
 use Rattle.std.proofs.Math.Nat.{mod-eq_of_lt}
 use Rattle.std.proofs.lemmas.Bool.{cases_eq, cases_lt}
@@ -86,16 +87,19 @@ filled-more state to d i k x there long l r =
       long = r.long;
       new = λ q lo hi. elim (cases_eq q i) [
         | inl e ↦
-            r.old q (inl (omega (arith, e))) ∙ ap (λ z. get_or z q 0) here ∙ ap (λ j. get_or put j 0) e ∙ get_or-set_same (bytes_in state d) i (x i % 256) 0 (omega (arith, long, l))
+            r.old q (inl (omega (arith, e))) ∙ ap (λ z. get_or z q 0) here ∙ ap (λ j. get_or put j 0) e
+            ∙ get_or-set_same (bytes_in state d) i (x i % 256) 0 (omega (arith, long, l))
             ∙ ap (λ j. x j % 256) (sym e)
         | inr n ↦ r.new q (omega (arith, lo, n)) (omega (arith, hi))
       ];
       old = λ q o.
           let n : q ≢ i = λ e. elim o [ inl a ↦ omega (arith, e, a) | inr a ↦ omega (arith, e, a) ] in
-          r.old q (elim o [ inl a ↦ inl (omega (arith, a)) | inr a ↦ inr (omega (arith, a)) ]) ∙ ap (λ z. get_or z q 0) here ∙ get_or-set_other (bytes_in state d) i q (x i % 256) 0 n;
+          r.old q (elim o [ inl a ↦ inl (omega (arith, a)) | inr a ↦ inr (omega (arith, a)) ]) ∙ ap (λ z. get_or z q 0) here
+          ∙ get_or-set_other (bytes_in state d) i q (x i % 256) 0 n;
     }
 
-filled : (d i k : ℕ) (state : Vectors) (flags : List Bool) (x : ℕ → ℕ) → d < length state.registers → length (bytes_in state d) ≡ 16 → i + k ≤ 16 → k ≤ length flags
+filled : (d i k : ℕ) (state : Vectors) (flags : List Bool) (x : ℕ → ℕ) → d < length state.registers → length (bytes_in state d) ≡ 16 → i + k ≤ 16
+    → k ≤ length flags
     → ((j : ℕ) → j < k → get_or flags j false ≡ true) → ((j : ℕ) → k ≤ j → get_or flags j false ≡ false)
     → Filled state (filled_from i state 8 d flags (firsts i k x)) d i k x
 filled d i zero state flags x there long fits enough on off =
@@ -111,7 +115,8 @@ filled d i (suc k) state (true ∷ flags) x there long fits enough on off =
     subst (λ s. Filled state (filled_from (i + 1) s 8 d flags (firsts (suc i) k x)) d i (suc k) x) (sym (one-put state d i (x i) there long l))
     (subst (λ j. Filled state (filled_from j next 8 d flags (firsts (suc i) k x)) d i (suc k) x) e
     (filled-more state (filled_from (suc i) next 8 d flags (firsts (suc i) k x)) d i k x there long l
-    (filled d (suc i) k next flags x (let q = length-set state.registers d put in omega (arith, q, there)) (ap length (index-same state.registers d put [] there) ∙ length-set (bytes_in state d) i (x i % 256) ∙ long)
+    (filled d (suc i) k next flags x (let q = length-set state.registers d put in omega (arith, q, there))
+    (ap length (index-same state.registers d put [] there) ∙ length-set (bytes_in state d) i (x i % 256) ∙ long)
     (omega (arith, fits)) (omega (arith, enough)) (λ j a. on (suc j) (omega (arith, a))) (λ j a. off (suc j) (omega (arith, a))))))
 
 -- ---- bytes and lanes
@@ -128,7 +133,8 @@ module _ (b0 b1 b2 b3 b4 b5 b6 b7 b8 b9 b10 b11 b12 b13 b14 b15 : ℕ) where
   sixteen-lane (suc (suc (suc (suc j)))) l = absurd (omega (arith, l))
 
 pub lane-of : (xs : List ℕ) (j : ℕ) → length xs ≡ 16 → j < 4 → element 32 xs j ≡ of_bytes (λ k. get_or xs (4 * j + k) 0)
-lane-of xs j e l = sixteen (λ z. element 32 z j ≡ of_bytes (λ k. get_or z (4 * j + k) 0)) xs e (λ b0 b1 b2 b3 b4 b5 b6 b7 b8 b9 b10 b11 b12 b13 b14 b15. sixteen-lane b0 b1 b2 b3 b4 b5 b6 b7 b8 b9 b10 b11 b12 b13 b14 b15 j l)
+lane-of xs j e l = sixteen (λ z. element 32 z j ≡ of_bytes (λ k. get_or z (4 * j + k) 0)) xs e (λ b0 b1 b2 b3 b4 b5 b6 b7 b8 b9 b10 b11 b12 b13 b14 b15.
+    sixteen-lane b0 b1 b2 b3 b4 b5 b6 b7 b8 b9 b10 b11 b12 b13 b14 b15 j l)
 
 spelled-same : (p q : ℕ → ℕ) → ((k : ℕ) → k < 4 → p k ≡ q k) → of_bytes p ≡ of_bytes q
 spelled-same p q e =
@@ -142,7 +148,8 @@ byte-spelled : (b : ℕ → ℕ) → ((k : ℕ) → k < 4 → b k < 256) → (k 
 byte-spelled b small zero l = let p = small 0 l in omega (arith, p)
 byte-spelled b small (suc zero) l = let o = small 0 (omega arith) in let p = small 1 l in omega (arith, o, p)
 byte-spelled b small (suc (suc zero)) l = let n = small 0 (omega arith) in let o = small 1 (omega arith) in let p = small 2 l in omega (arith, n, o, p)
-byte-spelled b small (suc (suc (suc zero))) l = let m = small 0 (omega arith) in let n = small 1 (omega arith) in let o = small 2 (omega arith) in let p = small 3 l in omega (arith, m, n, o, p)
+byte-spelled b small (suc (suc (suc zero))) l = let m = small 0 (omega arith) in let n = small 1 (omega arith) in let o = small 2 (omega arith) in let p =
+    small 3 l in omega (arith, m, n, o, p)
 byte-spelled b small (suc (suc (suc (suc k)))) l = absurd (omega (arith, l))
 
 if-below : (k n a b : ℕ) → k < n → (if nat_lt k n then a else b) ≡ a
@@ -156,7 +163,8 @@ byte-low n = omega arith
 
 -- ---- a hart of which some bytes were written
 
-module _ (at : ℕ) (f : ℕ → ℕ) (h : HartState) (d n : ℕ) (x : ℕ → ℕ) (a : At at f h) (low : 1 ≤ d) (high : d < 32) (to : Vectors) (t : Filled (vectors_of h) to d 0 n x) where
+module _ (at : ℕ) (f : ℕ → ℕ) (h : HartState) (d n : ℕ) (x : ℕ → ℕ) (a : At at f h) (low : 1 ≤ d) (high : d < 32) (to : Vectors) (t : Filled (vectors_of h) to d
+    0 n x) where
   abbrev new : ℕ → ℕ
   new k = x k % 256
 
@@ -167,7 +175,8 @@ module _ (at : ℕ) (f : ℕ → ℕ) (h : HartState) (d n : ℕ) (x : ℕ → �
   byte-at q l = elim (cases_lt q n) [
     | inl s ↦ t.new q (omega arith) (omega (arith, s)) ∙ sym (if-below q n (new q) (byte_of (f (lane d (q / 4))) (q % 4)) s)
     | inr s ↦
-        t.old q (inr (omega (arith, s))) ∙ byte-of (vector h d) q (a.whole d high) (a.bytes d high) l ∙ ap (λ z. byte_of z (q % 4)) (a.lanes d (q / 4) low high (omega (arith, l)))
+        t.old q (inr (omega (arith, s))) ∙ byte-of (vector h d) q (a.whole d high) (a.bytes d high) l
+        ∙ ap (λ z. byte_of z (q % 4)) (a.lanes d (q / 4) low high (omega (arith, l)))
         ∙ sym (if-above q n (new q) (byte_of (f (lane d (q / 4))) (q % 4)) s)
   ]
 
@@ -226,7 +235,8 @@ module _ (at : ℕ) (f : ℕ → ℕ) (h : HartState) (d n : ℕ) (x : ℕ → �
 
 -- ---- what was written
 
-pub byte-written : (f : ℕ → ℕ) (d n : ℕ) (new : ℕ → ℕ) (k : ℕ) → k < n → n ≤ 16 → ((i : ℕ) → i < n → new i < 256) → byte_of (write_bytes f d n new (lane d (k / 4))) (k % 4) ≡ new k
+pub byte-written : (f : ℕ → ℕ) (d n : ℕ) (new : ℕ → ℕ) (k : ℕ) → k < n → n ≤ 16 → ((i : ℕ) → i < n → new i < 256)
+    → byte_of (write_bytes f d n new (lane d (k / 4))) (k % 4) ≡ new k
 byte-written f d n new k l most small =
     let F : ℕ → ℕ → ℕ = λ j p. if nat_lt (4 * j + p) n then new (4 * j + p) else byte_of (f (lane d j)) p in
     let e : 4 * (k / 4) + k % 4 ≡ k = omega arith in
@@ -234,7 +244,8 @@ byte-written f d n new k l most small =
     ∙ byte-spelled (F (k / 4))
     (λ p few. elim (cases_lt (4 * (k / 4) + p) n) [
       | inl s ↦ subst (λ z. z < 256) (sym (if-below (4 * (k / 4) + p) n (new (4 * (k / 4) + p)) (byte_of (f (lane d (k / 4))) p) s)) (small (4 * (k / 4) + p) s)
-      | inr s ↦ subst (λ z. z < 256) (sym (if-above (4 * (k / 4) + p) n (new (4 * (k / 4) + p)) (byte_of (f (lane d (k / 4))) p) s)) (byte-low (f (lane d (k / 4)) / 256 ^ p))
+      | inr s ↦ subst (λ z. z < 256) (sym (if-above (4 * (k / 4) + p) n (new (4 * (k / 4) + p)) (byte_of (f (lane d (k / 4))) p) s))
+          (byte-low (f (lane d (k / 4)) / 256 ^ p))
     ])
     (k % 4) (omega arith)
     ∙ if-below (4 * (k / 4) + k % 4) n (new (4 * (k / 4) + k % 4)) (byte_of (f (lane d (k / 4))) (k % 4)) (omega (arith, e, l)) ∙ ap new e
@@ -255,13 +266,15 @@ module _ (at g : ℕ) (f : ℕ → ℕ) (h : HartState) (s : At at f h) (c : Lan
   fits : (d : ℕ) → is_unfit (vectors_of h) (Some (widths.Bits8, d)) ≡ false
   fits d =
       let few = few-registers f g c in
-      let e : group_at (vectors_of h) widths.Bits8 ≡ 8 * g / 32 = ap (λ q. 8 * q / width (vectors_of h)) (ap group_of s.vtype ∙ c.group) ∙ ap (λ x. 8 * g / x) (width-is at g f h s c) in
+      let e : group_at (vectors_of h) widths.Bits8 ≡ 8 * g / 32 = ap (λ q. 8 * q / width (vectors_of h)) (ap group_of s.vtype ∙ c.group)
+      ∙ ap (λ x. 8 * g / x) (width-is at g f h s c) in
       ap (λ q. nat_lt 4 q || (nat_lt 1 q && not (d % q == 0))) e ∙ not-many (8 * g / 32) d (omega (arith, few))
 
   legal : (d b : ℕ) → is_refused (v.LoadElements widths.Bits8 d b addressings.UnitStride true) (vectors_of h) ≡ false
   legal d b = allowed at g f h s c (v.LoadElements widths.Bits8 d b addressings.UnitStride true) refl refl tt (fits d)
 
-  bytes-lie : (b : ℕ) (a : ℕ → ℕ) → b < 32 → ((k : ℕ) → k < f vl_number → word.add 32 (f b) k ≡ a k) → addresses_by (vectors_of h) (spacing_of widths.Bits8 addressings.UnitStride (register h)) true (register h b) ≡ firsts 0 (f vl_number) a
+  bytes-lie : (b : ℕ) (a : ℕ → ℕ) → b < 32 → ((k : ℕ) → k < f vl_number → word.add 32 (f b) k ≡ a k)
+      → addresses_by (vectors_of h) (spacing_of widths.Bits8 addressings.UnitStride (register h)) true (register h b) ≡ firsts 0 (f vl_number) a
   unfolding addresses_by
   bytes-lie b a lb e =
       let F = offset (vectors_of h) (spacing_of widths.Bits8 addressings.UnitStride (register h)) in
@@ -269,8 +282,10 @@ module _ (at g : ℕ) (f : ℕ → ℕ) (h : HartState) (s : At at f h) (c : Lan
       ∙ firsts-same 0 (f vl_number) (λ k. word.add 32 (register h b) (F k)) a
       (λ k lo hi. let o : k * 1 ≡ k = omega arith in ap (λ z. word.add 32 z (k * 1)) (s.same b lb) ∙ ap (word.add 32 (f b)) o ∙ e k (omega (arith, hi)))
 
-pub loads-bytes : (w : World) (f : ℕ → ℕ) (m : List ℕ) → length m ≡ w.size → (g : ℕ) → LanesConfigured f g → (d b : ℕ) (a : ℕ → ℕ) → 1 ≤ d → d < 32 → b < 32 → ((k : ℕ) → k < f vl_number → word.add 32 (f b) k ≡ a k) → AllReadable w Byte (f vl_number) a
-    → Line w (Vector (v.LoadElements widths.Bits8 d b addressings.UnitStride true) ∷ []) f m (write_bytes f d (f vl_number) (λ k. number_in w.text m Byte (a k) % 256)) m
+pub loads-bytes : (w : World) (f : ℕ → ℕ) (m : List ℕ) → length m ≡ w.size → (g : ℕ) → LanesConfigured f g → (d b : ℕ) (a : ℕ → ℕ) → 1 ≤ d → d < 32 → b < 32
+    → ((k : ℕ) → k < f vl_number → word.add 32 (f b) k ≡ a k) → AllReadable w Byte (f vl_number) a
+    → Line w (Vector (v.LoadElements widths.Bits8 d b addressings.UnitStride true) ∷ []) f m (write_bytes f d (f vl_number) (λ k. number_in w.text m Byte (a k)
+    % 256)) m
 loads-bytes w f m l g c d b a low high lb e can at s h st =
     let n = f vl_number in
     let x : ℕ → ℕ = λ k. number_in w.text m Byte (a k) in
@@ -284,15 +299,20 @@ loads-bytes w f m l g c d b a low high lb e can at s h st =
     let most = c.fits in
     let few = few-registers f g c in
     let wide = st.wide in
-    let t = filled d 0 n (vectors_of h) flags x (omega (arith, wide, high)) (st.whole d high) (omega (arith, most, few)) (omega (arith, long, most)) (flag-on at g f h st c) (flag-off at g f h st c) in
+    let t = filled d 0 n (vectors_of h) flags x (omega (arith, wide, high)) (st.whole d high) (omega (arith, most, few)) (omega (arith, long, most))
+    (flag-on at g f h st c) (flag-off at g f h st c) in
     let here : At at g' left = bytes-written at f h d n x st low high after t in
     let el : (left.pc + 4) % 2 ^ 32 ≡ at + 4 = ap (λ p. (p + 4) % 2 ^ 32) here.pc ∙ mod-eq_of_lt (spot w.text (at + 4) [] s.1).low in
     let gone : At (at + 4) g' (advanced left) = subst (λ p. At (at + 4) g' (at_pc left p)) (sym el) (at-to at (at + 4) g' left here) in
-    let read : map (number_at w.text m) (map (access_at Byte) places) ≡ firsts 0 n x = ap (λ q. map (number_at w.text m) (map (access_at Byte) q)) there ∙ numbers-read w.text m Byte 0 n a in
+    let read : map (number_at w.text m) (map (access_at Byte) places) ≡ firsts 0 n x = ap (λ q. map (number_at w.text m) (map (access_at Byte) q)) there
+    ∙ numbers-read w.text m Byte 0 n a in
     in-front w (Comes (at + 4) g' m) 0 at (Vector (v.LoadElements widths.Bits8 d b addressings.UnitStride true)) h m l st.running st.pc s.0
-    (ap (λ z. or_else (cond z (Some IllegalInstruction) None) (or_else (first_fault (length w.text) w.size Reads (map (access_at Byte) places)) None)) (legal at g f h st c d b)
+    (ap (λ z. or_else (cond z (Some IllegalInstruction) None) (or_else (first_fault (length w.text) w.size Reads (map (access_at Byte) places)) None))
+    (legal at g f h st c d b)
     ∙ ap (λ q. or_else (first_fault (length w.text) w.size Reads (map (access_at Byte) q)) None) there
-    ∙ ap (λ z. or_else z None) (all-free (length w.text) w.size Reads Byte 0 n a (λ k lo hi. let lk : k < n = omega (arith, hi) in load-free Byte (length w.text) w.size (a k) (can.aligned k lk) (can.above k lk) (can.below k lk))))
-    (subst (λ q. Within (λ y. MayRead w.job w.hart (w.uses y)) (touched (map (access_at Byte) q))) (sym there) (all-within (λ y. MayRead w.job w.hart (w.uses y)) Byte 0 n a (λ k lo hi. can.may k (omega (arith, hi)))))
+    ∙ ap (λ z. or_else z None) (all-free (length w.text) w.size Reads Byte 0 n a (λ k lo hi. let lk : k < n = omega (arith, hi) in
+    load-free Byte (length w.text) w.size (a k) (can.aligned k lk) (can.above k lk) (can.below k lk))))
+    (subst (λ q. Within (λ y. MayRead w.job w.hart (w.uses y)) (touched (map (access_at Byte) q))) (sym there)
+    (all-within (λ y. MayRead w.job w.hart (w.uses y)) Byte 0 n a (λ k lo hi. can.may k (omega (arith, hi)))))
     tt (keeps-none w)
     (subst (λ r. At (at + 4) g' (advanced (with_vectors h (filled_from 0 (vectors_of h) 8 d flags r)))) (sym read) gone, refl)

@@ -29,18 +29,27 @@ module _ (b0 b1 b2 b3 b4 b5 b6 b7 b8 b9 b10 b11 b12 b13 b14 b15 : ℕ) where
   sixteen-byte (suc (suc (suc (suc (suc zero))))) l b = let p = b 4 in let q = b 5 in let r = b 6 in let s = b 7 in omega (arith, p, q, r, s)
   sixteen-byte (suc (suc (suc (suc (suc (suc zero)))))) l b = let p = b 4 in let q = b 5 in let r = b 6 in let s = b 7 in omega (arith, p, q, r, s)
   sixteen-byte (suc (suc (suc (suc (suc (suc (suc zero))))))) l b = let p = b 4 in let q = b 5 in let r = b 6 in let s = b 7 in omega (arith, p, q, r, s)
-  sixteen-byte (suc (suc (suc (suc (suc (suc (suc (suc zero)))))))) l b = let p = b 8 in let q = b 9 in let r = b 10 in let s = b 11 in omega (arith, p, q, r, s)
-  sixteen-byte (suc (suc (suc (suc (suc (suc (suc (suc (suc zero))))))))) l b = let p = b 8 in let q = b 9 in let r = b 10 in let s = b 11 in omega (arith, p, q, r, s)
-  sixteen-byte (suc (suc (suc (suc (suc (suc (suc (suc (suc (suc zero)))))))))) l b = let p = b 8 in let q = b 9 in let r = b 10 in let s = b 11 in omega (arith, p, q, r, s)
-  sixteen-byte (suc (suc (suc (suc (suc (suc (suc (suc (suc (suc (suc zero))))))))))) l b = let p = b 8 in let q = b 9 in let r = b 10 in let s = b 11 in omega (arith, p, q, r, s)
-  sixteen-byte (suc (suc (suc (suc (suc (suc (suc (suc (suc (suc (suc (suc zero)))))))))))) l b = let p = b 12 in let q = b 13 in let r = b 14 in let s = b 15 in omega (arith, p, q, r, s)
-  sixteen-byte (suc (suc (suc (suc (suc (suc (suc (suc (suc (suc (suc (suc (suc zero))))))))))))) l b = let p = b 12 in let q = b 13 in let r = b 14 in let s = b 15 in omega (arith, p, q, r, s)
-  sixteen-byte (suc (suc (suc (suc (suc (suc (suc (suc (suc (suc (suc (suc (suc (suc zero)))))))))))))) l b = let p = b 12 in let q = b 13 in let r = b 14 in let s = b 15 in omega (arith, p, q, r, s)
-  sixteen-byte (suc (suc (suc (suc (suc (suc (suc (suc (suc (suc (suc (suc (suc (suc (suc zero))))))))))))))) l b = let p = b 12 in let q = b 13 in let r = b 14 in let s = b 15 in omega (arith, p, q, r, s)
+  sixteen-byte (suc (suc (suc (suc (suc (suc (suc (suc zero)))))))) l b = let p = b 8 in let q = b 9 in let r = b 10 in let s = b 11 in
+      omega (arith, p, q, r, s)
+  sixteen-byte (suc (suc (suc (suc (suc (suc (suc (suc (suc zero))))))))) l b = let p = b 8 in let q = b 9 in let r = b 10 in let s = b 11 in
+      omega (arith, p, q, r, s)
+  sixteen-byte (suc (suc (suc (suc (suc (suc (suc (suc (suc (suc zero)))))))))) l b = let p = b 8 in let q = b 9 in let r = b 10 in let s = b 11 in
+      omega (arith, p, q, r, s)
+  sixteen-byte (suc (suc (suc (suc (suc (suc (suc (suc (suc (suc (suc zero))))))))))) l b = let p = b 8 in let q = b 9 in let r = b 10 in let s = b 11 in
+      omega (arith, p, q, r, s)
+  sixteen-byte (suc (suc (suc (suc (suc (suc (suc (suc (suc (suc (suc (suc zero)))))))))))) l b = let p = b 12 in let q = b 13 in let r = b 14 in let s =
+      b 15 in omega (arith, p, q, r, s)
+  sixteen-byte (suc (suc (suc (suc (suc (suc (suc (suc (suc (suc (suc (suc (suc zero))))))))))))) l b = let p = b 12 in let q = b 13 in let r = b 14 in let s =
+      b 15 in omega (arith, p, q, r, s)
+  sixteen-byte (suc (suc (suc (suc (suc (suc (suc (suc (suc (suc (suc (suc (suc (suc zero)))))))))))))) l b = let p = b 12 in let q = b 13 in let r = b 14 in
+      let s = b 15 in omega (arith, p, q, r, s)
+  sixteen-byte (suc (suc (suc (suc (suc (suc (suc (suc (suc (suc (suc (suc (suc (suc (suc zero))))))))))))))) l b = let p = b 12 in let q = b 13 in let r =
+      b 14 in let s = b 15 in omega (arith, p, q, r, s)
   sixteen-byte (suc (suc (suc (suc (suc (suc (suc (suc (suc (suc (suc (suc (suc (suc (suc (suc k)))))))))))))))) l b = absurd (omega (arith, l))
 
 pub byte-of : (xs : List ℕ) (k : ℕ) → length xs ≡ 16 → AreBytes xs → k < 16 → get_or xs k 0 ≡ element 32 xs (k / 4) / 256 ^ (k % 4) % 256
-byte-of xs k e b l = sixteen (λ z. AreBytes z → get_or z k 0 ≡ element 32 z (k / 4) / 256 ^ (k % 4) % 256) xs e (λ b0 b1 b2 b3 b4 b5 b6 b7 b8 b9 b10 b11 b12 b13 b14 b15. sixteen-byte b0 b1 b2 b3 b4 b5 b6 b7 b8 b9 b10 b11 b12 b13 b14 b15 k l) b
+byte-of xs k e b l = sixteen (λ z. AreBytes z → get_or z k 0 ≡ element 32 z (k / 4) / 256 ^ (k % 4) % 256) xs e (λ b0 b1 b2 b3 b4 b5 b6 b7 b8 b9 b10 b11 b12 b13
+    b14 b15. sixteen-byte b0 b1 b2 b3 b4 b5 b6 b7 b8 b9 b10 b11 b12 b13 b14 b15 k l) b
 
 module _ (at g : ℕ) (f : ℕ → ℕ) (h : HartState) (s : At at f h) (c : LanesConfigured f g) (u : ℕ) (low : 1 ≤ u) (high : u < 32) where
   of-bytes : Lists (4 * g) (bytes_of_register (vectors_of h) u) (λ k. f (lane u (k / 4)) / 256 ^ (k % 4) % 256)
@@ -62,7 +71,8 @@ module _ (at g : ℕ) (f : ℕ → ℕ) (h : HartState) (s : At at f h) (c : Lan
 byte-below : (n : ℕ) → n % 256 < 2 ^ 32
 byte-below n = omega arith
 
-pub extends : (w : World) (f : ℕ → ℕ) (m : List ℕ) → length m ≡ w.size → (g : ℕ) → LanesConfigured f g → (d u : ℕ) → IsGroup g d → 1 ≤ u → u < 32 → Line w (Vector (v.ExtendBytes d u true) ∷ []) f m (write_lanes f d (f vl_number) (λ k. f (lane u (k / 4)) / 256 ^ (k % 4) % 256)) m
+pub extends : (w : World) (f : ℕ → ℕ) (m : List ℕ) → length m ≡ w.size → (g : ℕ) → LanesConfigured f g → (d u : ℕ) → IsGroup g d → 1 ≤ u → u < 32
+    → Line w (Vector (v.ExtendBytes d u true) ∷ []) f m (write_lanes f d (f vl_number) (λ k. f (lane u (k / 4)) / 256 ^ (k % 4) % 256)) m
 extends w f m l g c d u id low high =
     sets w f m l g c (v.ExtendBytes d u true) d (λ h. bytes_of_register (vectors_of h) u) (λ k. f (lane u (k / 4)) / 256 ^ (k % 4) % 256) id
     refl refl (λ at h s. same-width at g f h s c) (id, tt) refl (λ h. refl) (λ h read. refl)

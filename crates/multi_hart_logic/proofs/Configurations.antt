@@ -1,5 +1,6 @@
 -- Configurations of the vector unit.
-use Rattle.std.proofs.Common.{◌≡◌, ℕ, zero, suc, ◌+◌, ◌*◌, ◌/◌, ◌%◌, ◌^◌, ◌<◌, ◌≤◌, List, [], ◌∷◌, length, Some, None, true, false, refl, ap, ◌∙◌, sym, subst, arith}
+use Rattle.std.proofs.Common.{◌≡◌, ℕ, zero, suc, ◌+◌, ◌*◌, ◌/◌, ◌%◌, ◌^◌, ◌<◌, ◌≤◌, List, [], ◌∷◌, length, Some, None, true, false, refl, ap, ◌∙◌, sym, subst}
+use Rattle.std.proofs.Common.{arith}
 use Rattle.std.specs.Prelude.{◌≢◌, ◌==◌, not, min, cond}
 use Rattle.std.proofs.lemmas.Bool.Decides.{nat_tests}
 use Rattle.rv_insn.specs.declared.outcomes.Trap.TheVariants.{IllegalInstruction}
@@ -22,7 +23,8 @@ use Rattle.multi_hart_logic.proofs.Rows.{keeps-none}
 other-kept : (f : ℕ → ℕ) (n vtype q : ℕ) → q ≢ 32 → q ≢ 33 → configure f n vtype q ≡ f q
 other-kept f n vtype q a b = update-other (update f 32 n) 33 vtype q b ∙ update-other f 32 n q a
 
-at-configured : (at n vtype : ℕ) (f : ℕ → ℕ) (h : HartState) → at + 4 < 2 ^ 32 → At at f h → At (at + 4) (configure f n vtype) (given (with_vectors h (record { registers = h.vectors; vl = n; vtype = vtype })) 0 n)
+at-configured : (at n vtype : ℕ) (f : ℕ → ℕ) (h : HartState) → at + 4 < 2 ^ 32 → At at f h
+    → At (at + 4) (configure f n vtype) (given (with_vectors h (record { registers = h.vectors; vl = n; vtype = vtype })) 0 n)
 at-configured at n vtype f h small a = record {
   running = a.running;
   pc = ap (λ p. (p + 4) % 2 ^ 32) a.pc ∙ mod-eq_of_lt small;
@@ -41,8 +43,13 @@ at-configured at n vtype f h small a = record {
     same-register zero = refl
     same-register (suc r) = refl
 
-configured-is : (state : Vectors) (vtype count : ℕ) → is_supported vtype ≡ true → configured state vtype (AtMost count) ≡ record state { vl = min count (most_elements vtype); vtype = vtype }
-configured-is state vtype count e = ap (λ b. cond b (record state { vl = min count (most_elements vtype); vtype = vtype }) (record state { vl = 0; vtype = 2147483648 })) e
+configured-is : (state : Vectors) (vtype count : ℕ) → is_supported vtype ≡ true → configured state vtype (AtMost count)
+    ≡ record state { vl = min count (most_elements vtype); vtype = vtype }
+configured-is state vtype count e = ap (λ b. cond b (record state { vl = min count (most_elements vtype); vtype = vtype }) (record state {
+  vl = 0;
+  vtype =
+      2147483648;
+})) e
 
 asked-is : (b n : ℕ) → asked_by 0 (suc b) n ≡ AtMost n
 asked-is b n = let e : (suc b == 0) ≡ false = grind (arith, nat_tests) in ap (λ t. cond (not t) (AtMost n) AsBefore) e
@@ -52,24 +59,31 @@ never-illegal words size b vtype h =
     ap (λ q. or_else (cond (is_illegal_configuration (vectors_of h) vtype q) (Some IllegalInstruction) None) None) (asked-is b (register h (suc b)))
 
 module _ (w : World) (f : ℕ → ℕ) (m : List ℕ) (l : length m ≡ w.size) where
-  pub configure-at : (count vtype : ℕ) → is_supported vtype ≡ true → Line w (Vector (Vsetivli 0 count vtype) ∷ []) f m (configure f (min count (most_elements vtype)) vtype) m
+  pub configure-at : (count vtype : ℕ) → is_supported vtype ≡ true
+      → Line w (Vector (Vsetivli 0 count vtype) ∷ []) f m (configure f (min count (most_elements vtype)) vtype) m
   configure-at count vtype ok at s h a =
       let n = min count (most_elements vtype) in
-      let e : configured_by h 0 vtype (AtMost count) ≡ given (with_vectors h (record { registers = h.vectors; vl = n; vtype = vtype })) 0 n = ap (λ c. given (with_vectors h c) 0 c.vl) (configured-is (vectors_of h) vtype count ok) in
+      let e : configured_by h 0 vtype (AtMost count) ≡ given (with_vectors h (record { registers = h.vectors; vl = n; vtype = vtype })) 0 n =
+      ap (λ c. given (with_vectors h c) 0 c.vl) (configured-is (vectors_of h) vtype count ok) in
       in-front w (Comes (at + 4) (configure f n vtype) m) 0 at (Vector (Vsetivli 0 count vtype)) h m l a.running a.pc s.0 refl tt tt (keeps-none w)
       (subst (λ x. Comes (at + 4) (configure f n vtype) m x m) (sym e) (at-configured at n vtype f h (spot w.text (at + 4) [] s.1).low a, refl))
 
-  pub configure-by : (b vtype : ℕ) → 1 ≤ b → b < 32 → is_supported vtype ≡ true → Line w (Vector (Vsetvli 0 b vtype) ∷ []) f m (configure f (min (f b) (most_elements vtype)) vtype) m
+  pub configure-by : (b vtype : ℕ) → 1 ≤ b → b < 32 → is_supported vtype ≡ true
+      → Line w (Vector (Vsetvli 0 b vtype) ∷ []) f m (configure f (min (f b) (most_elements vtype)) vtype) m
   configure-by zero vtype low high ok at s h a = absurd (omega (arith, low))
   configure-by (suc b) vtype low high ok at s h a =
       let n = min (f (suc b)) (most_elements vtype) in
       let e : configured_by h 0 vtype (AtMost (register h (suc b))) ≡ given (with_vectors h (record { registers = h.vectors; vl = n; vtype = vtype })) 0 n =
-      ap (λ c. given (with_vectors h c) 0 c.vl) (configured-is (vectors_of h) vtype (register h (suc b)) ok ∙ ap (λ r. record (vectors_of h) { vl = min r (most_elements vtype); vtype = vtype }) (a.same (suc b) high)) in
-      in-front w (Comes (at + 4) (configure f n vtype) m) 0 at (Vector (Vsetvli 0 (suc b) vtype)) h m l a.running a.pc s.0 (never-illegal (length w.text) w.size b vtype h) tt tt (keeps-none w)
-      (subst (λ x. Comes (at + 4) (configure f n vtype) m x m) (sym (ap (configured_by h 0 vtype) (asked-is b (register h (suc b))) ∙ e)) (at-configured at n vtype f h (spot w.text (at + 4) [] s.1).low a, refl))
+      ap (λ c. given (with_vectors h c) 0 c.vl) (configured-is (vectors_of h) vtype (register h (suc b)) ok
+      ∙ ap (λ r. record (vectors_of h) { vl = min r (most_elements vtype); vtype = vtype }) (a.same (suc b) high)) in
+      in-front w (Comes (at + 4) (configure f n vtype) m) 0 at (Vector (Vsetvli 0 (suc b) vtype)) h m l a.running a.pc s.0 (never-illegal (length w.text) w.size
+      b vtype h) tt tt (keeps-none w)
+      (subst (λ x. Comes (at + 4) (configure f n vtype) m x m) (sym (ap (configured_by h 0 vtype) (asked-is b (register h (suc b)))
+      ∙ e)) (at-configured at n vtype f h (spot w.text (at + 4) [] s.1).low a, refl))
 
 -- a supported configuration of lanes of 32 bits is what rows on lanes ask for
-pub configured-lanes : (f : ℕ → ℕ) (n vtype : ℕ) → is_supported vtype ≡ true → width_of vtype ≡ 32 → n ≤ most_elements vtype → LanesConfigured (configure f n vtype) (group_of vtype)
+pub configured-lanes : (f : ℕ → ℕ) (n vtype : ℕ) → is_supported vtype ≡ true → width_of vtype ≡ 32 → n ≤ most_elements vtype
+    → LanesConfigured (configure f n vtype) (group_of vtype)
 configured-lanes f n vtype ok wide few =
     let g = group_of vtype in
     let e : configure f n vtype 33 ≡ vtype = update-same (update f 32 n) 33 vtype in

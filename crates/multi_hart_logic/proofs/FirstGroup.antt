@@ -1,5 +1,6 @@
 -- The group of vector registers that begins at v0, as lanes of 32 bits: its bits and what they spell.
-use Rattle.std.proofs.Common.{◌≡◌, ℕ, zero, suc, ◌+◌, ◌-◌, ◌*◌, ◌/◌, ◌%◌, ◌^◌, ◌<◌, ◌≤◌, List, [], ◌∷◌, length, get_or, true, false, refl, ap, ◌∙◌, sym, subst, arith, inl, inr}
+use Rattle.std.proofs.Common.{◌≡◌, ℕ, zero, suc, ◌+◌, ◌-◌, ◌*◌, ◌/◌, ◌%◌, ◌^◌, ◌<◌, ◌≤◌, List, [], ◌∷◌, length, get_or, true, false, refl, ap, ◌∙◌, sym, subst}
+use Rattle.std.proofs.Common.{arith, inl, inr}
 use Rattle.std.specs.Prelude.{◌⊎◌, ◌==◌, ◌&&◌, cond, if◌then◌else◌, min, nat_le, nat_lt, replicate, slice_index, slice_index_or}
 use Rattle.std.specs.Int.{bit_at}
 use Rattle.std.proofs.Math.Nat.{mod-eq_of_lt}
@@ -33,7 +34,8 @@ spelled-alike (suc n) b c e =
 pub spelled-back : (n x : ℕ) → spelled n (bit_at x) ≡ x % 2 ^ n
 spelled-back zero x = omega arith
 spelled-back (suc n) x =
-    let later : spelled n (λ k. bit_at x (suc k)) ≡ x / 2 % 2 ^ n = spelled-alike n (λ k. bit_at x (suc k)) (bit_at (x / 2)) (λ k l. bit_at-suc x k) ∙ spelled-back n (x / 2) in
+    let later : spelled n (λ k. bit_at x (suc k)) ≡ x / 2 % 2 ^ n = spelled-alike n (λ k. bit_at x (suc k)) (bit_at (x / 2)) (λ k l. bit_at-suc x k)
+    ∙ spelled-back n (x / 2) in
     let whole : x % 2 ^ (n + 1) ≡ (x / 2 % 2 ^ n) * 2 + x % 2 = mod-pow-add x n 1 in
     let more : n + 1 ≡ suc n = omega arith in
     let lowest = bit_at_lowest x in
@@ -74,7 +76,8 @@ word-bit b k small l = elim (cases_lt k 8) [
               | inr u ↦
                   let q : 3 ≡ k / 8 = omega (arith, u, l) in
                   let r : k - 8 - 8 - 8 ≡ k % 8 = omega (arith, u, l) in
-                  high-bit (b 2) (b 3) (k - 8 - 8) (small 2 (omega arith)) (omega (arith, u)) ∙ ap (λ z. bit_at (b z) (k - 8 - 8 - 8)) q ∙ ap (bit_at (b (k / 8))) r
+                  high-bit (b 2) (b 3) (k - 8 - 8) (small 2 (omega arith)) (omega (arith, u)) ∙ ap (λ z. bit_at (b z) (k - 8 - 8 - 8)) q
+                  ∙ ap (bit_at (b (k / 8))) r
             ]
       ]
 ]
@@ -124,7 +127,8 @@ module _ (f : ℕ → ℕ) (n : ℕ) (new : ℕ → ℕ) where
   min-low i l s = omega (arith, l, s)
 
   pub first-bits : (j : ℕ) → j / 32 < 4 → j / 32 < n → write_first f n new (bit j) ≡ bits j
-  first-bits j l s = lanes-new later 32 (32 * min n 4) bits (bit j) j (let e : bit j ≡ lane 32 j = omega arith in e) (let p = min-low (j / 32) l s in omega (arith, p))
+  first-bits j l s = lanes-new later 32 (32 * min n 4) bits (bit j) j (let e : bit j ≡ lane 32 j = omega arith in e) (let p = min-low (j / 32) l s in
+      omega (arith, p))
 
   pub first-bits-stay : (j : ℕ) → n ≤ 16 → n ≤ j / 32 → write_first f n new (bit j) ≡ f (bit j)
   first-bits-stay j few s =
@@ -167,7 +171,8 @@ unfolding write_lanes
 base-same f g d n new q e = ap (λ z. if nat_le (lane d 0) q && nat_lt q (lane d n) then new (q - lane d 0) else z) (e q)
 
 -- a lane stays where its number does, and the bits that spell it
-pub held-same : (f f' : ℕ → ℕ) (v i : ℕ) → ((k : ℕ) → k < 32 → i < 4 → f' (bit (32 * i + k)) ≡ f (bit (32 * i + k))) → f' (lane v i) ≡ f (lane v i) → held f' v i ≡ held f v i
+pub held-same : (f f' : ℕ → ℕ) (v i : ℕ) → ((k : ℕ) → k < 32 → i < 4 → f' (bit (32 * i + k)) ≡ f (bit (32 * i + k))) → f' (lane v i) ≡ f (lane v i)
+    → held f' v i ≡ held f v i
 held-same f f' v i bits-same lane-same = elim (cases_lt (4 * v + i) 4) [
   | inl s ↦
       let t : nat_lt (4 * v + i) 4 ≡ true = grind (arith, nat_tests, s) in
@@ -195,19 +200,23 @@ written-above f d n new q l =
 -- what is written says where
 pub group-same : (f : ℕ → ℕ) (d n : ℕ) (new other : ℕ → ℕ) → ((k : ℕ) → k < n → new k ≡ other k) → (q : ℕ) → write_group f d n new q ≡ write_group f d n other q
 group-same f zero n new other e q =
-    let low : (z : ℕ) → write_lanes f 1 (n - 4) (λ k. new (4 + k)) z ≡ write_lanes f 1 (n - 4) (λ k. other (4 + k)) z = lanes-same f 1 (n - 4) (λ k. new (4 + k)) (λ k. other (4 + k)) (λ k l. e (4 + k) (omega (arith, l))) in
+    let low : (z : ℕ) → write_lanes f 1 (n - 4) (λ k. new (4 + k)) z ≡ write_lanes f 1 (n - 4) (λ k. other (4 + k)) z =
+    lanes-same f 1 (n - 4) (λ k. new (4 + k)) (λ k. other (4 + k)) (λ k l. e (4 + k) (omega (arith, l))) in
     lanes-same (later f n new) 32 (32 * min n 4) (bits f n new) (bits f n other) (λ j l. ap (λ z. bit_at z (j % 32)) (e (j / 32) (omega (arith, l)))) q
     ∙ base-same (later f n new) (later f n other) 32 (32 * min n 4) (bits f n other) q low
-group-same f (suc d) n new other e q = written-above f (suc d) n new q (omega arith) ∙ lanes-same f (suc d) n new other e q ∙ sym (written-above f (suc d) n other q (omega arith))
+group-same f (suc d) n new other e q = written-above f (suc d) n new q (omega arith) ∙ lanes-same f (suc d) n new other e q
+    ∙ sym (written-above f (suc d) n other q (omega arith))
 
 pub groups-hold : GroupsHold
 groups-hold f zero n new i few l small = first-holds f n new i few l small
 groups-hold f (suc d) n new i few l small =
-    held-above (write_group f (suc d) n new) (suc d) i (omega arith) ∙ written-above f (suc d) n new (lane (suc d) i) (omega arith) ∙ lanes-new f (suc d) n new (lane (suc d) i) i refl l
+    held-above (write_group f (suc d) n new) (suc d) i (omega arith) ∙ written-above f (suc d) n new (lane (suc d) i) (omega arith)
+    ∙ lanes-new f (suc d) n new (lane (suc d) i) i refl l
 
 -- ---- a hart of which the lanes of the first group were written
 
-module _ (at g : ℕ) (f : ℕ → ℕ) (h : HartState) (news : List ℕ) (small : at + 4 < 2 ^ 32) (a : At at f h) (c : LanesConfigured f g) (some : 1 ≤ g) (fits : 0 + g ≤ 32) (length-is : length news ≡ 4 * g) (below : (i : ℕ) → i < f 32 → slice_index news i < 2 ^ 32) where
+module _ (at g : ℕ) (f : ℕ → ℕ) (h : HartState) (news : List ℕ) (small : at + 4 < 2 ^ 32) (a : At at f h) (c : LanesConfigured f g) (some : 1 ≤ g)
+    (fits : 0 + g ≤ 32) (length-is : length news ≡ 4 * g) (below : (i : ℕ) → i < f 32 → slice_index news i < 2 ^ 32) where
   abbrev to : Vectors
   to = rows.to at 0 g f h news small a c fits length-is below
 
@@ -230,9 +239,11 @@ module _ (at g : ℕ) (f : ℕ → ℕ) (h : HartState) (news : List ℕ) (small
       ap (λ x. element 32 (group_register (vectors_of h) x) (i % 4)) q ∙ ap (element 32 (group_register (vectors_of h) 0)) r
       ∙ ap (λ x. element 32 x i) (or-either h.vectors 0 (replicate 16 0) [] (let e = a.wide in omega (arith, e))) in
       ap (λ x. element 32 x i) (rows.here at 0 g f h news small a c fits length-is below 0 (omega arith))
-      ∙ group-holds (vectors_of h) 0 g mixed 0 i a.wide fits (rows.mixed-length at 0 g f h news small a c fits length-is below) (omega arith) (omega (arith, some)) l
+      ∙ group-holds (vectors_of h) 0 g mixed 0 i a.wide fits (rows.mixed-length at 0 g f h news small a c fits length-is below) (omega arith)
+      (omega (arith, some)) l
       ∙ ap (λ k. slice_index mixed k % 2 ^ 32) s
-      ∙ ap (λ n. n % 2 ^ 32) (rows.mixed-get at 0 g f h news small a c fits length-is below i (omega (arith, l, some)) ∙ ap (cond (nat_lt i h.vl && true) (get_or news i 0)) w)
+      ∙ ap (λ n. n % 2 ^ 32) (rows.mixed-get at 0 g f h news small a c fits length-is below i (omega (arith, l, some))
+      ∙ ap (cond (nat_lt i h.vl && true) (get_or news i 0)) w)
 
   lane-new : (i : ℕ) → i < 4 → i < f 32 → element 32 now i ≡ slice_index news i
   lane-new i l s =
@@ -242,7 +253,8 @@ module _ (at g : ℕ) (f : ℕ → ℕ) (h : HartState) (news : List ℕ) (small
   lane-old : (i : ℕ) → i < 4 → f 32 ≤ i → element 32 now i ≡ element 32 (vector h 0) i
   lane-old i l s =
       let t : nat_lt i h.vl ≡ false = let e = a.vl in grind (arith, nat_tests, e, s) in
-      lane-now i l ∙ ap (λ b. cond (b && true) (get_or news i 0) (element 32 (vector h 0) i) % 2 ^ 32) t ∙ mod-eq_of_lt (element-below (vector h 0) i (a.bytes 0 (omega arith)))
+      lane-now i l ∙ ap (λ b. cond (b && true) (get_or news i 0) (element 32 (vector h 0) i) % 2 ^ 32) t
+      ∙ mod-eq_of_lt (element-below (vector h 0) i (a.bytes 0 (omega arith)))
 
   bits-now : (j : ℕ) → j < 128 → one_if (mask_bit now j) ≡ after (bit j)
   bits-now j l =
@@ -253,7 +265,8 @@ module _ (at g : ℕ) (f : ℕ → ℕ) (h : HartState) (news : List ℕ) (small
       elim (cases_lt i (f 32)) [
         | inl s ↦ here ∙ ap (λ z. bit_at z (j % 32)) (lane-new i li s) ∙ sym (first-bits f (f 32) (slice_index news) j li s)
         | inr s ↦
-            here ∙ ap (λ z. bit_at z (j % 32)) (lane-old i li s) ∙ sym (register-bit (vector h 0) j (a.whole 0 (omega arith)) (a.bytes 0 (omega arith)) l) ∙ a.bits j l
+            here ∙ ap (λ z. bit_at z (j % 32)) (lane-old i li s) ∙ sym (register-bit (vector h 0) j (a.whole 0 (omega arith)) (a.bytes 0 (omega arith)) l)
+            ∙ a.bits j l
             ∙ sym (first-bits-stay f (f 32) (slice_index news) j count-few s)
       ]
 
@@ -264,7 +277,8 @@ module _ (at g : ℕ) (f : ℕ → ℕ) (h : HartState) (news : List ℕ) (small
   lanes-now u i low l few =
       let k = 4 * u + i in
       elim (cases_lt k (f 32)) [
-        | inl s ↦ lanes-new f 0 (f 32) (slice_index news) (lane u i) k (let e : lane u i ≡ lane 0 k = omega arith in e) s ∙ sym (first-lanes f (f 32) (slice_index news) (lane u i) k count-few (omega (arith, low)) s (let e : lane u i ≡ lane 0 k = omega arith in e))
+        | inl s ↦ lanes-new f 0 (f 32) (slice_index news) (lane u i) k (let e : lane u i ≡ lane 0 k = omega arith in e) s
+            ∙ sym (first-lanes f (f 32) (slice_index news) (lane u i) k count-few (omega (arith, low)) s (let e : lane u i ≡ lane 0 k = omega arith in e))
         | inr s ↦
             lanes-above f 0 (f 32) (slice_index news) (lane u i) (omega (arith, s))
             ∙ sym (first-lanes-stay f (f 32) (slice_index news) (lane u i) count-few (inr (omega (arith, s), omega (arith, low))) (omega (arith, l, few)))
@@ -287,8 +301,10 @@ module _ (at g : ℕ) (f : ℕ → ℕ) (h : HartState) (news : List ℕ) (small
 
 pub any-lanes-given : AnyLanesGiven
 any-lanes-given at zero g f h news small a c some fits length-is below =
-    subst (λ v. At (at + 4) (write_first f (f 32) (slice_index news)) (advanced (with_vectors h v))) (sym (rows.is-to at 0 g f h news small a c fits length-is below))
+    subst (λ v. At (at + 4) (write_first f (f 32) (slice_index news)) (advanced (with_vectors h v))) (sym (rows.is-to at 0 g f h news small a c fits length-is
+    below))
     (first-there at g f h news small a c some fits length-is below)
 any-lanes-given at (suc d) g f h news small a c some fits length-is below =
-    at-same (at + 4) (write_lanes f (suc d) (f 32) (slice_index news)) (write_group f (suc d) (f 32) (slice_index news)) _ (λ q. sym (written-above f (suc d) (f 32) (slice_index news) q (omega arith)))
+    at-same (at + 4) (write_lanes f (suc d) (f 32) (slice_index news)) (write_group f (suc d) (f 32) (slice_index news))
+    _ (λ q. sym (written-above f (suc d) (f 32) (slice_index news) q (omega arith)))
     (lanes-given at (suc d) g f h news small a c (omega arith) fits length-is below)

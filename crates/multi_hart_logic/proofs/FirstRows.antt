@@ -19,7 +19,8 @@ use Rattle.multi_hart.specs.Run.{Within}
 use Rattle.hart_core.specs.HartState.{HartState, register, vector, vectors_of, with_vectors, advanced}
 use Rattle.hart_core.specs.Scalar.{kind_of, after}
 use Rattle.hart_core.specs.Turn.{fault}
-use Rattle.vector_unit.specs.Vector.{Vectors, register as group_register, group_of, element_from, of_group, of_scalar, width, count, group, with_elements, is_refused, overwrites_mask, fixed_width, is_other_width, groups_in, is_misplaced, moved_in, is_unfit}
+use Rattle.vector_unit.specs.Vector.{Vectors, register as group_register, group_of, element_from, of_group, of_scalar, width, count, group, with_elements}
+use Rattle.vector_unit.specs.Vector.{is_refused, overwrites_mask, fixed_width, is_other_width, groups_in, is_misplaced, moved_in, is_unfit}
 use Rattle.vector_unit.specs.Operations as op
 use Rattle.multi_hart_logic.specs.Alone.{World}
 use Rattle.multi_hart_logic.specs.Paths.{lane, vl_number, LanesConfigured, At, Line}
@@ -59,12 +60,15 @@ module _ (at g : ℕ) (f : ℕ → ℕ) (h : HartState) (a : At at f h) (c : Lan
 
   pub of-any-group : (u : ℕ) → IsAnyGroup g u → Lists (4 * g) (of_group state u) (held f u)
   of-any-group u i =
-      let e : of_group state u ≡ map (element_from state 32 u) (range_with_len 0 (4 * g)) = ap (λ w. map (element_from state w u) (range_with_len 0 (count state))) (width-is at g f h a c) ∙ ap (λ n. map (element_from state 32 u) (range_with_len 0 n)) (count-is at g f h a c) in
+      let e : of_group state u ≡ map (element_from state 32 u) (range_with_len 0 (4 * g)) =
+      ap (λ w. map (element_from state w u) (range_with_len 0 (count state))) (width-is at g f h a c)
+      ∙ ap (λ n. map (element_from state 32 u) (range_with_len 0 n)) (count-is at g f h a c) in
       subst (λ xs. Lists (4 * g) xs (held f u)) (sym e) (record {
         size = length-map-range_with_len (element_from state 32 u) 0 (4 * g);
         get = λ k l.
             let hi : u + k / 4 < 32 = let p = i.fits in omega (arith, p, l) in
-            get_or-map-range_with_len (element_from state 32 u) 0 (4 * g) k k 0 l (omega arith) ∙ ap (λ r. element 32 r (k % 4)) (here-is (u + k / 4) hi) ∙ lane-is u k i l;
+            get_or-map-range_with_len (element_from state 32 u) 0 (4 * g) k k 0 l (omega arith) ∙ ap (λ r. element 32 r (k % 4)) (here-is (u + k / 4) hi)
+            ∙ lane-is u k i l;
       })
 
   -- ---- no trap
@@ -78,7 +82,8 @@ module _ (at g : ℕ) (f : ℕ → ℕ) (h : HartState) (a : At at f h) (c : Lan
   all-placed [] p = refl
   all-placed (u ∷ us) p = ap (λ b. b || is_misplaced state us) (group-placed u p.0) ∙ all-placed us p.1
 
-  pub allowed : (i : VectorInsn) → overwrites_mask i ≡ false → is_other_width state (fixed_width i) ≡ false → Within (IsAnyGroup g) (groups_in i) → is_unfit state (moved_in i) ≡ false → is_refused i state ≡ false
+  pub allowed : (i : VectorInsn) → overwrites_mask i ≡ false → is_other_width state (fixed_width i) ≡ false → Within (IsAnyGroup g) (groups_in i)
+      → is_unfit state (moved_in i) ≡ false → is_refused i state ≡ false
   allowed i keeps same placed fit = rw (no-vill at g f h a c, keeps, same, all-placed (groups_in i) placed, fit) refl
 
 -- ---- rows
@@ -97,44 +102,58 @@ module _ (w : World) (f : ℕ → ℕ) (m : List ℕ) (l : length m ≡ w.size) 
       → Line w (Vector i ∷ []) f m (write_group f d (f vl_number) new) m
   sets i d news new seat none keeps same placed moved is-fault is-after lists small =
       leaves w f m l i (write_group f d (f vl_number) new) (λ h. advanced (with_vectors h (with_elements (vectors_of h) d true (news h)))) none
-      (λ at h a. untrapped at g f h a c (length w.text) w.size i (is-fault h) (allowed at g f h a c i keeps (same h) placed (ap (is_unfit (vectors_of h)) moved)))
+      (λ at h a. untrapped at g f h a c (length w.text) w.size i (is-fault h) (allowed at g f h a c i keeps (same h) placed (ap (is_unfit (vectors_of h))
+      moved)))
       is-after
       (λ at h low a.
       let p = lists at h a in
       let within : (k : ℕ) → k < f vl_number → k < 4 * g = λ k lk. (let q = c.fits in omega (arith, lk, q)) in
       let e : (k : ℕ) → k < f vl_number → slice_index (news h) k ≡ new k = λ k lk. p.get k (within k lk) in
-      at-same (at + 4) (write_group f d (f vl_number) (slice_index (news h))) (write_group f d (f vl_number) new) _ (group-same f d (f vl_number) (slice_index (news h)) new e)
+      at-same (at + 4) (write_group f d (f vl_number) (slice_index (news h))) (write_group f d (f vl_number) new) _ (group-same f d (f vl_number)
+      (slice_index (news h)) new e)
       (any-lanes-given at d g f h (news h) low a c seat.some seat.fits p.size (λ k lk. subst (λ n. n < 2 ^ 32) (sym (e k lk)) (small at h a k (within k lk)))))
 
-  pub arithmetic-vv : (o : ArithmeticVvOp) (d a b : ℕ) → IsAnyGroup g d → IsAnyGroup g a → IsAnyGroup g b → Line w (Vector (v.ArithmeticVv o d a b true) ∷ []) f m (write_group f d (f vl_number) (λ k. op.arithmetic_vv o 32 (held f a k) (held f b k))) m
+  pub arithmetic-vv : (o : ArithmeticVvOp) (d a b : ℕ) → IsAnyGroup g d → IsAnyGroup g a → IsAnyGroup g b
+      → Line w (Vector (v.ArithmeticVv o d a b true) ∷ []) f m (write_group f d (f vl_number) (λ k. op.arithmetic_vv o 32 (held f a k) (held f b k))) m
   arithmetic-vv o d a b id ia ib =
-      sets (v.ArithmeticVv o d a b true) d (λ h. zip_with (op.arithmetic_vv o (width (vectors_of h))) (of_group (vectors_of h) a) (of_group (vectors_of h) b)) (λ k. op.arithmetic_vv o 32 (held f a k) (held f b k)) id
+      sets (v.ArithmeticVv o d a b true) d (λ h. zip_with (op.arithmetic_vv o (width (vectors_of h))) (of_group (vectors_of h) a) (of_group (vectors_of h) b))
+      (λ k. op.arithmetic_vv o 32 (held f a k) (held f b k)) id
       refl refl (λ h. refl) (id, (ia, (ib, tt))) refl (λ h. refl) (λ h read. refl)
-      (λ at h s. subst (λ x. Lists (4 * g) (zip_with (op.arithmetic_vv o x) (of_group (vectors_of h) a) (of_group (vectors_of h) b)) (λ k. op.arithmetic_vv o 32 (held f a k) (held f b k))) (sym (width-is at g f h s c))
+      (λ at h s. subst (λ x. Lists (4 * g) (zip_with (op.arithmetic_vv o x) (of_group (vectors_of h) a) (of_group (vectors_of h) b)) (λ k. op.arithmetic_vv o 32
+      (held f a k) (held f b k))) (sym (width-is at g f h s c))
       (zipped (op.arithmetic_vv o 32) (4 * g) _ _ _ _ (of-any-group at g f h s c a ia) (of-any-group at g f h s c b ib)))
       (λ at h s k lk. vv-below o _ _ (held-below at g f h s c a k ia lk) (held-below at g f h s c b k ib lk))
 
-  pub arithmetic-vx : (o : ArithmeticVxOp) (d a r : ℕ) → IsAnyGroup g d → IsAnyGroup g a → r < 32 → Line w (Vector (v.ArithmeticVx o d a r true) ∷ []) f m (write_group f d (f vl_number) (λ k. op.arithmetic_vx o 32 (held f a k) (f r % 2 ^ 32))) m
+  pub arithmetic-vx : (o : ArithmeticVxOp) (d a r : ℕ) → IsAnyGroup g d → IsAnyGroup g a → r < 32
+      → Line w (Vector (v.ArithmeticVx o d a r true) ∷ []) f m (write_group f d (f vl_number) (λ k. op.arithmetic_vx o 32 (held f a k) (f r % 2 ^ 32))) m
   arithmetic-vx o d a r id ia lr =
-      sets (v.ArithmeticVx o d a r true) d (λ h. zip_with (op.arithmetic_vx o (width (vectors_of h))) (of_group (vectors_of h) a) (of_scalar (vectors_of h) (register h r))) (λ k. op.arithmetic_vx o 32 (held f a k) (f r % 2 ^ 32)) id
+      sets (v.ArithmeticVx o d a r true) d (λ h. zip_with (op.arithmetic_vx o (width (vectors_of h))) (of_group (vectors_of h) a) (of_scalar (vectors_of h)
+      (register h r))) (λ k. op.arithmetic_vx o 32 (held f a k) (f r % 2 ^ 32)) id
       refl refl (λ h. refl) (id, (ia, tt)) refl (λ h. refl) (λ h read. refl)
-      (λ at h s. subst (λ x. Lists (4 * g) (zip_with (op.arithmetic_vx o x) (of_group (vectors_of h) a) (of_scalar (vectors_of h) (register h r))) (λ k. op.arithmetic_vx o 32 (held f a k) (f r % 2 ^ 32))) (sym (width-is at g f h s c))
+      (λ at h s. subst (λ x. Lists (4 * g) (zip_with (op.arithmetic_vx o x) (of_group (vectors_of h) a) (of_scalar (vectors_of h) (register h r)))
+      (λ k. op.arithmetic_vx o 32 (held f a k) (f r % 2 ^ 32))) (sym (width-is at g f h s c))
       (zipped (op.arithmetic_vx o 32) (4 * g) _ _ _ _ (of-any-group at g f h s c a ia) (of-scalar at g f h s c r lr)))
       (λ at h s k lk. vx-below o _ _ (held-below at g f h s c a k ia lk) (rest-below (f r)))
 
-  pub multiply-vx : (o : MultiplyOp) (d a r : ℕ) → IsAnyGroup g d → IsAnyGroup g a → r < 32 → Line w (Vector (v.MultiplyVx o d a r true) ∷ []) f m (write_group f d (f vl_number) (λ k. op.multiply o 32 (held f a k) (f r % 2 ^ 32))) m
+  pub multiply-vx : (o : MultiplyOp) (d a r : ℕ) → IsAnyGroup g d → IsAnyGroup g a → r < 32
+      → Line w (Vector (v.MultiplyVx o d a r true) ∷ []) f m (write_group f d (f vl_number) (λ k. op.multiply o 32 (held f a k) (f r % 2 ^ 32))) m
   multiply-vx o d a r id ia lr =
-      sets (v.MultiplyVx o d a r true) d (λ h. zip_with (op.multiply o (width (vectors_of h))) (of_group (vectors_of h) a) (of_scalar (vectors_of h) (register h r))) (λ k. op.multiply o 32 (held f a k) (f r % 2 ^ 32)) id
+      sets (v.MultiplyVx o d a r true) d (λ h. zip_with (op.multiply o (width (vectors_of h))) (of_group (vectors_of h) a) (of_scalar (vectors_of h)
+      (register h r))) (λ k. op.multiply o 32 (held f a k) (f r % 2 ^ 32)) id
       refl refl (λ h. refl) (id, (ia, tt)) refl (λ h. refl) (λ h read. refl)
-      (λ at h s. subst (λ x. Lists (4 * g) (zip_with (op.multiply o x) (of_group (vectors_of h) a) (of_scalar (vectors_of h) (register h r))) (λ k. op.multiply o 32 (held f a k) (f r % 2 ^ 32))) (sym (width-is at g f h s c))
+      (λ at h s. subst (λ x. Lists (4 * g) (zip_with (op.multiply o x) (of_group (vectors_of h) a) (of_scalar (vectors_of h) (register h r)))
+      (λ k. op.multiply o 32 (held f a k) (f r % 2 ^ 32))) (sym (width-is at g f h s c))
       (zipped (op.multiply o 32) (4 * g) _ _ _ _ (of-any-group at g f h s c a ia) (of-scalar at g f h s c r lr)))
       (λ at h s k lk. multiply-below o _ _ (held-below at g f h s c a k ia lk) (rest-below (f r)))
 
-  pub shift-vi : (o : ShiftViOp) (d a n : ℕ) → IsAnyGroup g d → IsAnyGroup g a → Line w (Vector (v.ShiftVi o d a n true) ∷ []) f m (write_group f d (f vl_number) (λ k. op.shift_vi o 32 (held f a k) n)) m
+  pub shift-vi : (o : ShiftViOp) (d a n : ℕ) → IsAnyGroup g d → IsAnyGroup g a
+      → Line w (Vector (v.ShiftVi o d a n true) ∷ []) f m (write_group f d (f vl_number) (λ k. op.shift_vi o 32 (held f a k) n)) m
   shift-vi o d a n id ia =
-      sets (v.ShiftVi o d a n true) d (λ h. zip_with (op.shift_vi o (width (vectors_of h))) (of_group (vectors_of h) a) (replicate (count (vectors_of h)) n)) (λ k. op.shift_vi o 32 (held f a k) n) id
+      sets (v.ShiftVi o d a n true) d (λ h. zip_with (op.shift_vi o (width (vectors_of h))) (of_group (vectors_of h) a) (replicate (count (vectors_of h)) n))
+      (λ k. op.shift_vi o 32 (held f a k) n) id
       refl refl (λ h. refl) (id, (ia, tt)) refl (λ h. refl) (λ h read. refl)
-      (λ at h s. subst (λ x. Lists (4 * g) (zip_with (op.shift_vi o x) (of_group (vectors_of h) a) (replicate (count (vectors_of h)) n)) (λ k. op.shift_vi o 32 (held f a k) n)) (sym (width-is at g f h s c))
+      (λ at h s. subst (λ x. Lists (4 * g) (zip_with (op.shift_vi o x) (of_group (vectors_of h) a) (replicate (count (vectors_of h)) n))
+      (λ k. op.shift_vi o 32 (held f a k) n)) (sym (width-is at g f h s c))
       (zipped (op.shift_vi o 32) (4 * g) _ _ _ _ (of-any-group at g f h s c a ia) (alike (4 * g) (count (vectors_of h)) n (count-is at g f h s c))))
       (λ at h s k lk. shift-below o _ _ (held-below at g f h s c a k ia lk))
 

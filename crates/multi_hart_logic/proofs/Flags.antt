@@ -31,7 +31,8 @@ module _ (at g : ℕ) (f : ℕ → ℕ) (h : HartState) (a : At at f h) (c : Lan
   unfolding active
   flag k l =
       let q : k < count (vectors_of h) = (let e = count-is at g f h a c in omega (arith, e, l)) in
-      get_or-map-range_with_len (λ i. is_active h.vl true old (0 + i)) 0 (count (vectors_of h)) k k false q (omega arith) ∙ (let e : 0 + k ≡ k = omega arith in ap (is_active h.vl true old) e)
+      get_or-map-range_with_len (λ i. is_active h.vl true old (0 + i)) 0 (count (vectors_of h)) k k false q (omega arith)
+      ∙ (let e : 0 + k ≡ k = omega arith in ap (is_active h.vl true old) e)
 
   pub flag-on : (k : ℕ) → k < f 32 → get_or flags k false ≡ true
   flag-on k s =
@@ -65,7 +66,8 @@ first-chosen i (suc n) (false ∷ bs) (x ∷ xs) F p q on off e = absurd (let t 
 first-chosen i (suc n) (true ∷ bs) (x ∷ xs) F p q on off e =
     let here : x ≡ F i = e 0 (omega arith) ∙ (let z : i + 0 ≡ i = omega arith in ap F z) in
     ap (λ y. y ∷ chosen_of bs xs) here
-    ∙ ap (λ ys. F i ∷ ys) (first-chosen (suc i) n bs xs F (omega (arith, p)) (omega (arith, q)) (λ j l. on (suc j) (omega (arith, l))) (λ j l. off (suc j) (omega (arith, l)))
+    ∙ ap (λ ys. F i ∷ ys) (first-chosen (suc i) n bs xs F (omega (arith, p)) (omega (arith, q)) (λ j l. on (suc j) (omega (arith, l)))
+    (λ j l. off (suc j) (omega (arith, l)))
     (λ j l. e (suc j) (omega (arith, l)) ∙ (let z : i + suc j ≡ suc i + j = omega arith in ap F z)))
 
 -- ---- values of a function
@@ -73,7 +75,8 @@ first-chosen i (suc n) (true ∷ bs) (x ∷ xs) F p q on off e =
 pub firsts-same : (i n : ℕ) (f g : ℕ → ℕ) → ((k : ℕ) → i ≤ k → k < i + n → f k ≡ g k) → firsts i n f ≡ firsts i n g
 firsts-same i zero f g e = refl
 firsts-same i (suc n) f g e =
-    ap (λ z. z ∷ firsts (suc i) n f) (e i (omega arith) (omega arith)) ∙ ap (λ z. g i ∷ z) (firsts-same (suc i) n f g (λ k a b. e k (omega (arith, a)) (omega (arith, b))))
+    ap (λ z. z ∷ firsts (suc i) n f) (e i (omega arith) (omega arith))
+    ∙ ap (λ z. g i ∷ z) (firsts-same (suc i) n f g (λ k a b. e k (omega (arith, a)) (omega (arith, b))))
 
 pub map-firsts : (i n : ℕ) (f : ℕ → ℕ) (g : ℕ → ℕ) → map g (firsts i n f) ≡ firsts i n (λ k. g (f k))
 map-firsts i zero f g = refl

@@ -1,5 +1,6 @@
 -- Vector rows that load lanes of 32 bits.
-use Rattle.std.proofs.Common.{◌≡◌, ℕ, zero, suc, ◌+◌, ◌*◌, ◌%◌, ◌^◌, ◌<◌, ◌≤◌, List, [], ◌∷◌, length, get_or, None, Some, Bool, true, false, refl, ap, ◌∙◌, sym, subst, arith, inl, inr, length-set}
+use Rattle.std.proofs.Common.{◌≡◌, ℕ, zero, suc, ◌+◌, ◌*◌, ◌%◌, ◌^◌, ◌<◌, ◌≤◌, List, [], ◌∷◌, length, get_or, None, Some, Bool, true, false, refl, ap, ◌∙◌, sym}
+use Rattle.std.proofs.Common.{subst, arith, inl, inr, length-set}
 use Rattle.std.specs.Prelude.{◌⊎◌, ◌≢◌, ◌/◌, ◌-◌, cond, map, replicate}
 use Rattle.std.proofs.Math.Nat.{mod-eq_of_lt}
 use Rattle.std.proofs.lemmas.Bool.{cases_eq, cases_lt}
@@ -88,22 +89,27 @@ peeled P n (a ∷ b ∷ c ∷ []) e all = absurd (omega (arith, e))
 peeled P n (a ∷ b ∷ c ∷ d ∷ xs) e all = all a b c d xs (omega (arith, e))
 
 -- what holds of any 16 bytes holds of a list of 16
-pub sixteen : (P : List ℕ → Type 0) (xs : List ℕ) → length xs ≡ 16 → ((b0 b1 b2 b3 b4 b5 b6 b7 b8 b9 b10 b11 b12 b13 b14 b15 : ℕ) → P (b0 ∷ b1 ∷ b2 ∷ b3 ∷ b4 ∷ b5 ∷ b6 ∷ b7 ∷ b8 ∷ b9 ∷ b10 ∷ b11 ∷ b12 ∷ b13 ∷ b14 ∷ b15 ∷ [])) → P xs
+pub sixteen : (P : List ℕ → Type 0) (xs : List ℕ) → length xs ≡ 16 → ((b0 b1 b2 b3 b4 b5 b6 b7 b8 b9 b10 b11 b12 b13 b14 b15 : ℕ)
+    → P (b0 ∷ b1 ∷ b2 ∷ b3 ∷ b4 ∷ b5 ∷ b6 ∷ b7 ∷ b8 ∷ b9 ∷ b10 ∷ b11 ∷ b12 ∷ b13 ∷ b14 ∷ b15 ∷ [])) → P xs
 sixteen P xs e all =
     peeled P 12 xs e (λ b0 b1 b2 b3 ys l.
     peeled (λ z. P (b0 ∷ b1 ∷ b2 ∷ b3 ∷ z)) 8 ys l (λ b4 b5 b6 b7 ys' l'.
     peeled (λ z. P (b0 ∷ b1 ∷ b2 ∷ b3 ∷ b4 ∷ b5 ∷ b6 ∷ b7 ∷ z)) 4 ys' l' (λ b8 b9 b10 b11 ys'' l''.
     peeled (λ z. P (b0 ∷ b1 ∷ b2 ∷ b3 ∷ b4 ∷ b5 ∷ b6 ∷ b7 ∷ b8 ∷ b9 ∷ b10 ∷ b11 ∷ z)) 0 ys'' l'' (λ b12 b13 b14 b15 none l3.
-    subst (λ z. P (b0 ∷ b1 ∷ b2 ∷ b3 ∷ b4 ∷ b5 ∷ b6 ∷ b7 ∷ b8 ∷ b9 ∷ b10 ∷ b11 ∷ b12 ∷ b13 ∷ b14 ∷ b15 ∷ z)) (sym (empty none l3)) (all b0 b1 b2 b3 b4 b5 b6 b7 b8 b9 b10 b11 b12 b13 b14 b15)))))
+    subst (λ z. P (b0 ∷ b1 ∷ b2 ∷ b3 ∷ b4 ∷ b5 ∷ b6 ∷ b7 ∷ b8 ∷ b9 ∷ b10 ∷ b11 ∷ b12 ∷ b13 ∷ b14 ∷ b15 ∷ z)) (sym (empty none l3)) (all b0 b1 b2 b3 b4 b5 b6 b7
+    b8 b9 b10 b11 b12 b13 b14 b15)))))
 
 written-length : (xs : List ℕ) (j n : ℕ) → length xs ≡ 16 → j < 4 → length (with_element 32 xs j n) ≡ 16
-written-length xs j n e l = sixteen (λ z. length (with_element 32 z j n) ≡ 16) xs e (λ b0 b1 b2 b3 b4 b5 b6 b7 b8 b9 b10 b11 b12 b13 b14 b15. sixteen-length b0 b1 b2 b3 b4 b5 b6 b7 b8 b9 b10 b11 b12 b13 b14 b15 j n l)
+written-length xs j n e l = sixteen (λ z. length (with_element 32 z j n) ≡ 16) xs e (λ b0 b1 b2 b3 b4 b5 b6 b7 b8 b9 b10 b11 b12 b13 b14 b15. sixteen-length b0
+    b1 b2 b3 b4 b5 b6 b7 b8 b9 b10 b11 b12 b13 b14 b15 j n l)
 
 written-new : (xs : List ℕ) (j n : ℕ) → length xs ≡ 16 → j < 4 → element 32 (with_element 32 xs j n) j ≡ n % 2 ^ 32
-written-new xs j n e l = sixteen (λ z. element 32 (with_element 32 z j n) j ≡ n % 2 ^ 32) xs e (λ b0 b1 b2 b3 b4 b5 b6 b7 b8 b9 b10 b11 b12 b13 b14 b15. sixteen-new b0 b1 b2 b3 b4 b5 b6 b7 b8 b9 b10 b11 b12 b13 b14 b15 j n l)
+written-new xs j n e l = sixteen (λ z. element 32 (with_element 32 z j n) j ≡ n % 2 ^ 32) xs e (λ b0 b1 b2 b3 b4 b5 b6 b7 b8 b9 b10 b11 b12 b13 b14 b15.
+    sixteen-new b0 b1 b2 b3 b4 b5 b6 b7 b8 b9 b10 b11 b12 b13 b14 b15 j n l)
 
 written-old : (xs : List ℕ) (j k n : ℕ) → length xs ≡ 16 → j < 4 → k < 4 → k ≢ j → element 32 (with_element 32 xs j n) k ≡ element 32 xs k
-written-old xs j k n e l q ne = sixteen (λ z. element 32 (with_element 32 z j n) k ≡ element 32 z k) xs e (λ b0 b1 b2 b3 b4 b5 b6 b7 b8 b9 b10 b11 b12 b13 b14 b15. sixteen-old b0 b1 b2 b3 b4 b5 b6 b7 b8 b9 b10 b11 b12 b13 b14 b15 j k n l q ne)
+written-old xs j k n e l q ne = sixteen (λ z. element 32 (with_element 32 z j n) k ≡ element 32 z k) xs e (λ b0 b1 b2 b3 b4 b5 b6 b7 b8 b9 b10 b11 b12 b13 b14
+    b15. sixteen-old b0 b1 b2 b3 b4 b5 b6 b7 b8 b9 b10 b11 b12 b13 b14 b15 j k n l q ne)
 
 written-bytes : (xs : List ℕ) (j n : ℕ) → AreBytes xs → AreBytes (with_element 32 xs j n)
 written-bytes xs j n b = append-bytes _ _ (append-bytes _ _ (take-bytes (j * 4) xs b) (lowest-bytes 4 n)) (drop-bytes (j * 4 + 4) xs b)
@@ -228,29 +234,40 @@ filled-at : (at d i k : ℕ) (f : ℕ → ℕ) (h : HartState) (flags : List Boo
     → ((j : ℕ) → j < k → get_or flags j false ≡ true) → ((j : ℕ) → k ≤ j → get_or flags j false ≡ false)
     → At at (fill f d i k x) (with_vectors h (filled_from i (vectors_of h) 32 d flags (firsts i k x)))
 unfolding fill
-filled-at at d i zero f h flags x a low fits long on off = subst (λ s. At at f (with_vectors h s)) (sym (none-filled i 32 d (vectors_of h) flags (λ j. off j (omega arith)))) a
+filled-at at d i zero f h flags x a low fits long on off = subst (λ s. At at f (with_vectors h s))
+    (sym (none-filled i 32 d (vectors_of h) flags (λ j. off j (omega arith)))) a
 filled-at at d i (suc k) f h [] x a low fits long on off = absurd (omega (arith, long))
 filled-at at d i (suc k) f h (false ∷ flags) x a low fits long on off = absurd (let t : false ≡ true = on 0 (omega arith) in cc t)
 filled-at at d i (suc k) f h (true ∷ flags) x a low fits long on off =
     let next = with_vectors h (with_element_from (vectors_of h) 32 d i (x i)) in
     let e : suc i ≡ i + 1 = omega arith in
-    subst (λ y. At at (fill (update f (lane d i) (x i % 2 ^ 32)) d (suc i) k x) (with_vectors h (filled_from y (with_element_from (vectors_of h) 32 d i (x i)) 32 d flags (firsts (suc i) k x)))) e
-    (filled-at at d (suc i) k (update f (lane d i) (x i % 2 ^ 32)) next flags x (lane-written at f h d i (x i) a low (omega (arith, fits))) low (omega (arith, fits)) (omega (arith, long))
+    subst (λ y. At at (fill (update f (lane d i) (x i % 2 ^ 32)) d (suc i) k x) (with_vectors h (filled_from y (with_element_from (vectors_of h) 32 d i (x i))
+    32 d flags (firsts (suc i) k x)))) e
+    (filled-at at d (suc i) k (update f (lane d i) (x i % 2 ^ 32)) next flags x (lane-written at f h d i (x i) a low (omega (arith, fits))) low
+    (omega (arith, fits)) (omega (arith, long))
     (λ j l. on (suc j) (omega (arith, l))) (λ j l. off (suc j) (omega (arith, l))))
 
 -- ---- rows
 
-pub numbers-read : (text m : List ℕ) (size : Size) (i n : ℕ) (a : ℕ → ℕ) → map (number_at text m) (map (access_at size) (firsts i n a)) ≡ firsts i n (λ k. number_in text m size (a k))
+pub numbers-read : (text m : List ℕ) (size : Size) (i n : ℕ) (a : ℕ → ℕ) → map (number_at text m) (map (access_at size) (firsts i n a))
+    ≡ firsts i n (λ k. number_in text m size (a k))
 numbers-read text m size i zero a = refl
 numbers-read text m size i (suc n) a = ap (λ z. number_in text m size (a i) ∷ z) (numbers-read text m size (suc i) n a)
 
-load-legal : (at g : ℕ) (f : ℕ → ℕ) (h : HartState) → At at f h → LanesConfigured f g → (addressing : Addressing) (d b : ℕ) → IsGroup g d → OffsetsFit g addressing → is_refused (v.LoadElements widths.Bits32 d b addressing true) (vectors_of h) ≡ false
-load-legal at g f h s c addressings.UnitStride d b id fit = allowed at g f h s c (v.LoadElements widths.Bits32 d b addressings.UnitStride true) refl refl tt (fits-group at g f h s c d id)
-load-legal at g f h s c (addressings.Strided r) d b id fit = allowed at g f h s c (v.LoadElements widths.Bits32 d b (addressings.Strided r) true) refl refl tt (fits-group at g f h s c d id)
-load-legal at g f h s c (addressings.Indexed o) d b id fit = allowed at g f h s c (v.LoadElements widths.Bits32 d b (addressings.Indexed o) true) refl (same-width at g f h s c) (id, (fit, tt)) refl
+load-legal : (at g : ℕ) (f : ℕ → ℕ) (h : HartState) → At at f h → LanesConfigured f g → (addressing : Addressing) (d b : ℕ) → IsGroup g d
+    → OffsetsFit g addressing → is_refused (v.LoadElements widths.Bits32 d b addressing true) (vectors_of h) ≡ false
+load-legal at g f h s c addressings.UnitStride d b id fit = allowed at g f h s c (v.LoadElements widths.Bits32 d b addressings.UnitStride true) refl refl tt
+    (fits-group at g f h s c d id)
+load-legal at g f h s c (addressings.Strided r) d b id fit = allowed at g f h s c (v.LoadElements widths.Bits32 d b (addressings.Strided r) true) refl refl tt
+    (fits-group at g f h s c d id)
+load-legal at g f h s c (addressings.Indexed o) d b id fit = allowed at g f h s c (v.LoadElements widths.Bits32 d b (addressings.Indexed o) true) refl
+    (same-width at g f h s c) (id, (fit, tt)) refl
 
-pub loads : (w : World) (f : ℕ → ℕ) (m : List ℕ) → length m ≡ w.size → (g : ℕ) → LanesConfigured f g → (addressing : Addressing) (d b : ℕ) (a : ℕ → ℕ) → IsGroup g d → b < 32 → OffsetsFit g addressing → ((k : ℕ) → k < f vl_number → word.add 32 (f b) (offset_at f addressing k) ≡ a k) → AllReadable w Word (f vl_number) a
-    → Line w (Vector (v.LoadElements widths.Bits32 d b addressing true) ∷ []) f m (write_lanes f d (f vl_number) (λ k. number_in w.text m Word (a k) % 2 ^ 32)) m
+pub loads : (w : World) (f : ℕ → ℕ) (m : List ℕ) → length m ≡ w.size → (g : ℕ) → LanesConfigured f g → (addressing : Addressing) (d b : ℕ) (a : ℕ → ℕ)
+    → IsGroup g d → b < 32 → OffsetsFit g addressing → ((k : ℕ) → k < f vl_number → word.add 32 (f b) (offset_at f addressing k) ≡ a k)
+    → AllReadable w Word (f vl_number) a
+    → Line w (Vector (v.LoadElements widths.Bits32 d b addressing true) ∷ []) f m (write_lanes f d (f vl_number) (λ k. number_in w.text m Word (a k) % 2 ^ 32))
+    m
 loads w f m l g c addressing d b a id lb fit e can at s h st =
     let n = f vl_number in
     let x : ℕ → ℕ = λ k. number_in w.text m Word (a k) in
@@ -264,14 +281,19 @@ loads w f m l g c addressing d b a id lb fit e can at s h st =
     let most = c.fits in
     let seat = id.fits in
     let here : At at g' left = at-same at (fill f d 0 n x) g' left (fill-is f d n x)
-    (filled-at at d 0 n f h flags x st id.above_mask (omega (arith, most, seat)) (omega (arith, long, most)) (flag-on at g f h st c) (flag-off at g f h st c)) in
+    (filled-at at d 0 n f h flags x st id.above_mask (omega (arith, most, seat)) (omega (arith, long, most)) (flag-on at g f h st c) (flag-off at g f h st c))
+    in
     let el : (left.pc + 4) % 2 ^ 32 ≡ at + 4 = ap (λ p. (p + 4) % 2 ^ 32) here.pc ∙ mod-eq_of_lt (spot w.text (at + 4) [] s.1).low in
     let gone : At (at + 4) g' (advanced left) = subst (λ p. At (at + 4) g' (at_pc left p)) (sym el) (at-to at (at + 4) g' left here) in
-    let read : map (number_at w.text m) (map (access_at Word) places) ≡ firsts 0 n x = ap (λ q. map (number_at w.text m) (map (access_at Word) q)) there ∙ numbers-read w.text m Word 0 n a in
+    let read : map (number_at w.text m) (map (access_at Word) places) ≡ firsts 0 n x = ap (λ q. map (number_at w.text m) (map (access_at Word) q)) there
+    ∙ numbers-read w.text m Word 0 n a in
     in-front w (Comes (at + 4) g' m) 0 at (Vector (v.LoadElements widths.Bits32 d b addressing true)) h m l st.running st.pc s.0
-    (ap (λ t. or_else (cond t (Some IllegalInstruction) None) (or_else (first_fault (length w.text) w.size Reads (map (access_at Word) places)) None)) (load-legal at g f h st c addressing d b id fit)
+    (ap (λ t. or_else (cond t (Some IllegalInstruction) None) (or_else (first_fault (length w.text) w.size Reads (map (access_at Word) places)) None))
+    (load-legal at g f h st c addressing d b id fit)
     ∙ ap (λ q. or_else (first_fault (length w.text) w.size Reads (map (access_at Word) q)) None) there
-    ∙ ap (λ t. or_else t None) (all-free (length w.text) w.size Reads Word 0 n a (λ k lo hi. let lk : k < n = omega (arith, hi) in load-free Word (length w.text) w.size (a k) (can.aligned k lk) (can.above k lk) (can.below k lk))))
-    (subst (λ q. Within (λ y. MayRead w.job w.hart (w.uses y)) (touched (map (access_at Word) q))) (sym there) (all-within (λ y. MayRead w.job w.hart (w.uses y)) Word 0 n a (λ k lo hi. can.may k (omega (arith, hi)))))
+    ∙ ap (λ t. or_else t None) (all-free (length w.text) w.size Reads Word 0 n a (λ k lo hi. let lk : k < n = omega (arith, hi) in
+    load-free Word (length w.text) w.size (a k) (can.aligned k lk) (can.above k lk) (can.below k lk))))
+    (subst (λ q. Within (λ y. MayRead w.job w.hart (w.uses y)) (touched (map (access_at Word) q))) (sym there)
+    (all-within (λ y. MayRead w.job w.hart (w.uses y)) Word 0 n a (λ k lo hi. can.may k (omega (arith, hi)))))
     tt (keeps-none w)
     (subst (λ r. At (at + 4) g' (advanced (with_vectors h (filled_from 0 (vectors_of h) 32 d flags r)))) (sym read) gone, refl)

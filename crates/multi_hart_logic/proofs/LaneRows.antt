@@ -1,5 +1,6 @@
 -- What a vector row that writes lanes of 32 bits, unmasked, leaves of the numbers that a hart holds.
-use Rattle.std.proofs.Common.{◌≡◌, ℕ, zero, suc, ◌+◌, ◌-◌, ◌*◌, ◌%◌, ◌^◌, ◌<◌, ◌≤◌, List, [], ◌∷◌, length, get_or, Bool, true, false, refl, ap, ◌∙◌, sym, subst, arith, inl, inr}
+use Rattle.std.proofs.Common.{◌≡◌, ℕ, zero, suc, ◌+◌, ◌-◌, ◌*◌, ◌%◌, ◌^◌, ◌<◌, ◌≤◌, List, [], ◌∷◌, length, get_or, Bool, true, false, refl, ap, ◌∙◌, sym, subst}
+use Rattle.std.proofs.Common.{arith, inl, inr}
 use Rattle.std.specs.Prelude.{◌⊎◌, ◌/◌, ◌&&◌, slice_index_or, slice_set, slice_index, replicate, take, drop, map, cond, nat_lt, nat_le}
 use Rattle.std.specs.List.{flat_map, range_with_len}
 use Rattle.std.proofs.Math.Nat.{mod-eq_of_lt}
@@ -36,7 +37,8 @@ four-bytes a b c d = all-bytes (a ∷ b ∷ c ∷ d ∷ [])
 abbrev pub Shape : List ℕ → Type 0
 Shape bytes = (length bytes ≡ 16) × AreBytes bytes
 
-group-shape : (state : Vectors) (v g : ℕ) (xs : List ℕ) (u : ℕ) → length state.registers ≡ 32 → v + g ≤ 32 → length xs ≡ 4 * g → v ≤ u → u < v + g → Shape (register (with_registers state 32 v g xs) u)
+group-shape : (state : Vectors) (v g : ℕ) (xs : List ℕ) (u : ℕ) → length state.registers ≡ 32 → v + g ≤ 32 → length xs ≡ 4 * g → v ≤ u → u < v + g
+    → Shape (register (with_registers state 32 v g xs) u)
 group-shape state v zero xs u size fits length-is lo hi = absurd (omega (arith, lo, hi))
 group-shape state v (suc g) [] u size fits length-is lo hi = absurd (omega (arith, length-is))
 group-shape state v (suc g) (a ∷ []) u size fits length-is lo hi = absurd (omega (arith, length-is))
@@ -47,8 +49,10 @@ group-shape state v (suc g) (a ∷ b ∷ c ∷ d ∷ rest) u size fits length-is
     let new = register_of 32 (a ∷ b ∷ c ∷ d ∷ []) in
     let there : v < length inner.registers = let q = size-stays state (v + 1) g rest in omega (arith, q, size, fits) in
     elim (cases_eq u v) [
-      | inl e ↦ subst Shape (sym (ap (λ n. slice_index_or (slice_set inner.registers v new) n (replicate 16 0)) e ∙ index-same inner.registers v new (replicate 16 0) there)) (refl, four-bytes a b c d)
-      | inr n ↦ subst Shape (sym (index-other inner.registers v u new (replicate 16 0) n)) (group-shape state (v + 1) g rest u size (omega (arith, fits)) (omega (arith, length-is)) (omega (arith, lo, n)) (omega (arith, hi)))
+      | inl e ↦ subst Shape (sym (ap (λ n. slice_index_or (slice_set inner.registers v new) n (replicate 16 0)) e
+          ∙ index-same inner.registers v new (replicate 16 0) there)) (refl, four-bytes a b c d)
+      | inr n ↦ subst Shape (sym (index-other inner.registers v u new (replicate 16 0) n)) (group-shape state (v + 1) g rest u size (omega (arith, fits))
+          (omega (arith, length-is)) (omega (arith, lo, n)) (omega (arith, hi)))
     ]
 
 pub vl-stays : (state : Vectors) (v g : ℕ) (xs : List ℕ) → (with_registers state 32 v g xs).vl ≡ state.vl
@@ -101,13 +105,15 @@ merged-length (t ∷ bs) (x ∷ xs) [] n a b c = absurd (omega (arith, a, c))
 merged-length (t ∷ bs) (x ∷ xs) (y ∷ ys) zero a b c = absurd (omega (arith, a))
 merged-length (t ∷ bs) (x ∷ xs) (y ∷ ys) (suc n) a b c = ap suc (merged-length bs xs ys n (omega (arith, a)) (omega (arith, b)) (omega (arith, c)))
 
-pub merged-get : (bs : List Bool) (xs ys : List ℕ) (n k : ℕ) → length bs ≡ n → length xs ≡ n → length ys ≡ n → k < n → get_or (merged bs xs ys) k 0 ≡ cond (get_or bs k false) (get_or xs k 0) (get_or ys k 0)
+pub merged-get : (bs : List Bool) (xs ys : List ℕ) (n k : ℕ) → length bs ≡ n → length xs ≡ n → length ys ≡ n → k < n
+    → get_or (merged bs xs ys) k 0 ≡ cond (get_or bs k false) (get_or xs k 0) (get_or ys k 0)
 merged-get [] xs ys n k a b c l = absurd (omega (arith, a, l))
 merged-get (t ∷ bs) [] ys n k a b c l = absurd (omega (arith, a, b))
 merged-get (t ∷ bs) (x ∷ xs) [] n k a b c l = absurd (omega (arith, a, c))
 merged-get (t ∷ bs) (x ∷ xs) (y ∷ ys) n zero a b c l = refl
 merged-get (t ∷ bs) (x ∷ xs) (y ∷ ys) zero (suc k) a b c l = absurd (omega (arith, a))
-merged-get (t ∷ bs) (x ∷ xs) (y ∷ ys) (suc n) (suc k) a b c l = merged-get bs xs ys n k (omega (arith, a)) (omega (arith, b)) (omega (arith, c)) (omega (arith, l))
+merged-get (t ∷ bs) (x ∷ xs) (y ∷ ys) (suc n) (suc k) a b c l = merged-get bs xs ys n k (omega (arith, a)) (omega (arith, b)) (omega (arith, c))
+    (omega (arith, l))
 
 -- ---- numbers after lanes were written
 
@@ -132,7 +138,8 @@ lanes-above f d n new q l =
       | inr b ↦ let t : nat_le (lane d 0) q ≡ true = grind (arith, nat_tests, b) in rw t (rw u refl)
     ]
 
-module _ (at d g : ℕ) (f : ℕ → ℕ) (h : HartState) (news : List ℕ) (small : at + 4 < 2 ^ 32) (a : At at f h) (c : LanesConfigured f g) (fits : d + g ≤ 32) (length-is : length news ≡ 4 * g) (below : (i : ℕ) → i < f 32 → slice_index news i < 2 ^ 32) where
+module _ (at d g : ℕ) (f : ℕ → ℕ) (h : HartState) (news : List ℕ) (small : at + 4 < 2 ^ 32) (a : At at f h) (c : LanesConfigured f g) (fits : d + g ≤ 32)
+    (length-is : length news ≡ 4 * g) (below : (i : ℕ) → i < f 32 → slice_index news i < 2 ^ 32) where
   abbrev pub state : Vectors
   state = vectors_of h
 
@@ -154,7 +161,8 @@ module _ (at d g : ℕ) (f : ℕ → ℕ) (h : HartState) (news : List ℕ) (sma
 
   flag : (k : ℕ) → k < 4 * g → get_or flags k false ≡ nat_lt k h.vl && true
   unfolding active
-  flag k l = get_or-map-range_with_len (λ i. is_active h.vl true (register state 0) (0 + i)) 0 (4 * g) k k false l (omega arith) ∙ (let e : 0 + k ≡ k = omega arith in ap (is_active h.vl true (register state 0)) e)
+  flag k l = get_or-map-range_with_len (λ i. is_active h.vl true (register state 0) (0 + i)) 0 (4 * g) k k false l (omega arith)
+      ∙ (let e : 0 + k ≡ k = omega arith in ap (is_active h.vl true (register state 0)) e)
 
   old-length : length old ≡ 4 * g
   old-length = length-map-range_with_len (element_from state 32 d) 0 (4 * g)
@@ -207,7 +215,8 @@ module _ (at d g : ℕ) (f : ℕ → ℕ) (h : HartState) (news : List ℕ) (sma
             let t : nat_lt k h.vl ≡ false = let e = a.vl in grind (arith, nat_tests, e, s) in
             let q : d + k / 4 ≡ u = omega (arith, lo, few) in
             let r : k % 4 ≡ i = omega (arith, lo, few) in
-            let w : element_from state 32 d k ≡ element 32 (vector h u) i = ap (λ x. element 32 (register state x) (k % 4)) q ∙ ap (element 32 (register state u)) r ∙ ap (λ x. element 32 x i) (was u lu) in
+            let w : element_from state 32 d k ≡ element 32 (vector h u) i = ap (λ x. element 32 (register state x) (k % 4)) q
+            ∙ ap (element 32 (register state u)) r ∙ ap (λ x. element 32 x i) (was u lu) in
             first ∙ ap (λ n. n % 2 ^ 32) (mixed-get k l ∙ ap (λ b. cond (b && true) (get_or news k 0) (element_from state 32 d k)) t ∙ w)
             ∙ mod-eq_of_lt (element-below (vector h u) i (a.bytes u lu)) ∙ a.lanes u i low lu few
             ∙ sym (lanes-above f d (f 32) (slice_index news) (lane u i) (omega (arith, s, lo)))
@@ -215,10 +224,12 @@ module _ (at d g : ℕ) (f : ℕ → ℕ) (h : HartState) (news : List ℕ) (sma
 
   pub lanes-after : (u i : ℕ) → 1 ≤ u → u < 32 → i < 4 → element 32 (slice_index_or to.registers u []) i ≡ after (lane u i)
   lanes-after u i low l few = elim (cases_lt u d) [
-    | inl b ↦ ap (λ r. element 32 r i) (outside u l (inl b)) ∙ a.lanes u i low l few ∙ sym (lanes-below f d (f 32) (slice_index news) (lane u i) (omega (arith, b, few)))
+    | inl b ↦ ap (λ r. element 32 r i) (outside u l (inl b)) ∙ a.lanes u i low l few
+        ∙ sym (lanes-below f d (f 32) (slice_index news) (lane u i) (omega (arith, b, few)))
     | inr b ↦ elim (cases_lt u (d + g)) [
       | inl e ↦ inside u i low b e few
-      | inr e ↦ ap (λ r. element 32 r i) (outside u l (inr e)) ∙ a.lanes u i low l few ∙ sym (lanes-above f d (f 32) (slice_index news) (lane u i) (let m = c.fits in omega (arith, e, m)))
+      | inr e ↦ ap (λ r. element 32 r i) (outside u l (inr e)) ∙ a.lanes u i low l few
+          ∙ sym (lanes-above f d (f 32) (slice_index news) (lane u i) (let m = c.fits in omega (arith, e, m)))
     ]
   ]
 
@@ -234,16 +245,19 @@ module _ (at d g : ℕ) (f : ℕ → ℕ) (h : HartState) (news : List ℕ) (sma
     vl = vl-stays state d g mixed ∙ a.vl ∙ sym (lanes-below f d (f 32) (slice_index news) 32 (omega arith));
     vtype = vtype-stays state d g mixed ∙ a.vtype ∙ sym (lanes-below f d (f 32) (slice_index news) 33 (omega arith));
     lanes = lanes-after;
-    bits = λ i few. ap (λ r. one_if (mask_bit r i)) (outside 0 (omega arith) (inl from-one)) ∙ a.bits i few ∙ sym (lanes-above f d (f 32) (slice_index news) (bit i) (let m = c.fits in omega (arith, m, fits)));
+    bits = λ i few. ap (λ r. one_if (mask_bit r i)) (outside 0 (omega arith) (inl from-one)) ∙ a.bits i few
+        ∙ sym (lanes-above f d (f 32) (slice_index news) (bit i) (let m = c.fits in omega (arith, m, fits)));
   }
 
   pub is-to : with_elements state d true news ≡ to
   is-to =
-      let F : ℕ → ℕ → ℕ → Vectors = λ w q k. with_registers state w d q (merged (active 0 k h.vl true (register state 0)) news (map (element_from state w d) (range_with_len 0 k))) in
+      let F : ℕ → ℕ → ℕ → Vectors = λ w q k. with_registers state w d q (merged (active 0 k h.vl true (register state 0)) news (map (element_from state w d)
+      (range_with_len 0 k))) in
       ap (λ w. F w (group_of h.vtype) (most_elements h.vtype)) (ap width_of a.vtype ∙ c.width)
       ∙ ap (λ q. F 32 q (most_elements h.vtype)) (ap group_of a.vtype ∙ c.group) ∙ ap (λ k. F 32 g k) (ap most_elements a.vtype ∙ c.most)
 
 pub lanes-given : LanesGiven
 lanes-given at d g f h news small a c from-one fits length-is below =
-    subst (λ v. At (at + 4) (write_lanes f d (f 32) (slice_index news)) (advanced (with_vectors h v))) (sym (is-to at d g f h news small a c fits length-is below))
+    subst (λ v. At (at + 4) (write_lanes f d (f 32) (slice_index news)) (advanced (with_vectors h v))) (sym (is-to at d g f h news small a c fits length-is
+    below))
     (there at d g f h news small a c fits length-is below from-one)

@@ -1,5 +1,6 @@
 -- Vector rows that write mask bits of v0, and those that choose lanes by them.
-use Rattle.std.proofs.Common.{◌≡◌, ℕ, zero, suc, ◌+◌, ◌-◌, ◌*◌, ◌/◌, ◌%◌, ◌^◌, ◌<◌, ◌≤◌, List, [], ◌∷◌, length, get_or, None, Some, Bool, true, false, refl, ap, ◌∙◌, sym, subst, arith, inl, inr, length-set}
+use Rattle.std.proofs.Common.{◌≡◌, ℕ, zero, suc, ◌+◌, ◌-◌, ◌*◌, ◌/◌, ◌%◌, ◌^◌, ◌<◌, ◌≤◌, List, [], ◌∷◌, length, get_or, None, Some, Bool, true, false, refl, ap}
+use Rattle.std.proofs.Common.{◌∙◌, sym, subst, arith, inl, inr, length-set}
 use Rattle.std.specs.Prelude.{◌==◌, ◌&&◌, if◌then◌else◌, cond, replicate, slice_set, nat_lt, nat_le, ℤ}
 use Rattle.std.proofs.Math.Nat.{mod-eq_of_lt}
 use Rattle.std.proofs.lemmas.Bool.{cases_lt, cases_eq}
@@ -22,7 +23,8 @@ use Rattle.multi_hart.specs.Run.{Within}
 use Rattle.hart_core.specs.Scalar.{one_if, kind_of, after}
 use Rattle.hart_core.specs.HartState.{HartState, register, vector, vectors_of, with_vectors, advanced}
 use Rattle.hart_core.specs.Turn.{fault}
-use Rattle.vector_unit.specs.Vector.{register as group_register, vlmul_of, vsew_of, of_group, of_scalar, of_immediate, width, count, with_bits, merged_by_mask, is_refused, overwrites_mask, fixed_width, is_other_width, groups_in, moved_in, is_unfit}
+use Rattle.vector_unit.specs.Vector.{register as group_register, vlmul_of, vsew_of, of_group, of_scalar, of_immediate, width, count, with_bits, merged_by_mask}
+use Rattle.vector_unit.specs.Vector.{is_refused, overwrites_mask, fixed_width, is_other_width, groups_in, moved_in, is_unfit}
 use Rattle.vector_unit.specs.Operations as op
 use Rattle.multi_hart_logic.specs.Alone.{World}
 use Rattle.multi_hart_logic.specs.Paths.{lane, bit, vl_number, vtype_number, write_lanes, write_bits, LanesConfigured, IsGroup, At, Line}
@@ -30,7 +32,8 @@ use Rattle.multi_hart_logic.proofs.Groups.{index-same, index-other}
 use Rattle.multi_hart_logic.proofs.LaneRows.{lanes-new, lanes-below, lanes-above, or-either, merged-length, merged-get}
 use Rattle.multi_hart_logic.proofs.LaneWords.{rest-below, wrapped-below, one-of}
 use Rattle.multi_hart_logic.proofs.Flags.{flags-length, flag-on, flag-off}
-use Rattle.multi_hart_logic.proofs.VectorRows.{Lists, zipped-length, zipped-get, width-is, count-is, of-group, of-scalar, of-immediate, lane-below, allowed, untrapped, leaves, sets}
+use Rattle.multi_hart_logic.proofs.VectorRows.{Lists, zipped-length, zipped-get, width-is, count-is, of-group, of-scalar, of-immediate, lane-below, allowed}
+use Rattle.multi_hart_logic.proofs.VectorRows.{untrapped, leaves, sets}
 
 -- ---- the bytes of a mask
 
@@ -60,7 +63,8 @@ mask-length i (false ∷ flags) (s ∷ bits) bytes = mask-length (i + 1) flags b
 
 -- ---- a hart whose mask bits were written
 
-module _ (at g : ℕ) (f : ℕ → ℕ) (h : HartState) (tests : List Bool) (T : ℕ → Bool) (small : at + 4 < 2 ^ 32) (a : At at f h) (c : LanesConfigured f g) (fits : 4 * g ≤ 128) (size : length tests ≡ 4 * g) (get : (k : ℕ) → k < 4 * g → get_or tests k false ≡ T k) where
+module _ (at g : ℕ) (f : ℕ → ℕ) (h : HartState) (tests : List Bool) (T : ℕ → Bool) (small : at + 4 < 2 ^ 32) (a : At at f h) (c : LanesConfigured f g)
+    (fits : 4 * g ≤ 128) (size : length tests ≡ 4 * g) (get : (k : ℕ) → k < 4 * g → get_or tests k false ≡ T k) where
   abbrev old : List ℕ
   old = group_register (vectors_of h) 0
 
@@ -164,7 +168,8 @@ module _ (w : World) (f : ℕ → ℕ) (m : List ℕ) (l : length m ≡ w.size) 
       → Line w (Vector i ∷ []) f m (write_bits f (f vl_number) (λ k. one_if (T k))) m
   sets-bits i tests T none keeps same placed moved is-fault is-after size get =
       leaves w f m l i (write_bits f (f vl_number) (λ k. one_if (T k))) (λ h. advanced (with_vectors h (with_bits (vectors_of h) 0 true (tests h)))) none
-      (λ at h a. untrapped at g f h a c (length w.text) w.size i (is-fault h) (allowed at g f h a c i keeps (same h) placed (ap (is_unfit (vectors_of h)) moved)))
+      (λ at h a. untrapped at g f h a c (length w.text) w.size i (is-fault h) (allowed at g f h a c i keeps (same h) placed (ap (is_unfit (vectors_of h))
+      moved)))
       is-after
       (λ at h low a. bits-given at g f h (tests h) T low a c (let q = few-registers f g c in omega (arith, q)) (size at h a) (get at h a))
 
@@ -176,7 +181,8 @@ module _ (w : World) (f : ℕ → ℕ) (m : List ℕ) (l : length m ≡ w.size) 
       → Within (IsGroup g) (groups_in i)
       → moved_in i ≡ None
       → ((h : HartState) → fault (length w.text) w.size (Vector i) h ≡ or_else (cond (is_refused i (vectors_of h)) (Some IllegalInstruction) None) None)
-      → ((h : HartState) (read : List ℕ) → after (Vector i) h read ≡ advanced (with_vectors h (with_bits (vectors_of h) 0 true (zip_with (o (width (vectors_of h))) (xs h) (ys h)))))
+      → ((h : HartState) (read : List ℕ)
+      → after (Vector i) h read ≡ advanced (with_vectors h (with_bits (vectors_of h) 0 true (zip_with (o (width (vectors_of h))) (xs h) (ys h)))))
       → ((at : ℕ) (h : HartState) → At at f h → Lists (4 * g) (xs h) F)
       → ((at : ℕ) (h : HartState) → At at f h → Lists (4 * g) (ys h) G)
       → Line w (Vector i ∷ []) f m (write_bits f (f vl_number) (λ k. one_if (o 32 (F k) (G k)))) m
@@ -187,21 +193,28 @@ module _ (w : World) (f : ℕ → ℕ) (m : List ℕ) (l : length m ≡ w.size) 
       let p = first at h s in
       let q = second at h s in
       zipped-get (o (width (vectors_of h))) false (xs h) (ys h) (4 * g) k p.size q.size lk
-      ∙ ap (λ n. o n (get_or (xs h) k 0) (get_or (ys h) k 0)) (width-is at g f h s c) ∙ ap (λ n. o 32 n (get_or (ys h) k 0)) (p.get k lk) ∙ ap (o 32 (F k)) (q.get k lk))
+      ∙ ap (λ n. o n (get_or (xs h) k 0) (get_or (ys h) k 0)) (width-is at g f h s c) ∙ ap (λ n. o 32 n (get_or (ys h) k 0)) (p.get k lk)
+      ∙ ap (o 32 (F k)) (q.get k lk))
 
-  pub compare-vv : (o : CompareVvOp) (a b : ℕ) → IsGroup g a → IsGroup g b → Line w (Vector (v.CompareVv o 0 a b true) ∷ []) f m (write_bits f (f vl_number) (λ k. one_if (op.compare_vv o 32 (f (lane a k)) (f (lane b k))))) m
+  pub compare-vv : (o : CompareVvOp) (a b : ℕ) → IsGroup g a → IsGroup g b
+      → Line w (Vector (v.CompareVv o 0 a b true) ∷ []) f m (write_bits f (f vl_number) (λ k. one_if (op.compare_vv o 32 (f (lane a k)) (f (lane b k))))) m
   compare-vv o a b ia ib =
-      compares (v.CompareVv o 0 a b true) (op.compare_vv o) (λ h. of_group (vectors_of h) a) (λ h. of_group (vectors_of h) b) (λ k. f (lane a k)) (λ k. f (lane b k))
+      compares (v.CompareVv o 0 a b true) (op.compare_vv o) (λ h. of_group (vectors_of h) a) (λ h. of_group (vectors_of h) b) (λ k. f (lane a k))
+      (λ k. f (lane b k))
       refl refl (λ h. refl) (ia, (ib, tt)) refl (λ h. refl) (λ h read. refl) (λ at h s. of-group at g f h s c a ia) (λ at h s. of-group at g f h s c b ib)
 
-  pub compare-vx : (o : CompareVxOp) (a r : ℕ) → IsGroup g a → r < 32 → Line w (Vector (v.CompareVx o 0 a r true) ∷ []) f m (write_bits f (f vl_number) (λ k. one_if (op.compare_vx o 32 (f (lane a k)) (f r % 2 ^ 32)))) m
+  pub compare-vx : (o : CompareVxOp) (a r : ℕ) → IsGroup g a → r < 32
+      → Line w (Vector (v.CompareVx o 0 a r true) ∷ []) f m (write_bits f (f vl_number) (λ k. one_if (op.compare_vx o 32 (f (lane a k)) (f r % 2 ^ 32)))) m
   compare-vx o a r ia lr =
-      compares (v.CompareVx o 0 a r true) (op.compare_vx o) (λ h. of_group (vectors_of h) a) (λ h. of_scalar (vectors_of h) (register h r)) (λ k. f (lane a k)) (λ k. f r % 2 ^ 32)
+      compares (v.CompareVx o 0 a r true) (op.compare_vx o) (λ h. of_group (vectors_of h) a) (λ h. of_scalar (vectors_of h) (register h r)) (λ k. f (lane a k))
+      (λ k. f r % 2 ^ 32)
       refl refl (λ h. refl) (ia, tt) refl (λ h. refl) (λ h read. refl) (λ at h s. of-group at g f h s c a ia) (λ at h s. of-scalar at g f h s c r lr)
 
-  pub compare-vi : (o : CompareViOp) (a : ℕ) (z : ℤ) → IsGroup g a → Line w (Vector (v.CompareVi o 0 a z true) ∷ []) f m (write_bits f (f vl_number) (λ k. one_if (op.compare_vi o 32 (f (lane a k)) (word.wrapped 32 z)))) m
+  pub compare-vi : (o : CompareViOp) (a : ℕ) (z : ℤ) → IsGroup g a
+      → Line w (Vector (v.CompareVi o 0 a z true) ∷ []) f m (write_bits f (f vl_number) (λ k. one_if (op.compare_vi o 32 (f (lane a k)) (word.wrapped 32 z)))) m
   compare-vi o a z ia =
-      compares (v.CompareVi o 0 a z true) (op.compare_vi o) (λ h. of_group (vectors_of h) a) (λ h. of_immediate (vectors_of h) z) (λ k. f (lane a k)) (λ k. word.wrapped 32 z)
+      compares (v.CompareVi o 0 a z true) (op.compare_vi o) (λ h. of_group (vectors_of h) a) (λ h. of_immediate (vectors_of h) z) (λ k. f (lane a k))
+      (λ k. word.wrapped 32 z)
       refl refl (λ h. refl) (ia, tt) refl (λ h. refl) (λ h read. refl) (λ at h s. of-group at g f h s c a ia) (λ at h s. of-immediate at g f h s c z)
 
   -- ---- lanes chosen by the mask
@@ -223,30 +236,37 @@ module _ (w : World) (f : ℕ → ℕ) (m : List ℕ) (l : length m ≡ w.size) 
             let within : k < count (vectors_of h) = omega (arith, e, lk) in
             let few : k < 128 = let n = few-registers f g c in omega (arith, n, lk) in
             let here : get_or (mask_bits 0 (count (vectors_of h)) old) k false ≡ mask_bit (vector h 0) k =
-            get_or-map-range_with_len (λ i. mask_bit old (0 + i)) 0 (count (vectors_of h)) k k false within (omega arith) ∙ (let z : 0 + k ≡ k = omega arith in ap (mask_bit old) z) ∙ ap (λ r. mask_bit r k) old-is in
+            get_or-map-range_with_len (λ i. mask_bit old (0 + i)) 0 (count (vectors_of h)) k k false within (omega arith)
+            ∙ (let z : 0 + k ≡ k = omega arith in ap (mask_bit old) z) ∙ ap (λ r. mask_bit r k) old-is in
             merged-get (mask_bits 0 (count (vectors_of h)) old) xs ys (4 * g) k size p.size q.size lk
             ∙ ap (λ t. cond t (get_or xs k 0) (get_or ys k 0)) here
             ∙ bit-choice (mask_bit (vector h 0) k) (f (bit k)) (get_or xs k 0) (get_or ys k 0) (s.bits k few)
             ∙ ap (λ n. if f (bit k) == 0 then n else get_or xs k 0) (q.get k lk) ∙ ap (λ n. if f (bit k) == 0 then G k else n) (p.get k lk);
       }
 
-  pub merge-vv : (d a b : ℕ) → IsGroup g d → IsGroup g a → IsGroup g b → Line w (Vector (v.MergeVv d a b) ∷ []) f m (write_lanes f d (f vl_number) (λ k. if f (bit k) == 0 then f (lane a k) else f (lane b k))) m
+  pub merge-vv : (d a b : ℕ) → IsGroup g d → IsGroup g a → IsGroup g b
+      → Line w (Vector (v.MergeVv d a b) ∷ []) f m (write_lanes f d (f vl_number) (λ k. if f (bit k) == 0 then f (lane a k) else f (lane b k))) m
   merge-vv d a b id ia ib =
-      sets w f m l g c (v.MergeVv d a b) d (λ h. merged_by_mask (vectors_of h) (of_group (vectors_of h) b) (of_group (vectors_of h) a)) (λ k. if f (bit k) == 0 then f (lane a k) else f (lane b k)) id
+      sets w f m l g c (v.MergeVv d a b) d (λ h. merged_by_mask (vectors_of h) (of_group (vectors_of h) b) (of_group (vectors_of h) a))
+      (λ k. if f (bit k) == 0 then f (lane a k) else f (lane b k)) id
       refl (off-mask d id) (λ at h s. refl) (id, (ia, (ib, tt))) refl (λ h. refl) (λ h read. refl)
       (λ at h s. chosen at h _ _ _ _ s (of-group at g f h s c b ib) (of-group at g f h s c a ia))
       (λ at h s k lk. one-of _ _ _ (lane-below at g f h s c a k ia lk) (lane-below at g f h s c b k ib lk))
 
-  pub merge-vx : (d a r : ℕ) → IsGroup g d → IsGroup g a → r < 32 → Line w (Vector (v.MergeVx d a r) ∷ []) f m (write_lanes f d (f vl_number) (λ k. if f (bit k) == 0 then f (lane a k) else f r % 2 ^ 32)) m
+  pub merge-vx : (d a r : ℕ) → IsGroup g d → IsGroup g a → r < 32
+      → Line w (Vector (v.MergeVx d a r) ∷ []) f m (write_lanes f d (f vl_number) (λ k. if f (bit k) == 0 then f (lane a k) else f r % 2 ^ 32)) m
   merge-vx d a r id ia lr =
-      sets w f m l g c (v.MergeVx d a r) d (λ h. merged_by_mask (vectors_of h) (of_scalar (vectors_of h) (register h r)) (of_group (vectors_of h) a)) (λ k. if f (bit k) == 0 then f (lane a k) else f r % 2 ^ 32) id
+      sets w f m l g c (v.MergeVx d a r) d (λ h. merged_by_mask (vectors_of h) (of_scalar (vectors_of h) (register h r)) (of_group (vectors_of h) a))
+      (λ k. if f (bit k) == 0 then f (lane a k) else f r % 2 ^ 32) id
       refl (off-mask d id) (λ at h s. refl) (id, (ia, tt)) refl (λ h. refl) (λ h read. refl)
       (λ at h s. chosen at h _ _ _ _ s (of-scalar at g f h s c r lr) (of-group at g f h s c a ia))
       (λ at h s k lk. one-of _ _ _ (lane-below at g f h s c a k ia lk) (rest-below (f r)))
 
-  pub merge-vi : (d a : ℕ) (z : ℤ) → IsGroup g d → IsGroup g a → Line w (Vector (v.MergeVi d a z) ∷ []) f m (write_lanes f d (f vl_number) (λ k. if f (bit k) == 0 then f (lane a k) else word.wrapped 32 z)) m
+  pub merge-vi : (d a : ℕ) (z : ℤ) → IsGroup g d → IsGroup g a
+      → Line w (Vector (v.MergeVi d a z) ∷ []) f m (write_lanes f d (f vl_number) (λ k. if f (bit k) == 0 then f (lane a k) else word.wrapped 32 z)) m
   merge-vi d a z id ia =
-      sets w f m l g c (v.MergeVi d a z) d (λ h. merged_by_mask (vectors_of h) (of_immediate (vectors_of h) z) (of_group (vectors_of h) a)) (λ k. if f (bit k) == 0 then f (lane a k) else word.wrapped 32 z) id
+      sets w f m l g c (v.MergeVi d a z) d (λ h. merged_by_mask (vectors_of h) (of_immediate (vectors_of h) z) (of_group (vectors_of h) a))
+      (λ k. if f (bit k) == 0 then f (lane a k) else word.wrapped 32 z) id
       refl (off-mask d id) (λ at h s. refl) (id, (ia, tt)) refl (λ h. refl) (λ h read. refl)
       (λ at h s. chosen at h _ _ _ _ s (of-immediate at g f h s c z) (of-group at g f h s c a ia))
       (λ at h s k lk. one-of _ _ _ (lane-below at g f h s c a k ia lk) (wrapped-below z))

@@ -43,9 +43,11 @@ module _ (w : World) (f : ℕ → ℕ) (m : List ℕ) (l : length m ≡ w.size) 
       gives (Alu op r a b) r (λ h. computed op (register h a) (register h b)) (computed op (f a) (f b)) low high refl (λ h. refl) (λ h read. refl)
       (λ at h s. ap (λ n. computed op n (register h b)) (s.same a la) ∙ ap (computed op (f a)) (s.same b lb))
 
-  pub alu-imm : (op : AluImmOp) (r a : ℕ) (z : ℤ) → 1 ≤ r → r < 32 → a < 32 → Line w (AluImm op r a z ∷ []) f m (update f r (computed_with_immediate op (f a) (extended z))) m
+  pub alu-imm : (op : AluImmOp) (r a : ℕ) (z : ℤ) → 1 ≤ r → r < 32 → a < 32
+      → Line w (AluImm op r a z ∷ []) f m (update f r (computed_with_immediate op (f a) (extended z))) m
   alu-imm op r a z low high la =
-      gives (AluImm op r a z) r (λ h. computed_with_immediate op (register h a) (extended z)) (computed_with_immediate op (f a) (extended z)) low high refl (λ h. refl) (λ h read. refl)
+      gives (AluImm op r a z) r (λ h. computed_with_immediate op (register h a) (extended z)) (computed_with_immediate op (f a) (extended z)) low high refl
+      (λ h. refl) (λ h read. refl)
       (λ at h s. ap (λ n. computed_with_immediate op n (extended z)) (s.same a la))
 
   pub shift : (op : ShiftOp) (r a n : ℕ) → 1 ≤ r → r < 32 → a < 32 → Line w (Shift op r a n ∷ []) f m (update f r (shifted op (f a) n)) m

@@ -40,10 +40,12 @@ says-word text i w insn there means = record { word = w; fetched = fetched-at te
 
 -- ---- a turn
 
-pub effect-does : (text : List ℕ) (size : ℕ) (memory : List ℕ) (hart : HartState) (next : Next) → length memory ≡ size → next_of text size hart ≡ next → effect text memory hart ≡ made text memory hart next
+pub effect-does : (text : List ℕ) (size : ℕ) (memory : List ℕ) (hart : HartState) (next : Next) → length memory ≡ size → next_of text size hart ≡ next
+    → effect text memory hart ≡ made text memory hart next
 effect-does text size memory hart next l e = ap (λ n. made text memory hart (next_of text n hart)) l ∙ ap (made text memory hart) e
 
-pub next-by : (text : List ℕ) (size : ℕ) (hart : HartState) (at : ℕ) (insn : Insn) → hart.status ≡ Running → hart.pc ≡ at → Says text at insn → fault (length text) size insn hart ≡ None → next_of text size hart ≡ Does insn
+pub next-by : (text : List ℕ) (size : ℕ) (hart : HartState) (at : ℕ) (insn : Insn) → hart.status ≡ Running → hart.pc ≡ at → Says text at insn
+    → fault (length text) size insn hart ≡ None → next_of text size hart ≡ Does insn
 next-by text size hart at insn r c w f =
     ap (λ st. if_running st (due (length text) size hart (fetched text hart.pc))) r
     ∙ ap (λ a. due (length text) size hart (fetched text a)) c
@@ -51,11 +53,14 @@ next-by text size hart at insn r c w f =
 
 -- what an instruction that makes no trap leaves
 abbrev pub left : World → List ℕ → HartState → Insn → HartState × List ℕ
-left world memory hart insn =
-    ((applied memory (done hart insn (numbers_read world.text memory hart insn))).hart, (applied memory (done hart insn (numbers_read world.text memory hart insn))).memory)
+left world memory hart insn = (
+  (applied memory (done hart insn (numbers_read world.text memory hart insn))).hart,
+  (applied memory (done hart insn (numbers_read world.text memory hart insn))).memory,
+)
 
 -- one instruction more in front
-pub in-front : (world : World) (wanted : HartState → List ℕ → Type 0) (n at : ℕ) (insn : Insn) (hart : HartState) (memory : List ℕ) → length memory ≡ world.size → hart.status ≡ Running → hart.pc ≡ at → Says world.text at insn → fault (length world.text) world.size insn hart ≡ None
+pub in-front : (world : World) (wanted : HartState → List ℕ → Type 0) (n at : ℕ) (insn : Insn) (hart : HartState) (memory : List ℕ) → length memory ≡ world.size
+    → hart.status ≡ Running → hart.pc ≡ at → Says world.text at insn → fault (length world.text) world.size insn hart ≡ None
     → Within (λ a. MayRead world.job world.hart (world.uses a)) (touched (read_by (kind_of insn) (accesses insn hart)))
     → Within (λ a. MayWrite world.job world.hart (world.uses a)) (touched (written_by (kind_of insn) (accesses insn hart)))
     → Keeps world (touched (written_by (kind_of insn) (accesses insn hart)))
@@ -63,7 +68,8 @@ pub in-front : (world : World) (wanted : HartState → List ℕ → Type 0) (n a
     → Soon world wanted (suc n) hart memory
 in-front world wanted n at insn hart memory l r c w f rd wr kp s =
     let e = next-by world.text world.size hart at insn r c w f in
-    let q : step world.text memory hart ≡ applied memory (done hart insn (numbers_read world.text memory hart insn)) = ap (applied memory) (effect-does world.text world.size memory hart (Does insn) l e) in (
+    let q : step world.text memory hart ≡ applied memory (done hart insn (numbers_read world.text memory hart insn)) =
+    ap (applied memory) (effect-does world.text world.size memory hart (Does insn) l e) in (
       record {
         insn = insn;
         does = e;

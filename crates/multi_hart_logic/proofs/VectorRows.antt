@@ -1,5 +1,6 @@
 -- Each kind of vector row that writes lanes of 32 bits, unmasked, or mask bits of v0.
-use Rattle.std.proofs.Common.{◌≡◌, ℕ, zero, suc, ◌+◌, ◌-◌, ◌*◌, ◌%◌, ◌^◌, ◌<◌, ◌≤◌, List, [], ◌∷◌, length, get_or, None, Some, true, false, refl, ap, ◌∙◌, sym, subst, arith, inl, inr}
+use Rattle.std.proofs.Common.{◌≡◌, ℕ, zero, suc, ◌+◌, ◌-◌, ◌*◌, ◌%◌, ◌^◌, ◌<◌, ◌≤◌, List, [], ◌∷◌, length, get_or, None, Some, true, false, refl, ap, ◌∙◌, sym}
+use Rattle.std.proofs.Common.{subst, arith, inl, inr}
 use Rattle.std.specs.Prelude.{◌/◌, ◌==◌, ◌||◌, not, cond, map, replicate, slice_index, ℤ}
 use Rattle.std.specs.List.{range_with_len}
 use Rattle.std.proofs.lemmas.Bool.{cases_lt}
@@ -21,7 +22,9 @@ use Rattle.multi_hart.specs.Run.{Within}
 use Rattle.hart_core.specs.HartState.{HartState, register, vector, vectors_of, with_vectors, advanced}
 use Rattle.hart_core.specs.Scalar.{kind_of, accesses, after, stored}
 use Rattle.hart_core.specs.Turn.{fault, numbers_read}
-use Rattle.vector_unit.specs.Vector.{Vectors, register as group_register, width_of, group_of, most_elements, is_supported, has_vill, element_from, of_group, of_scalar, of_immediate, width, count, group, with_elements, is_refused, overwrites_mask, fixed_width, is_other_width, groups_in, is_misplaced, moved_in, is_unfit}
+use Rattle.vector_unit.specs.Vector.{Vectors, register as group_register, width_of, group_of, most_elements, is_supported, has_vill, element_from, of_group}
+use Rattle.vector_unit.specs.Vector.{of_scalar, of_immediate, width, count, group, with_elements, is_refused, overwrites_mask, fixed_width, is_other_width}
+use Rattle.vector_unit.specs.Vector.{groups_in, is_misplaced, moved_in, is_unfit}
 use Rattle.vector_unit.specs.Operations as op
 use Rattle.multi_hart_logic.specs.Uses.{MayRead, MayWrite}
 use Rattle.multi_hart_logic.specs.Alone.{World, Keeps}
@@ -44,7 +47,8 @@ zipped-length o (x ∷ xs) [] n a b = absurd (omega (arith, a, b))
 zipped-length o (x ∷ xs) (y ∷ ys) zero a b = absurd (omega (arith, a))
 zipped-length o (x ∷ xs) (y ∷ ys) (suc n) a b = ap suc (zipped-length o xs ys n (omega (arith, a)) (omega (arith, b)))
 
-pub zipped-get : {C : Type 0} (o : ℕ → ℕ → C) (d : C) (xs ys : List ℕ) (n k : ℕ) → length xs ≡ n → length ys ≡ n → k < n → get_or (zip_with o xs ys) k d ≡ o (get_or xs k 0) (get_or ys k 0)
+pub zipped-get : {C : Type 0} (o : ℕ → ℕ → C) (d : C) (xs ys : List ℕ) (n k : ℕ) → length xs ≡ n → length ys ≡ n → k < n
+    → get_or (zip_with o xs ys) k d ≡ o (get_or xs k 0) (get_or ys k 0)
 zipped-get o d [] ys n k a b l = absurd (omega (arith, a, l))
 zipped-get o d (x ∷ xs) [] n k a b l = absurd (omega (arith, a, b, l))
 zipped-get o d (x ∷ xs) (y ∷ ys) n zero a b l = refl
@@ -126,7 +130,9 @@ module _ (at g : ℕ) (f : ℕ → ℕ) (h : HartState) (a : At at f h) (c : Lan
 
   pub of-group : (u : ℕ) → IsGroup g u → Lists (4 * g) (of_group state u) (λ k. f (lane u k))
   of-group u i =
-      let e : of_group state u ≡ map (element_from state 32 u) (range_with_len 0 (4 * g)) = ap (λ w. map (element_from state w u) (range_with_len 0 (count state))) width-is ∙ ap (λ n. map (element_from state 32 u) (range_with_len 0 n)) count-is in
+      let e : of_group state u ≡ map (element_from state 32 u) (range_with_len 0 (4 * g)) =
+      ap (λ w. map (element_from state w u) (range_with_len 0 (count state))) width-is ∙ ap (λ n. map (element_from state 32 u) (range_with_len 0 n))
+      count-is in
       subst (λ xs. Lists (4 * g) xs (λ k. f (lane u k))) (sym e) (record {
         size = length-map-range_with_len (element_from state 32 u) 0 (4 * g);
         get = λ k l. get_or-map-range_with_len (element_from state 32 u) 0 (4 * g) k k 0 l (omega arith) ∙ lane-is u k i l;
@@ -138,7 +144,8 @@ module _ (at g : ℕ) (f : ℕ → ℕ) (h : HartState) (a : At at f h) (c : Lan
       subst (λ y. Lists (4 * g) (replicate (count state) y) (λ k. f r % 2 ^ 32)) (sym e) (alike (4 * g) (count state) (f r % 2 ^ 32) count-is)
 
   pub of-immediate : (z : ℤ) → Lists (4 * g) (of_immediate state z) (λ k. word.wrapped 32 z)
-  of-immediate z = subst (λ w. Lists (4 * g) (replicate (count state) (word.wrapped w z)) (λ k. word.wrapped 32 z)) (sym width-is) (alike (4 * g) (count state) (word.wrapped 32 z) count-is)
+  of-immediate z = subst (λ w. Lists (4 * g) (replicate (count state) (word.wrapped w z)) (λ k. word.wrapped 32 z)) (sym width-is) (alike (4 * g) (count state)
+      (word.wrapped 32 z) count-is)
 
   -- ---- no trap
 
@@ -154,10 +161,12 @@ module _ (at g : ℕ) (f : ℕ → ℕ) (h : HartState) (a : At at f h) (c : Lan
   pub no-vill : has_vill state ≡ false
   no-vill = ap (λ t. not (is_supported t)) a.vtype ∙ ap not c.supported
 
-  pub allowed : (i : VectorInsn) → overwrites_mask i ≡ false → is_other_width state (fixed_width i) ≡ false → Within (IsGroup g) (groups_in i) → is_unfit state (moved_in i) ≡ false → is_refused i state ≡ false
+  pub allowed : (i : VectorInsn) → overwrites_mask i ≡ false → is_other_width state (fixed_width i) ≡ false → Within (IsGroup g) (groups_in i)
+      → is_unfit state (moved_in i) ≡ false → is_refused i state ≡ false
   allowed i keeps same placed fit = rw (no-vill, keeps, same, all-placed (groups_in i) placed, fit) refl
 
-  pub untrapped : (words size : ℕ) (i : VectorInsn) → fault words size (Vector i) h ≡ or_else (cond (is_refused i state) (Some IllegalInstruction) None) None → is_refused i state ≡ false → fault words size (Vector i) h ≡ None
+  pub untrapped : (words size : ℕ) (i : VectorInsn) → fault words size (Vector i) h ≡ or_else (cond (is_refused i state) (Some IllegalInstruction) None) None
+      → is_refused i state ≡ false → fault words size (Vector i) h ≡ None
   untrapped words size i e free = e ∙ ap (λ b. or_else (cond b (Some IllegalInstruction) None) None) free
 
 -- ---- rows
@@ -172,7 +181,8 @@ module _ (w : World) (f : ℕ → ℕ) (m : List ℕ) (l : length m ≡ w.size) 
       → Line w (Vector i ∷ []) f m g m
   leaves i g to none ok is gives at s h a =
       let read = numbers_read w.text m h (Vector i) in
-      let em : put m (touched (written_by (kind_of (Vector i)) (accesses (Vector i) h))) (spread (written_by (kind_of (Vector i)) (accesses (Vector i) h)) (stored (Vector i) h read)) ≡ m =
+      let em : put m (touched (written_by (kind_of (Vector i)) (accesses (Vector i) h))) (spread (written_by (kind_of (Vector i)) (accesses (Vector i) h))
+      (stored (Vector i) h read)) ≡ m =
       ap (λ k. put m (touched (written_by k (accesses (Vector i) h))) (spread (written_by k (accesses (Vector i) h)) (stored (Vector i) h read))) none in
       in-front w (Comes (at + 4) g m) 0 at (Vector i) h m l a.running a.pc s.0 (ok at h a)
       (subst (λ k. Within (λ b. MayRead w.job w.hart (w.uses b)) (touched (read_by k (accesses (Vector i) h)))) (sym none) tt)
@@ -194,62 +204,84 @@ module _ (w : World) (f : ℕ → ℕ) (m : List ℕ) (l : length m ≡ w.size) 
         → Line w (Vector i ∷ []) f m (write_lanes f d (f vl_number) new) m
     sets i d news new seat none keeps same placed moved is-fault is-after lists small =
         leaves i (write_lanes f d (f vl_number) new) (λ h. advanced (with_vectors h (with_elements (vectors_of h) d true (news h)))) none
-        (λ at h a. untrapped at g f h a c (length w.text) w.size i (is-fault h) (allowed at g f h a c i keeps (same at h a) placed (ap (is_unfit (vectors_of h)) moved)))
+        (λ at h a. untrapped at g f h a c (length w.text) w.size i (is-fault h) (allowed at g f h a c i keeps (same at h a) placed (ap (is_unfit (vectors_of h))
+        moved)))
         is-after
         (λ at h low a.
         let p = lists at h a in
         let within : (k : ℕ) → k < f vl_number → k < 4 * g = λ k lk. (let q = c.fits in omega (arith, lk, q)) in
         let e : (k : ℕ) → k < f vl_number → slice_index (news h) k ≡ new k = λ k lk. p.get k (within k lk) in
-        at-same (at + 4) (write_lanes f d (f vl_number) (slice_index (news h))) (write_lanes f d (f vl_number) new) _ (lanes-same f d (f vl_number) (slice_index (news h)) new e)
-        (lanes-given at d g f h (news h) low a c seat.above_mask seat.fits p.size (λ k lk. subst (λ n. n < 2 ^ 32) (sym (e k lk)) (small at h a k (within k lk)))))
+        at-same (at + 4) (write_lanes f d (f vl_number) (slice_index (news h))) (write_lanes f d (f vl_number) new) _ (lanes-same f d (f vl_number)
+        (slice_index (news h)) new e)
+        (lanes-given at d g f h (news h) low a c seat.above_mask seat.fits p.size (λ k lk. subst (λ n. n < 2 ^ 32) (sym (e k lk))
+        (small at h a k (within k lk)))))
 
     -- ---- operations on two lanes, on a lane and a number, on a lane and an immediate
 
-    pub arithmetic-vv : (o : ArithmeticVvOp) (d a b : ℕ) → IsGroup g d → IsGroup g a → IsGroup g b → Line w (Vector (v.ArithmeticVv o d a b true) ∷ []) f m (write_lanes f d (f vl_number) (λ k. op.arithmetic_vv o 32 (f (lane a k)) (f (lane b k)))) m
+    pub arithmetic-vv : (o : ArithmeticVvOp) (d a b : ℕ) → IsGroup g d → IsGroup g a → IsGroup g b
+        → Line w (Vector (v.ArithmeticVv o d a b true) ∷ []) f m (write_lanes f d (f vl_number) (λ k. op.arithmetic_vv o 32 (f (lane a k)) (f (lane b k)))) m
     arithmetic-vv o d a b id ia ib =
-        sets (v.ArithmeticVv o d a b true) d (λ h. zip_with (op.arithmetic_vv o (width (vectors_of h))) (of_group (vectors_of h) a) (of_group (vectors_of h) b)) (λ k. op.arithmetic_vv o 32 (f (lane a k)) (f (lane b k))) id
+        sets (v.ArithmeticVv o d a b true) d (λ h. zip_with (op.arithmetic_vv o (width (vectors_of h))) (of_group (vectors_of h) a) (of_group (vectors_of h) b))
+        (λ k. op.arithmetic_vv o 32 (f (lane a k)) (f (lane b k))) id
         refl refl (λ at h s. refl) (id, (ia, (ib, tt))) refl (λ h. refl) (λ h read. refl)
-        (λ at h s. subst (λ x. Lists (4 * g) (zip_with (op.arithmetic_vv o x) (of_group (vectors_of h) a) (of_group (vectors_of h) b)) (λ k. op.arithmetic_vv o 32 (f (lane a k)) (f (lane b k)))) (sym (width-is at g f h s c))
+        (λ at h s. subst (λ x. Lists (4 * g) (zip_with (op.arithmetic_vv o x) (of_group (vectors_of h) a) (of_group (vectors_of h) b)) (λ k. op.arithmetic_vv o
+        32 (f (lane a k)) (f (lane b k)))) (sym (width-is at g f h s c))
         (zipped (op.arithmetic_vv o 32) (4 * g) _ _ _ _ (of-group at g f h s c a ia) (of-group at g f h s c b ib)))
         (λ at h s k lk. vv-below o _ _ (lane-below at g f h s c a k ia lk) (lane-below at g f h s c b k ib lk))
 
-    pub multiply-vv : (o : MultiplyOp) (d a b : ℕ) → IsGroup g d → IsGroup g a → IsGroup g b → Line w (Vector (v.MultiplyVv o d a b true) ∷ []) f m (write_lanes f d (f vl_number) (λ k. op.multiply o 32 (f (lane a k)) (f (lane b k)))) m
+    pub multiply-vv : (o : MultiplyOp) (d a b : ℕ) → IsGroup g d → IsGroup g a → IsGroup g b
+        → Line w (Vector (v.MultiplyVv o d a b true) ∷ []) f m (write_lanes f d (f vl_number) (λ k. op.multiply o 32 (f (lane a k)) (f (lane b k)))) m
     multiply-vv o d a b id ia ib =
-        sets (v.MultiplyVv o d a b true) d (λ h. zip_with (op.multiply o (width (vectors_of h))) (of_group (vectors_of h) a) (of_group (vectors_of h) b)) (λ k. op.multiply o 32 (f (lane a k)) (f (lane b k))) id
+        sets (v.MultiplyVv o d a b true) d (λ h. zip_with (op.multiply o (width (vectors_of h))) (of_group (vectors_of h) a) (of_group (vectors_of h) b))
+        (λ k. op.multiply o 32 (f (lane a k)) (f (lane b k))) id
         refl refl (λ at h s. refl) (id, (ia, (ib, tt))) refl (λ h. refl) (λ h read. refl)
-        (λ at h s. subst (λ x. Lists (4 * g) (zip_with (op.multiply o x) (of_group (vectors_of h) a) (of_group (vectors_of h) b)) (λ k. op.multiply o 32 (f (lane a k)) (f (lane b k)))) (sym (width-is at g f h s c))
+        (λ at h s. subst (λ x. Lists (4 * g) (zip_with (op.multiply o x) (of_group (vectors_of h) a) (of_group (vectors_of h) b))
+        (λ k. op.multiply o 32 (f (lane a k)) (f (lane b k)))) (sym (width-is at g f h s c))
         (zipped (op.multiply o 32) (4 * g) _ _ _ _ (of-group at g f h s c a ia) (of-group at g f h s c b ib)))
         (λ at h s k lk. multiply-below o _ _ (lane-below at g f h s c a k ia lk) (lane-below at g f h s c b k ib lk))
 
-    pub arithmetic-vx : (o : ArithmeticVxOp) (d a r : ℕ) → IsGroup g d → IsGroup g a → r < 32 → Line w (Vector (v.ArithmeticVx o d a r true) ∷ []) f m (write_lanes f d (f vl_number) (λ k. op.arithmetic_vx o 32 (f (lane a k)) (f r % 2 ^ 32))) m
+    pub arithmetic-vx : (o : ArithmeticVxOp) (d a r : ℕ) → IsGroup g d → IsGroup g a → r < 32
+        → Line w (Vector (v.ArithmeticVx o d a r true) ∷ []) f m (write_lanes f d (f vl_number) (λ k. op.arithmetic_vx o 32 (f (lane a k)) (f r % 2 ^ 32))) m
     arithmetic-vx o d a r id ia lr =
-        sets (v.ArithmeticVx o d a r true) d (λ h. zip_with (op.arithmetic_vx o (width (vectors_of h))) (of_group (vectors_of h) a) (of_scalar (vectors_of h) (register h r))) (λ k. op.arithmetic_vx o 32 (f (lane a k)) (f r % 2 ^ 32)) id
+        sets (v.ArithmeticVx o d a r true) d (λ h. zip_with (op.arithmetic_vx o (width (vectors_of h))) (of_group (vectors_of h) a) (of_scalar (vectors_of h)
+        (register h r))) (λ k. op.arithmetic_vx o 32 (f (lane a k)) (f r % 2 ^ 32)) id
         refl refl (λ at h s. refl) (id, (ia, tt)) refl (λ h. refl) (λ h read. refl)
-        (λ at h s. subst (λ x. Lists (4 * g) (zip_with (op.arithmetic_vx o x) (of_group (vectors_of h) a) (of_scalar (vectors_of h) (register h r))) (λ k. op.arithmetic_vx o 32 (f (lane a k)) (f r % 2 ^ 32))) (sym (width-is at g f h s c))
+        (λ at h s. subst (λ x. Lists (4 * g) (zip_with (op.arithmetic_vx o x) (of_group (vectors_of h) a) (of_scalar (vectors_of h) (register h r)))
+        (λ k. op.arithmetic_vx o 32 (f (lane a k)) (f r % 2 ^ 32))) (sym (width-is at g f h s c))
         (zipped (op.arithmetic_vx o 32) (4 * g) _ _ _ _ (of-group at g f h s c a ia) (of-scalar at g f h s c r lr)))
         (λ at h s k lk. vx-below o _ _ (lane-below at g f h s c a k ia lk) (rest-below (f r)))
 
-    pub multiply-vx : (o : MultiplyOp) (d a r : ℕ) → IsGroup g d → IsGroup g a → r < 32 → Line w (Vector (v.MultiplyVx o d a r true) ∷ []) f m (write_lanes f d (f vl_number) (λ k. op.multiply o 32 (f (lane a k)) (f r % 2 ^ 32))) m
+    pub multiply-vx : (o : MultiplyOp) (d a r : ℕ) → IsGroup g d → IsGroup g a → r < 32
+        → Line w (Vector (v.MultiplyVx o d a r true) ∷ []) f m (write_lanes f d (f vl_number) (λ k. op.multiply o 32 (f (lane a k)) (f r % 2 ^ 32))) m
     multiply-vx o d a r id ia lr =
-        sets (v.MultiplyVx o d a r true) d (λ h. zip_with (op.multiply o (width (vectors_of h))) (of_group (vectors_of h) a) (of_scalar (vectors_of h) (register h r))) (λ k. op.multiply o 32 (f (lane a k)) (f r % 2 ^ 32)) id
+        sets (v.MultiplyVx o d a r true) d (λ h. zip_with (op.multiply o (width (vectors_of h))) (of_group (vectors_of h) a) (of_scalar (vectors_of h)
+        (register h r))) (λ k. op.multiply o 32 (f (lane a k)) (f r % 2 ^ 32)) id
         refl refl (λ at h s. refl) (id, (ia, tt)) refl (λ h. refl) (λ h read. refl)
-        (λ at h s. subst (λ x. Lists (4 * g) (zip_with (op.multiply o x) (of_group (vectors_of h) a) (of_scalar (vectors_of h) (register h r))) (λ k. op.multiply o 32 (f (lane a k)) (f r % 2 ^ 32))) (sym (width-is at g f h s c))
+        (λ at h s. subst (λ x. Lists (4 * g) (zip_with (op.multiply o x) (of_group (vectors_of h) a) (of_scalar (vectors_of h) (register h r)))
+        (λ k. op.multiply o 32 (f (lane a k)) (f r % 2 ^ 32))) (sym (width-is at g f h s c))
         (zipped (op.multiply o 32) (4 * g) _ _ _ _ (of-group at g f h s c a ia) (of-scalar at g f h s c r lr)))
         (λ at h s k lk. multiply-below o _ _ (lane-below at g f h s c a k ia lk) (rest-below (f r)))
 
-    pub arithmetic-vi : (o : ArithmeticViOp) (d a : ℕ) (z : ℤ) → IsGroup g d → IsGroup g a → Line w (Vector (v.ArithmeticVi o d a z true) ∷ []) f m (write_lanes f d (f vl_number) (λ k. op.arithmetic_vi o 32 (f (lane a k)) (word.wrapped 32 z))) m
+    pub arithmetic-vi : (o : ArithmeticViOp) (d a : ℕ) (z : ℤ) → IsGroup g d → IsGroup g a
+        → Line w (Vector (v.ArithmeticVi o d a z true) ∷ []) f m (write_lanes f d (f vl_number) (λ k. op.arithmetic_vi o 32 (f (lane a k)) (word.wrapped 32 z)))
+        m
     arithmetic-vi o d a z id ia =
-        sets (v.ArithmeticVi o d a z true) d (λ h. zip_with (op.arithmetic_vi o (width (vectors_of h))) (of_group (vectors_of h) a) (of_immediate (vectors_of h) z)) (λ k. op.arithmetic_vi o 32 (f (lane a k)) (word.wrapped 32 z)) id
+        sets (v.ArithmeticVi o d a z true) d (λ h. zip_with (op.arithmetic_vi o (width (vectors_of h))) (of_group (vectors_of h) a) (of_immediate (vectors_of h)
+        z)) (λ k. op.arithmetic_vi o 32 (f (lane a k)) (word.wrapped 32 z)) id
         refl refl (λ at h s. refl) (id, (ia, tt)) refl (λ h. refl) (λ h read. refl)
-        (λ at h s. subst (λ x. Lists (4 * g) (zip_with (op.arithmetic_vi o x) (of_group (vectors_of h) a) (of_immediate (vectors_of h) z)) (λ k. op.arithmetic_vi o 32 (f (lane a k)) (word.wrapped 32 z))) (sym (width-is at g f h s c))
+        (λ at h s. subst (λ x. Lists (4 * g) (zip_with (op.arithmetic_vi o x) (of_group (vectors_of h) a) (of_immediate (vectors_of h) z))
+        (λ k. op.arithmetic_vi o 32 (f (lane a k)) (word.wrapped 32 z))) (sym (width-is at g f h s c))
         (zipped (op.arithmetic_vi o 32) (4 * g) _ _ _ _ (of-group at g f h s c a ia) (of-immediate at g f h s c z)))
         (λ at h s k lk. vi-below o _ _ (lane-below at g f h s c a k ia lk) (wrapped-below z))
 
-    pub shift-vi : (o : ShiftViOp) (d a n : ℕ) → IsGroup g d → IsGroup g a → Line w (Vector (v.ShiftVi o d a n true) ∷ []) f m (write_lanes f d (f vl_number) (λ k. op.shift_vi o 32 (f (lane a k)) n)) m
+    pub shift-vi : (o : ShiftViOp) (d a n : ℕ) → IsGroup g d → IsGroup g a
+        → Line w (Vector (v.ShiftVi o d a n true) ∷ []) f m (write_lanes f d (f vl_number) (λ k. op.shift_vi o 32 (f (lane a k)) n)) m
     shift-vi o d a n id ia =
-        sets (v.ShiftVi o d a n true) d (λ h. zip_with (op.shift_vi o (width (vectors_of h))) (of_group (vectors_of h) a) (replicate (count (vectors_of h)) n)) (λ k. op.shift_vi o 32 (f (lane a k)) n) id
+        sets (v.ShiftVi o d a n true) d (λ h. zip_with (op.shift_vi o (width (vectors_of h))) (of_group (vectors_of h) a) (replicate (count (vectors_of h)) n))
+        (λ k. op.shift_vi o 32 (f (lane a k)) n) id
         refl refl (λ at h s. refl) (id, (ia, tt)) refl (λ h. refl) (λ h read. refl)
-        (λ at h s. subst (λ x. Lists (4 * g) (zip_with (op.shift_vi o x) (of_group (vectors_of h) a) (replicate (count (vectors_of h)) n)) (λ k. op.shift_vi o 32 (f (lane a k)) n)) (sym (width-is at g f h s c))
+        (λ at h s. subst (λ x. Lists (4 * g) (zip_with (op.shift_vi o x) (of_group (vectors_of h) a) (replicate (count (vectors_of h)) n))
+        (λ k. op.shift_vi o 32 (f (lane a k)) n)) (sym (width-is at g f h s c))
         (zipped (op.shift_vi o 32) (4 * g) _ _ _ _ (of-group at g f h s c a ia) (alike (4 * g) (count (vectors_of h)) n (count-is at g f h s c))))
         (λ at h s k lk. shift-below o _ _ (lane-below at g f h s c a k ia lk))
 

@@ -38,7 +38,8 @@ module _ (reads : Reads) (one other : Environment) where
   variable_agrees : (v : Variable) → Agrees (roll-Expr (layer.Variable v))
   unfolding value uses
   variable_agrees v used =
-      fold-roll-Expr ℕ (value_at reads one) (layer.Variable v) ∙ used v (fold-roll-Expr Bool (uses_at v) (layer.Variable v) ∙ same_variable-self v) ∙ sym (fold-roll-Expr ℕ (value_at reads other) (layer.Variable v))
+      fold-roll-Expr ℕ (value_at reads one) (layer.Variable v) ∙ used v (fold-roll-Expr Bool (uses_at v) (layer.Variable v) ∙ same_variable-self v)
+      ∙ sym (fold-roll-Expr ℕ (value_at reads other) (layer.Variable v))
 
   binary_agrees : (operation : Operation) (a b : Expr) → Agrees a → Agrees b → Agrees (roll-Expr (layer.Binary operation a b))
   unfolding value uses
@@ -54,21 +55,26 @@ module _ (reads : Reads) (one other : Environment) where
   unfolding value uses
   divide_agrees a c ha used =
       let l = layer.Divide a c in
-      fold-roll-Expr ℕ (value_at reads one) l ∙ ap (λ (n : ℕ). word.divide n c) (ha (λ v e. used v (fold-roll-Expr Bool (uses_at v) l ∙ e))) ∙ sym (fold-roll-Expr ℕ (value_at reads other) l)
+      fold-roll-Expr ℕ (value_at reads one) l ∙ ap (λ (n : ℕ). word.divide n c) (ha (λ v e. used v (fold-roll-Expr Bool (uses_at v) l ∙ e)))
+      ∙ sym (fold-roll-Expr ℕ (value_at reads other) l)
 
   remainder_agrees : (a : Expr) (c : ℕ) → Agrees a → Agrees (roll-Expr (layer.Remainder a c))
   unfolding value uses
   remainder_agrees a c ha used =
       let l = layer.Remainder a c in
-      fold-roll-Expr ℕ (value_at reads one) l ∙ ap (λ (n : ℕ). word.remainder n c) (ha (λ v e. used v (fold-roll-Expr Bool (uses_at v) l ∙ e))) ∙ sym (fold-roll-Expr ℕ (value_at reads other) l)
+      fold-roll-Expr ℕ (value_at reads one) l ∙ ap (λ (n : ℕ). word.remainder n c) (ha (λ v e. used v (fold-roll-Expr Bool (uses_at v) l ∙ e)))
+      ∙ sym (fold-roll-Expr ℕ (value_at reads other) l)
 
   select_agrees : (c a b : Expr) → Agrees c → Agrees a → Agrees b → Agrees (roll-Expr (layer.Select c a b))
   unfolding value uses
   select_agrees c a b hc ha hb used =
       let l = layer.Select c a b in
-      let in_c : value reads one c ≡ value reads other c = hc (λ v e. used v (fold-roll-Expr Bool (uses_at v) l ∙ or_first (uses v c || uses v a) (uses v b) (or_first (uses v c) (uses v a) e))) in
-      let in_a : value reads one a ≡ value reads other a = ha (λ v e. used v (fold-roll-Expr Bool (uses_at v) l ∙ or_first (uses v c || uses v a) (uses v b) (or_second (uses v c) (uses v a) e))) in
-      let in_b : value reads one b ≡ value reads other b = hb (λ v e. used v (fold-roll-Expr Bool (uses_at v) l ∙ or_second (uses v c || uses v a) (uses v b) e)) in
+      let in_c : value reads one c ≡ value reads other c = hc (λ v e. used v (fold-roll-Expr Bool (uses_at v) l
+      ∙ or_first (uses v c || uses v a) (uses v b) (or_first (uses v c) (uses v a) e))) in
+      let in_a : value reads one a ≡ value reads other a = ha (λ v e. used v (fold-roll-Expr Bool (uses_at v) l
+      ∙ or_first (uses v c || uses v a) (uses v b) (or_second (uses v c) (uses v a) e))) in
+      let in_b : value reads one b ≡ value reads other b = hb (λ v e. used v (fold-roll-Expr Bool (uses_at v) l
+      ∙ or_second (uses v c || uses v a) (uses v b) e)) in
       fold-roll-Expr ℕ (value_at reads one) l
       ∙ ap (λ (n : ℕ). cond (n == 0) (value reads one b) (value reads one a)) in_c
       ∙ ap (λ (n : ℕ). cond (value reads other c == 0) n (value reads one a)) in_b
@@ -79,7 +85,8 @@ module _ (reads : Reads) (one other : Environment) where
   unfolding value uses
   call1_agrees s a ha used =
       let l = layer.Call1 s a in
-      fold-roll-Expr ℕ (value_at reads one) l ∙ ap (λ (n : ℕ). reads s n 0) (ha (λ v e. used v (fold-roll-Expr Bool (uses_at v) l ∙ e))) ∙ sym (fold-roll-Expr ℕ (value_at reads other) l)
+      fold-roll-Expr ℕ (value_at reads one) l ∙ ap (λ (n : ℕ). reads s n 0) (ha (λ v e. used v (fold-roll-Expr Bool (uses_at v) l ∙ e)))
+      ∙ sym (fold-roll-Expr ℕ (value_at reads other) l)
 
   call2_agrees : (s : Source) (a b : Expr) → Agrees a → Agrees b → Agrees (roll-Expr (layer.Call2 s a b))
   unfolding value uses

@@ -1,5 +1,6 @@
 -- Rows of pictures and of tables, as far as they are known.
-use Rattle.std.proofs.Common.{◌≡◌, ◌-◌, inl, inr, ◌∙◌, ℕ, ◌+◌, ◌*◌, ◌^◌, ◌<◌, ◌≤◌, Some, List, [], ◌∷◌, ◌++◌, zero, suc, Vec, length, refl, take, drop, get_or, sym, ap, subst, arith}
+use Rattle.std.proofs.Common.{◌≡◌, ◌-◌, inl, inr, ◌∙◌, ℕ, ◌+◌, ◌*◌, ◌^◌, ◌<◌, ◌≤◌, Some, List, [], ◌∷◌, ◌++◌, zero, suc, Vec, length, refl, take, drop, get_or}
+use Rattle.std.proofs.Common.{sym, ap, subst, arith}
 use Rattle.std.proofs.lemmas.Bool.{lt-ltb, cases_lt}
 use Rattle.std.proofs.lemmas.List.{length-append, get_or-append_right}
 use Rattle.std.proofs.Math.ListN.{get_or-append}
@@ -29,7 +30,8 @@ window-of-same says other window same is = record {
 }
 
 -- values that are written down are a row's
-pub written-row : (width : ℕ) (says : ℕ → ℕ) (written : List ℕ) (values : Vec ℕ Global) → values.items ≡ written → AreValues width says written → IsRow width says (rows.Each values)
+pub written-row : (width : ℕ) (says : ℕ → ℕ) (written : List ℕ) (values : Vec ℕ Global) → values.items ≡ written → AreValues width says written
+    → IsRow width says (rows.Each values)
 written-row width says written values same are =
     let all : AreValues width says values.items = subst (λ (items : List ℕ). AreValues width says items) (sym same) are in
     record { len = all.len; each = all.each }
@@ -44,10 +46,12 @@ pub refilled : (values : Vec ℕ Global) (words : List ℕ) → length words ≡
 refilled values words long = refilled-to values.len words (drop (length words) values.items) (omega (arith, long, values.ok))
 
 -- words in place of columns
-pub fetched-row : (width : ℕ) (says : ℕ → ℕ) (columns before words : List ℕ) (values : Vec ℕ Global) → before ≡ columns → length columns ≡ width → values.items ≡ words
+pub fetched-row : (width : ℕ) (says : ℕ → ℕ) (columns before words : List ℕ) (values : Vec ℕ Global) → before ≡ columns → length columns ≡ width
+    → values.items ≡ words
     → AreValues (length before) (λ at. says (get_or before at 0)) words → IsRow width (λ at. says (get_or columns at 0)) (rows.Each values)
 fetched-row width says columns before words values same long are_words are =
-    let all : AreValues (length columns) (λ at. says (get_or columns at 0)) words = subst (λ (items : List ℕ). AreValues (length items) (λ at. says (get_or items at 0)) words) same are in
+    let all : AreValues (length columns) (λ at. says (get_or columns at 0)) words = subst (λ (items : List ℕ). AreValues (length items)
+    (λ at. says (get_or items at 0)) words) same are in
     let wide : AreValues width (λ at. says (get_or columns at 0)) words = subst (λ (n : ℕ). AreValues n (λ at. says (get_or columns at 0)) words) long all in
     written-row width (λ at. says (get_or columns at 0)) words values are_words wide
 

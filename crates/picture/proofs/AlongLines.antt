@@ -1,5 +1,6 @@
 -- Expressions along lines.
-use Rattle.std.proofs.Common.{◌≡◌, ℕ, ◌+◌, List, Vec, length, get_or, arith, true, false, cond, Option, Some, None, Result, Ok, Err, sym, ap, refl, ◌∙◌, inl, inr}
+use Rattle.std.proofs.Common.{◌≡◌, ℕ, ◌+◌, List, Vec, length, get_or, arith, true, false, cond, Option, Some, None, Result, Ok, Err, sym, ap, refl, ◌∙◌, inl}
+use Rattle.std.proofs.Common.{inr}
 use Rattle.std.specs.Prelude.{◌==◌, IfOk, IfSome}
 use Rattle.std.specs.declared.alloc.AllocError.{AllocError}
 use Rattle.std.proofs.lemmas.Bool.{cases_eq, eq-eqb, ne_eqb}
@@ -27,17 +28,20 @@ use Rattle.std.specs.declared.alloc.Global.{Global}
 
 -- ---- reads
 
-other-source : (scene : Scene) (own : ℕ) (plane : Plane) (source : Source) (x y : ℕ) → is_own own source ≡ false → reads_with scene own plane source x y ≡ reads_in scene own states.Earlier source x y
+other-source : (scene : Scene) (own : ℕ) (plane : Plane) (source : Source) (x y : ℕ) → is_own own source ≡ false → reads_with scene own plane source x y
+    ≡ reads_in scene own states.Earlier source x y
 other-source scene own plane (sources.Input place) x y other = refl
 other-source scene own plane (sources.Func place) x y other = rw other refl
 
-pub own-source : (scene : Scene) (own : ℕ) (plane : Plane) (source : Source) (x y : ℕ) → is_own own source ≡ true → reads_with scene own plane source x y ≡ plane x y
+pub own-source : (scene : Scene) (own : ℕ) (plane : Plane) (source : Source) (x y : ℕ) → is_own own source ≡ true → reads_with scene own plane source x y
+    ≡ plane x y
 own-source scene own plane (sources.Input place) x y same = absurd cc
 own-source scene own plane (sources.Func place) x y same = rw same refl
 
 -- what reads answer along a line, where the own Func isn't read
 pub shared-other : (scene : Scene) (own : ℕ) (line : Line) (source : Source) (x y row : Row) (columns rows : Plane → ℕ → ℕ) → is_own own source ≡ false
-    → IsShared line columns x → IsShared line rows y → are.IsRow line.width (λ at. reads_in scene own states.Earlier source (are.value_at x at) (are.value_at y at)) row
+    → IsShared line columns x → IsShared line rows y
+    → are.IsRow line.width (λ at. reads_in scene own states.Earlier source (are.value_at x at) (are.value_at y at)) row
     → IsShared line (λ plane at. reads_with scene own plane source (columns plane at) (rows plane at)) row
 shared-other scene own line source x y row columns rows other is_x is_y is = record {
   len = is.len;
@@ -47,7 +51,8 @@ shared-other scene own line source x y row columns rows other is_x is_y is = rec
 }
 
 -- and where it is
-pub shared-own : (scene : Scene) (own : ℕ) (line : Line) (source : Source) (x y : Row) (found : Option Row) (columns rows : Plane → ℕ → ℕ) → is_own own source ≡ true
+pub shared-own : (scene : Scene) (own : ℕ) (line : Line) (source : Source) (x y : Row) (found : Option Row) (columns rows : Plane → ℕ → ℕ)
+    → is_own own source ≡ true
     → IsShared line columns x → IsShared line rows y → IfSome found (IsShared line (λ plane at. plane (are.value_at x at) (are.value_at y at)))
     → IfSome found (IsShared line (λ plane at. reads_with scene own plane source (columns plane at) (rows plane at)))
 shared-own scene own line source x y None columns rows same is_x is_y is = is
@@ -61,21 +66,25 @@ shared-own scene own line source x y (Some row) columns rows same is_x is_y is =
 -- ---- operations
 
 pub shared-two : (line : Line) (operation : Operation) (x y row : Row) (first second : Plane → ℕ → ℕ) → IsShared line first x → IsShared line second y
-    → are.IsRow line.width (λ at. word.applied operation (are.value_at x at) (are.value_at y at)) row → IsShared line (λ plane at. word.applied operation (first plane at) (second plane at)) row
+    → are.IsRow line.width (λ at. word.applied operation (are.value_at x at) (are.value_at y at)) row
+    → IsShared line (λ plane at. word.applied operation (first plane at) (second plane at)) row
 shared-two line operation x y row first second is_x is_y is = record {
   len = is.len;
   each = λ plane fits at less. is.each at less
-      ∙ ap (λ (n : ℕ). word.applied operation n (are.value_at y at)) (is_x.each plane fits at less) ∙ ap (word.applied operation (first plane at)) (is_y.each plane fits at less);
+      ∙ ap (λ (n : ℕ). word.applied operation n (are.value_at y at)) (is_x.each plane fits at less)
+      ∙ ap (word.applied operation (first plane at)) (is_y.each plane fits at less);
 }
 
-pub shared-quotient : (line : Line) (divisor : ℕ) (x row : Row) (first : Plane → ℕ → ℕ) → IsShared line first x → are.IsRow line.width (λ at. word.divide (are.value_at x at) divisor) row
+pub shared-quotient : (line : Line) (divisor : ℕ) (x row : Row) (first : Plane → ℕ → ℕ) → IsShared line first x
+    → are.IsRow line.width (λ at. word.divide (are.value_at x at) divisor) row
     → IsShared line (λ plane at. word.divide (first plane at) divisor) row
 shared-quotient line divisor x row first is_x is = record {
   len = is.len;
   each = λ plane fits at less. is.each at less ∙ ap (λ (n : ℕ). word.divide n divisor) (is_x.each plane fits at less);
 }
 
-pub shared-rest : (line : Line) (divisor : ℕ) (x row : Row) (first : Plane → ℕ → ℕ) → IsShared line first x → are.IsRow line.width (λ at. word.remainder (are.value_at x at) divisor) row
+pub shared-rest : (line : Line) (divisor : ℕ) (x row : Row) (first : Plane → ℕ → ℕ) → IsShared line first x
+    → are.IsRow line.width (λ at. word.remainder (are.value_at x at) divisor) row
     → IsShared line (λ plane at. word.remainder (first plane at) divisor) row
 shared-rest line divisor x row first is_x is = record {
   len = is.len;
@@ -83,7 +92,8 @@ shared-rest line divisor x row first is_x is = record {
 }
 
 pub shared-either : (line : Line) (c x y row : Row) (test first second : Plane → ℕ → ℕ) → IsShared line test c → IsShared line first x → IsShared line second y
-    → are.IsRow line.width (λ at. cond (are.value_at c at == 0) (are.value_at y at) (are.value_at x at)) row → IsShared line (λ plane at. cond (test plane at == 0) (second plane at) (first plane at)) row
+    → are.IsRow line.width (λ at. cond (are.value_at c at == 0) (are.value_at y at) (are.value_at x at)) row
+    → IsShared line (λ plane at. cond (test plane at == 0) (second plane at) (first plane at)) row
 shared-either line c x y row test first second is_c is_x is_y is = record {
   len = is.len;
   each = λ plane fits at less. is.each at less
@@ -95,11 +105,13 @@ shared-either line c x y row test first second is_c is_x is_y is = record {
 -- ---- expressions
 
 -- what is known along a line is what another one says that is the same
-pub says-same : (line : Line) (one other : Plane → ℕ → ℕ) (found : Option Row) → ((plane : Plane) (at : ℕ) → one plane at ≡ other plane at) → IfSome found (IsShared line one) → IfSome found (IsShared line other)
+pub says-same : (line : Line) (one other : Plane → ℕ → ℕ) (found : Option Row) → ((plane : Plane) (at : ℕ) → one plane at ≡ other plane at)
+    → IfSome found (IsShared line one) → IfSome found (IsShared line other)
 says-same line one other None same is = is
 says-same line one other (Some row) same is = record { len = is.len; each = λ plane fits at less. is.each plane fits at less ∙ same plane at }
 
-pub answer-same : (line : Line) (one other : Plane → ℕ → ℕ) (answer : Result (Option Row) AllocError) → ((plane : Plane) (at : ℕ) → one plane at ≡ other plane at)
+pub answer-same : (line : Line) (one other : Plane → ℕ → ℕ) (answer : Result (Option Row) AllocError) → ((plane : Plane) (at : ℕ)
+    → one plane at ≡ other plane at)
     → IfOk answer (λ found. IfSome found (IsShared line one)) → IfOk answer (λ found. IfSome found (IsShared line other))
 answer-same line one other (Ok found) same is = says-same line one other found same is
 answer-same line one other (Err e) same is = tt
@@ -110,7 +122,8 @@ answer-long line says (Ok None) is = tt
 answer-long line says (Ok (Some row)) is = is.len
 answer-long line says (Err e) is = tt
 
-pub of-row : (line : Line) (says : Plane → ℕ → ℕ) (alone : ℕ → ℕ) (row : Row) → are.IsRow line.width alone row → ((plane : Plane) (at : ℕ) → alone at ≡ says plane at) → IsShared line says row
+pub of-row : (line : Line) (says : Plane → ℕ → ℕ) (alone : ℕ → ℕ) (row : Row) → are.IsRow line.width alone row → ((plane : Plane) (at : ℕ)
+    → alone at ≡ says plane at) → IsShared line says row
 of-row line says alone row is same = record { len = is.len; each = λ plane fits at less. is.each at less ∙ same plane at }
 
 module _ (reads : Reads) (env : Environment) (e : Expr) where
@@ -122,21 +135,26 @@ module _ (reads : Reads) (env : Environment) (e : Expr) where
   unfolding value
   value-variable v is = sym (ap (value reads env) is ∙ at_variable ℕ (value_at reads env) v)
 
-  pub value-binary : (operation : Operation) (a b p q : Expr) → e ≡ exprs.Binary operation a b → p ≡ a → q ≡ b → word.applied operation (value reads env p) (value reads env q) ≡ value reads env e
+  pub value-binary : (operation : Operation) (a b p q : Expr) → e ≡ exprs.Binary operation a b → p ≡ a → q ≡ b
+      → word.applied operation (value reads env p) (value reads env q) ≡ value reads env e
   unfolding value
   value-binary operation a b p q is p_is q_is =
-      ap (λ (n : ℕ). word.applied operation n (value reads env q)) (ap (value reads env) p_is) ∙ ap (word.applied operation (value reads env a)) (ap (value reads env) q_is)
+      ap (λ (n : ℕ). word.applied operation n (value reads env q)) (ap (value reads env) p_is)
+      ∙ ap (word.applied operation (value reads env a)) (ap (value reads env) q_is)
       ∙ sym (ap (value reads env) is ∙ at_binary ℕ (value_at reads env) operation a b)
 
   pub value-divide : (a p : Expr) (divisor : ℕ) → e ≡ exprs.Divide a divisor → p ≡ a → word.divide (value reads env p) divisor ≡ value reads env e
   unfolding value
-  value-divide a p divisor is p_is = ap (λ (n : ℕ). word.divide n divisor) (ap (value reads env) p_is) ∙ sym (ap (value reads env) is ∙ at_divide ℕ (value_at reads env) a divisor)
+  value-divide a p divisor is p_is = ap (λ (n : ℕ). word.divide n divisor) (ap (value reads env) p_is) ∙ sym (ap (value reads env) is
+      ∙ at_divide ℕ (value_at reads env) a divisor)
 
   pub value-remainder : (a p : Expr) (divisor : ℕ) → e ≡ exprs.Remainder a divisor → p ≡ a → word.remainder (value reads env p) divisor ≡ value reads env e
   unfolding value
-  value-remainder a p divisor is p_is = ap (λ (n : ℕ). word.remainder n divisor) (ap (value reads env) p_is) ∙ sym (ap (value reads env) is ∙ at_remainder ℕ (value_at reads env) a divisor)
+  value-remainder a p divisor is p_is = ap (λ (n : ℕ). word.remainder n divisor) (ap (value reads env) p_is) ∙ sym (ap (value reads env) is
+      ∙ at_remainder ℕ (value_at reads env) a divisor)
 
-  pub value-select : (c a b r p q : Expr) → e ≡ exprs.Select c a b → r ≡ c → p ≡ a → q ≡ b → cond (value reads env r == 0) (value reads env q) (value reads env p) ≡ value reads env e
+  pub value-select : (c a b r p q : Expr) → e ≡ exprs.Select c a b → r ≡ c → p ≡ a → q ≡ b
+      → cond (value reads env r == 0) (value reads env q) (value reads env p) ≡ value reads env e
   unfolding value
   value-select c a b r p q is r_is p_is q_is =
       ap (λ (n : ℕ). cond (n == 0) (value reads env q) (value reads env p)) (ap (value reads env) r_is)
@@ -146,9 +164,11 @@ module _ (reads : Reads) (env : Environment) (e : Expr) where
 
   pub value-call1 : (source : Source) (a p : Expr) → e ≡ exprs.Call1 source a → p ≡ a → reads source (value reads env p) 0 ≡ value reads env e
   unfolding value
-  value-call1 source a p is p_is = ap (λ (n : ℕ). reads source n 0) (ap (value reads env) p_is) ∙ sym (ap (value reads env) is ∙ at_call1 ℕ (value_at reads env) source a)
+  value-call1 source a p is p_is = ap (λ (n : ℕ). reads source n 0) (ap (value reads env) p_is) ∙ sym (ap (value reads env) is
+      ∙ at_call1 ℕ (value_at reads env) source a)
 
-  pub value-call2 : (source : Source) (a b p q : Expr) → e ≡ exprs.Call2 source a b → p ≡ a → q ≡ b → reads source (value reads env p) (value reads env q) ≡ value reads env e
+  pub value-call2 : (source : Source) (a b p q : Expr) → e ≡ exprs.Call2 source a b → p ≡ a → q ≡ b → reads source (value reads env p) (value reads env q)
+      ≡ value reads env e
   unfolding value
   value-call2 source a b p q is p_is q_is =
       ap (λ (n : ℕ). reads source n (value reads env q)) (ap (value reads env) p_is) ∙ ap (reads source (value reads env a)) (ap (value reads env) q_is)
@@ -162,7 +182,8 @@ index-some scene own line index e found is shared =
 
 -- ---- what indices on the left read: the Funcs before, whatever the own one answers
 
-own-earlier : (scene : Scene) (own : ℕ) (source : Source) (x y : ℕ) → reads_with scene own (earlier_of scene own own) source x y ≡ reads_in scene own states.Earlier source x y
+own-earlier : (scene : Scene) (own : ℕ) (source : Source) (x y : ℕ) → reads_with scene own (earlier_of scene own own) source x y
+    ≡ reads_in scene own states.Earlier source x y
 own-earlier scene own (sources.Input place) x y = refl
 own-earlier scene own (sources.Func place) x y = elim (cases_eq place own) [
   | inl same ↦
@@ -179,7 +200,8 @@ reads-earlier scene own = λ i source x y. own-earlier scene own source x y i
 -- ---- values written one by one
 
 pub one-more-place : (count pixel : ℕ) (before now next : List ℕ) (says : ℕ → ℕ) → Changed count before now says → pixel ≡ says count
-    → length next ≡ length now → get_or next count 0 ≡ pixel → ((k : ℕ) → (k ≡ count → ⊥) → get_or next k 0 ≡ get_or now k 0) → Changed (count + 1) before next says
+    → length next ≡ length now → get_or next count 0 ≡ pixel → ((k : ℕ) → (k ≡ count → ⊥) → get_or next k 0 ≡ get_or now k 0)
+    → Changed (count + 1) before next says
 one-more-place count pixel before now next says so_far is len here others = record {
   len = len ∙ so_far.len;
   done = λ k less. elim (cases_eq k count) [
@@ -189,16 +211,20 @@ one-more-place count pixel before now next says so_far is len here others = reco
   rest = λ k more. others k (λ same. absurd (omega (arith, same, more))) ∙ so_far.rest k (omega (arith, more));
 }
 
-pub whole-row : (count width : ℕ) (before : List ℕ) (values : Vec ℕ Global) (says : ℕ → ℕ) → Changed count before values.items says → length before ≡ width → count ≡ width
+pub whole-row : (count width : ℕ) (before : List ℕ) (values : Vec ℕ Global) (says : ℕ → ℕ) → Changed count before values.items says → length before ≡ width
+    → count ≡ width
     → are.IsRow width says (rows.Each values)
 whole-row count width before values says is long whole = record {
   len = is.len ∙ long;
   each = λ at less. is.done at (omega (arith, less, whole));
 }
 
-pub stretch-row : (width : ℕ) (plane : Plane) (x y : Row) (first line : ℕ) (written : List ℕ) (values : Vec ℕ Global) → x ≡ rows.Step first → y ≡ rows.Same line → values.items ≡ written
-    → are.AreValues width (λ at. plane (word.add first at) line) written → are.IsRow width (λ at. plane (are.value_at x at) (are.value_at y at)) (rows.Each values)
-stretch-row width plane x y first line written values x_is y_is same is = rw (x_is, y_is) (written-row width (λ at. plane (word.add first at) line) written values same is)
+pub stretch-row : (width : ℕ) (plane : Plane) (x y : Row) (first line : ℕ) (written : List ℕ) (values : Vec ℕ Global) → x ≡ rows.Step first → y ≡ rows.Same line
+    → values.items ≡ written
+    → are.AreValues width (λ at. plane (word.add first at) line) written → are.IsRow width (λ at. plane (are.value_at x at) (are.value_at y at))
+    (rows.Each values)
+stretch-row width plane x y first line written values x_is y_is same is = rw (x_is, y_is) (written-row width (λ at. plane (word.add first at) line) written
+    values same is)
 
 -- ---- what the own Func has along a line
 

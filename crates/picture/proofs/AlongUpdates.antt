@@ -29,7 +29,8 @@ use Rattle.picture_rows.specs.declared.rows.Row.{Row}
 use Rattle.picture_rows.specs.declared.rows.Row.TheVariants as rows
 use Rattle.picture_rows.specs.Rows as are
 
-pub own-call1 : (scene : Scene) (own width : ℕ) (start : Environment) (e : Expr) (source : Source) (a p : Expr) (indices : Indices) → e ≡ exprs.Call1 source a → p ≡ a → is_own own source ≡ true
+pub own-call1 : (scene : Scene) (own width : ℕ) (start : Environment) (e : Expr) (source : Source) (a p : Expr) (indices : Indices) → e ≡ exprs.Call1 source a
+    → p ≡ a → is_own own source ≡ true
     → IsShared (reduction_line width start) (λ plane at. value (reads_with scene own plane) (row_point start at) p) indices.x → indices.y ≡ rows.Same 0
     → AreIndices width (λ plane at. value (reads_with scene own plane) (row_point start at) e) indices
 unfolding value
@@ -39,13 +40,16 @@ own-call1 scene own width start e source a p indices e_is p_is same is zero_is =
   each = λ plane at less.
       let reads = reads_with scene own plane in
       let env = row_point start at in
-      ap (λ (n : ℕ). plane n (are.value_at indices.y at)) (is.each plane tt at less ∙ ap (value reads env) p_is) ∙ ap (λ (r : Row). plane (value reads env a) (are.value_at r at)) zero_is
+      ap (λ (n : ℕ). plane n (are.value_at indices.y at)) (is.each plane tt at less ∙ ap (value reads env) p_is)
+      ∙ ap (λ (r : Row). plane (value reads env a) (are.value_at r at)) zero_is
       ∙ sym (own-source scene own plane source (value reads env a) 0 same)
       ∙ sym (ap (value reads env) e_is ∙ at_call1 ℕ (value_at reads env) source a);
 }
 
-pub own-call2 : (scene : Scene) (own width : ℕ) (start : Environment) (e : Expr) (source : Source) (a b p q : Expr) (indices : Indices) → e ≡ exprs.Call2 source a b → p ≡ a → q ≡ b → is_own own source ≡ true
-    → IsShared (reduction_line width start) (λ plane at. value (reads_with scene own plane) (row_point start at) p) indices.x → IsShared (reduction_line width start) (λ plane at. value (reads_with scene own plane) (row_point start at) q) indices.y
+pub own-call2 : (scene : Scene) (own width : ℕ) (start : Environment) (e : Expr) (source : Source) (a b p q : Expr) (indices : Indices)
+    → e ≡ exprs.Call2 source a b → p ≡ a → q ≡ b → is_own own source ≡ true
+    → IsShared (reduction_line width start) (λ plane at. value (reads_with scene own plane) (row_point start at) p) indices.x
+    → IsShared (reduction_line width start) (λ plane at. value (reads_with scene own plane) (row_point start at) q) indices.y
     → AreIndices width (λ plane at. value (reads_with scene own plane) (row_point start at) e) indices
 unfolding value
 own-call2 scene own width start e source a b p q indices e_is p_is q_is same is_x is_y = record {
@@ -54,7 +58,8 @@ own-call2 scene own width start e source a b p q indices e_is p_is q_is same is_
   each = λ plane at less.
       let reads = reads_with scene own plane in
       let env = row_point start at in
-      ap (λ (n : ℕ). plane n (are.value_at indices.y at)) (is_x.each plane tt at less ∙ ap (value reads env) p_is) ∙ ap (λ (n : ℕ). plane (value reads env a) n) (is_y.each plane tt at less ∙ ap (value reads env) q_is)
+      ap (λ (n : ℕ). plane n (are.value_at indices.y at)) (is_x.each plane tt at less ∙ ap (value reads env) p_is)
+      ∙ ap (λ (n : ℕ). plane (value reads env a) n) (is_y.each plane tt at less ∙ ap (value reads env) q_is)
       ∙ sym (own-source scene own plane source (value reads env a) (value reads env b) same)
       ∙ sym (ap (value reads env) e_is ∙ at_call2 ℕ (value_at reads env) source a b);
 }
@@ -86,7 +91,8 @@ reduction-row update row at x y less =
     let remainder0 : (row * e) % e ≡ 0 = omega (arith, whole0, rows0) in
     let first : word.add minimum ((row * e + at) % e) ≡ word.add (word.add minimum ((row * e) % e)) at =
     ap (word.add minimum) remainder ∙ steps-on minimum at ∙ ap (λ (n : ℕ). word.add (word.add minimum n) at) (sym remainder0) in
-    let second : second_value update.second ((row * e + at) / e) ≡ second_value update.second ((row * e) / e) = ap (second_value update.second) (quotient ∙ sym quotient0) in
+    let second : second_value update.second ((row * e + at) / e) ≡ second_value update.second ((row * e) / e) = ap (second_value update.second) (quotient
+    ∙ sym quotient0) in
     ap (λ (n : ℕ). made x y n (second_value update.second ((row * e + at) / e))) first ∙ ap (made x y (word.add (word.add minimum ((row * e) % e)) at)) second
 
 -- ---- stores
@@ -97,34 +103,42 @@ pub store-of-row : (scene : Scene) (own updates number : ℕ) (update : Update) 
     → store.value ≡ right_says row.right (after_of own (slice_get scene.funcs.now own) (inputs_of scene) (earlier_of scene own) updates number) at
     → IsStore scene own updates number update slice store
 store-of-row scene own updates number update start row at slice store is less point x_is y_is value_is = record {
-  left_x = x_is ∙ is.left_x.each (earlier_of scene own own) tt at less ∙ ap (λ (reads : Reads). value reads (row_point start at) update.left_x) (reads-earlier scene own)
+  left_x = x_is ∙ is.left_x.each (earlier_of scene own own) tt at less ∙ ap (λ (reads : Reads). value reads (row_point start at) update.left_x)
+      (reads-earlier scene own)
       ∙ ap (λ (env : Environment). value (reads_in scene own states.Earlier) env update.left_x) (sym point);
-  left_y = y_is ∙ is.left_y.each (earlier_of scene own own) tt at less ∙ ap (λ (reads : Reads). index_value reads (row_point start at) update.left_y) (reads-earlier scene own)
+  left_y = y_is ∙ is.left_y.each (earlier_of scene own own) tt at less ∙ ap (λ (reads : Reads). index_value reads (row_point start at) update.left_y)
+      (reads-earlier scene own)
       ∙ ap (λ (env : Environment). index_value (reads_in scene own states.Earlier) env update.left_y) (sym point);
   right = value_is ∙ is.right.each (after_of own (slice_get scene.funcs.now own) (inputs_of scene) (earlier_of scene own) updates number) at less
       ∙ ap (λ (env : Environment). value (reads_in scene own (states.After updates number)) env update.right) (sym point);
 }
 
-pub one-store-more : (scene : Scene) (own : ℕ) (func : Func) (update : Update) (updates number : ℕ) (slice next : Slice) (store : Store) → slice_get scene.funcs.now own ≡ Some func → slice_get func.updates updates ≡ Some update
+pub one-store-more : (scene : Scene) (own : ℕ) (func : Func) (update : Update) (updates number : ℕ) (slice next : Slice) (store : Store)
+    → slice_get scene.funcs.now own ≡ Some func → slice_get func.updates updates ≡ Some update
     → is_forward update ≡ true → IsOfUpdate update slice → IsStore scene own updates number update slice store → Puts slice next store
     → IsForward scene own updates number slice → IsForward scene own updates (number + 1) next
 one-store-more scene own func update updates number slice next store is next_update forward of stores puts run =
-    forward_more scene own func update updates number slice next store.x store.y store.value is next_update forward of.first of.second stores.left_x stores.left_y stores.right
+    forward_more scene own func update updates number slice next store.x store.y store.value is next_update forward of.first of.second stores.left_x
+    stores.left_y stores.right
     puts.sets puts.place.x puts.place.y puts.place.first puts.place.second run
 
 pub still-of : (update : Update) (slice next : Slice) → IsOfUpdate update slice → KeepsPlace slice next → IsOfUpdate update next
 still-of update slice next of keeps = record { first = keeps.first ∙ of.first; second = keeps.second ∙ of.second }
 
-pub first-right : (width : ℕ) (start : Environment) (first second : Plane → ℕ → ℕ) (operation : Operation) (indices : Indices) (row : Row) → AreIndices width first indices → IsShared (reduction_line width start) second row
+pub first-right : (width : ℕ) (start : Environment) (first second : Plane → ℕ → ℕ) (operation : Operation) (indices : Indices) (row : Row)
+    → AreIndices width first indices → IsShared (reduction_line width start) second row
     → IsRight width (λ plane at. word.applied operation (first plane at) (second plane at)) (rights.First operation indices row)
 first-right width start first second operation indices row are_indices is = record {
   len = (are_indices.x_len, (are_indices.y_len, is.len));
-  each = λ plane at less. ap (λ (n : ℕ). word.applied operation n (are.value_at row at)) (are_indices.each plane at less) ∙ ap (word.applied operation (first plane at)) (is.each plane tt at less);
+  each = λ plane at less. ap (λ (n : ℕ). word.applied operation n (are.value_at row at)) (are_indices.each plane at less)
+      ∙ ap (word.applied operation (first plane at)) (is.each plane tt at less);
 }
 
-pub second-right : (width : ℕ) (start : Environment) (first second : Plane → ℕ → ℕ) (operation : Operation) (indices : Indices) (row : Row) → IsShared (reduction_line width start) first row → AreIndices width second indices
+pub second-right : (width : ℕ) (start : Environment) (first second : Plane → ℕ → ℕ) (operation : Operation) (indices : Indices) (row : Row)
+    → IsShared (reduction_line width start) first row → AreIndices width second indices
     → IsRight width (λ plane at. word.applied operation (first plane at) (second plane at)) (rights.Second operation row indices)
 second-right width start first second operation indices row is are_indices = record {
   len = (are_indices.x_len, (are_indices.y_len, is.len));
-  each = λ plane at less. ap (λ (n : ℕ). word.applied operation n (plane (are.value_at indices.x at) (are.value_at indices.y at))) (is.each plane tt at less) ∙ ap (word.applied operation (first plane at)) (are_indices.each plane at less);
+  each = λ plane at less. ap (λ (n : ℕ). word.applied operation n (plane (are.value_at indices.x at) (are.value_at indices.y at))) (is.each plane tt at less)
+      ∙ ap (word.applied operation (first plane at)) (are_indices.each plane at less);
 }

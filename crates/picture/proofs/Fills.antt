@@ -11,7 +11,8 @@ use Rattle.halide_pipeline.specs.declared.definitions.Func.{Func}
 use Rattle.halide_pipeline.specs.Pixel.{Plane}
 use Rattle.picture.specs.inner.Evaluation.{AreBoxes, IsTable, IsSliceOf, AreSlicesOf, numbered_pixel}
 
-zip_ok : {X : Type 0} (R : ℕ → X → Type 0) (places : List ℕ) (values : List X) → AllZip (λ at (r : Result X AllocError). IfOk r (R at)) places (map Ok values) → AllZip R places values
+zip_ok : {X : Type 0} (R : ℕ → X → Type 0) (places : List ℕ) (values : List X) → AllZip (λ at (r : Result X AllocError). IfOk r (R at)) places (map Ok values)
+    → AllZip R places values
 zip_ok R [] [] zip = zip
 zip_ok R [] (value ∷ values) zip = zip
 zip_ok R (at ∷ places) [] zip = zip
@@ -26,7 +27,8 @@ collected {X} R places results (Ok v) made zip =
 collected R places results (Err e) made zip = tt
 
 -- what is zipped with the numbers from 0 on is as long, and has at each place what stands for its number
-filled_from : (R : ℕ → ℕ → Type 0) (from count : ℕ) (values : List ℕ) → AllZip R (range_with_len from count) values → (length values ≡ count) × ((at : ℕ) → at < count → R (from + at) (get_or values at 0))
+filled_from : (R : ℕ → ℕ → Type 0) (from count : ℕ) (values : List ℕ) → AllZip R (range_with_len from count) values → (length values ≡ count) × ((at : ℕ)
+    → at < count → R (from + at) (get_or values at 0))
 filled_from R from zero [] zip = (refl, λ at less. absurd (omega arith))
 filled_from R from zero (value ∷ values) zip = absurd zip
 filled_from R from (suc count) [] zip = absurd zip
@@ -34,11 +36,13 @@ filled_from R from (suc count) (value ∷ values) zip =
     let rest = filled_from R (from + 1) count values zip.1 in
     (ap suc rest.0, by_place R from count value values zip.0 rest.1)
   where
-    by_place : (R : ℕ → ℕ → Type 0) (from count value : ℕ) (values : List ℕ) → R from value → ((at : ℕ) → at < count → R (from + 1 + at) (get_or values at 0)) → (at : ℕ) → at < suc count → R (from + at) (get_or (value ∷ values) at 0)
+    by_place : (R : ℕ → ℕ → Type 0) (from count value : ℕ) (values : List ℕ) → R from value → ((at : ℕ) → at < count → R (from + 1 + at) (get_or values at 0))
+        → (at : ℕ) → at < suc count → R (from + at) (get_or (value ∷ values) at 0)
     by_place R from count value values first rest zero less = let e : from + 0 ≡ from = omega arith in rw e first
     by_place R from count value values first rest (suc at) less = let e : from + suc at ≡ from + 1 + at = omega arith in rw e (rest at (omega arith))
 
-pub table_from_zip : (plane : Plane) (table : Table) → AllZip (λ at pixel. pixel ≡ numbered_pixel plane table.left table.top table.width at) (range_with_len 0 (table.width * table.height)) table.pixels.items → IsTable plane table
+pub table_from_zip : (plane : Plane) (table : Table) → AllZip (λ at pixel. pixel ≡ numbered_pixel plane table.left table.top table.width at)
+    (range_with_len 0 (table.width * table.height)) table.pixels.items → IsTable plane table
 table_from_zip plane table zip =
     let R : ℕ → ℕ → Type 0 = λ at pixel. pixel ≡ numbered_pixel plane table.left table.top table.width at in
     let all = filled_from R 0 (table.width * table.height) table.pixels.items zip in
@@ -50,17 +54,20 @@ table_from_zip plane table zip =
     }
 
 -- what is zipped with numbers
-each_zipped : {X : Type 0} (P : X → Type 0) (places : List ℕ) (values : List X) → AllZip (λ at s. P s) places values → (at : ℕ) (value : X) → slice_get values at ≡ Some value → P value
+each_zipped : {X : Type 0} (P : X → Type 0) (places : List ℕ) (values : List X) → AllZip (λ at s. P s) places values → (at : ℕ) (value : X)
+    → slice_get values at ≡ Some value → P value
 each_zipped P places [] zip at value is = absurd cc
 each_zipped P [] (first ∷ values) zip at value is = absurd zip
 each_zipped P (place ∷ places) (first ∷ values) zip zero value is = let e : first ≡ value = cc in subst P e zip.0
 each_zipped P (place ∷ places) (first ∷ values) zip (suc at) value is = each_zipped P places values zip.1 at value is
 
 pub slices_collected : (funcs : List Func) (pictures : List PictureContents) (own updates : ℕ) (places : List ℕ) (answer : Result (Vec Slice Global) AllocError)
-    → IfOk answer (λ v. AllZip (λ at slice. IsSliceOf funcs pictures own updates slice) places v.items) → IfOk answer (λ v. AreSlicesOf funcs pictures own updates v.items)
+    → IfOk answer (λ v. AllZip (λ at slice. IsSliceOf funcs pictures own updates slice) places v.items)
+    → IfOk answer (λ v. AreSlicesOf funcs pictures own updates v.items)
 slices_collected funcs pictures own updates places (Ok v) zip = record { each = each_zipped (IsSliceOf funcs pictures own updates) places v.items zip }
 slices_collected funcs pictures own updates places (Err e) zip = tt
 
-pub boxes_collected : (plane : Plane) (places : List ℕ) (answer : Result (Vec Table Global) AllocError) → IfOk answer (λ v. AllZip (λ at table. IsTable plane table) places v.items) → IfOk answer (λ v. AreBoxes plane v.items)
+pub boxes_collected : (plane : Plane) (places : List ℕ) (answer : Result (Vec Table Global) AllocError)
+    → IfOk answer (λ v. AllZip (λ at table. IsTable plane table) places v.items) → IfOk answer (λ v. AreBoxes plane v.items)
 boxes_collected plane places (Ok v) zip = record { each = each_zipped (IsTable plane) places v.items zip }
 boxes_collected plane places (Err e) zip = tt

@@ -1,5 +1,6 @@
 -- Rows of a box, one behind the other.
-use Rattle.std.proofs.Common.{◌≡◌, ◌∙◌, ℕ, zero, suc, ◌+◌, ◌*◌, ◌/◌, ◌%◌, ◌-◌, ◌^◌, ◌<◌, inl, inr, List, [], ◌∷◌, ◌++◌, Vec, Some, length, get_or, refl, sym, ap, subst, arith}
+use Rattle.std.proofs.Common.{◌≡◌, ◌∙◌, ℕ, zero, suc, ◌+◌, ◌*◌, ◌/◌, ◌%◌, ◌-◌, ◌^◌, ◌<◌, inl, inr, List, [], ◌∷◌, ◌++◌, Vec, Some, length, get_or, refl, sym}
+use Rattle.std.proofs.Common.{ap, subst, arith}
 use Rattle.std.specs.Prelude.{slice_get}
 use Rattle.std.specs.List.{AllZip, range_with_len}
 use Rattle.std.specs.declared.alloc.Global.{Global}
@@ -85,7 +86,8 @@ pub are-numbered : (plane : Plane) (left top width height : ℕ) (rows : List (V
 are-numbered plane left top width height rows zip = record {
   each = λ number row is.
       let e : 0 + number ≡ number = omega arith in
-      subst (λ (n : ℕ). IsNumberedRow plane left top width n row.items) e ((zipped-rows (λ n own. IsNumberedRow plane left top width n own.items) 0 height rows zip).1 number row is);
+      subst (λ (n : ℕ). IsNumberedRow plane left top width n row.items) e ((zipped-rows (λ n own. IsNumberedRow plane left top width n own.items) 0 height rows
+      zip).1 number row is);
 }
 
 pub table-of : (plane : Plane) (height : ℕ) (rows : List (Vec ℕ Global)) (table : Table)

@@ -27,13 +27,15 @@ all_three false b c e = absurd cc
 from_test : (i x : ℕ) → (i == x) ≡ true → i ≡ x
 from_test i x e = grind (arith, nat_tests)
 
-by_test : (test : Bool) (pixel value wanted : ℕ) (before : Option ℕ) → (test ≡ true → pixel ≡ wanted) → (before ≡ Some value → value ≡ wanted) → cond test (Some pixel) before ≡ Some value → value ≡ wanted
+by_test : (test : Bool) (pixel value wanted : ℕ) (before : Option ℕ) → (test ≡ true → pixel ≡ wanted) → (before ≡ Some value → value ≡ wanted)
+    → cond test (Some pixel) before ≡ Some value → value ≡ wanted
 by_test true pixel value wanted before own others e =
     let same : pixel ≡ value = cc in
     sym same ∙ own refl
 by_test false pixel value wanted before own others e = others e
 
-pub one_more_kept : (funcs : List Func) (pictures : List PictureContents) (old new : Memo) (place x y pixel : ℕ) → IsMemo funcs pictures old → pixel ≡ plane_in funcs pictures place x y
+pub one_more_kept : (funcs : List Func) (pictures : List PictureContents) (old new : Memo) (place x y pixel : ℕ) → IsMemo funcs pictures old
+    → pixel ≡ plane_in funcs pictures place x y
     → Remembers old new place x y pixel → IsMemo funcs pictures new
 one_more_kept funcs pictures old new place x y pixel are is more = record {
   each = λ at i j value fits_i fits_j found.
@@ -48,7 +50,8 @@ one_more_kept funcs pictures old new place x y pixel are is more = record {
 }
 
 -- a pixel of a Func without updates
-pub pure-pixel : (scene : Scene) (place : ℕ) (func : Func) (x y : ℕ) (point : Environment) (found : Option ℕ) → slice_get scene.funcs.now place ≡ Some func → func.updates ≡ [] → point ≡ at_point x y
+pub pure-pixel : (scene : Scene) (place : ℕ) (func : Func) (x y : ℕ) (point : Environment) (found : Option ℕ) → slice_get scene.funcs.now place ≡ Some func
+    → func.updates ≡ [] → point ≡ at_point x y
     → IfSome found (λ v. v ≡ value (reads_in scene place states.Earlier) point func.pure) → IfSome found (λ v. v ≡ plane_of scene place x y)
 unfolding stage
 pure-pixel scene place func x y point None is none at_is found = found

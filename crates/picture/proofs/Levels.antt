@@ -24,7 +24,8 @@ pixels-before funcs inputs zero place x y before = absurd (omega arith)
 pixels-before funcs inputs (suc count) place x y before = elim (cases_eq place count) [
   | inl same ↦
       let test : (place == count) ≡ true = grind (arith, nat_tests) in
-      let here : func_plane count (slice_get funcs count) inputs (pixels funcs inputs count) x y ≡ func_plane place (slice_get funcs place) inputs (pixels funcs inputs place) x y =
+      let here : func_plane count (slice_get funcs count) inputs (pixels funcs inputs count) x y ≡ func_plane place (slice_get funcs place) inputs
+      (pixels funcs inputs place) x y =
       ap (λ (at : ℕ). func_plane at (slice_get funcs at) inputs (pixels funcs inputs at) x y) (sym same) in
       rw test here
   | inr other ↦
@@ -33,23 +34,29 @@ pixels-before funcs inputs (suc count) place x y before = elim (cases_eq place c
 ]
 
 -- a point that is hit
-pub after-hit : (own : ℕ) (update : Update) (inputs earlier : Planes) (before : Plane) (number x y : ℕ) → 0 < number → is_hit (reads_of inputs earlier) update (at_reduction update (number - 1) x y) ≡ true
-    → after own update inputs earlier before number x y ≡ value (reads_of inputs (with_plane own (after own update inputs earlier before (number - 1)) earlier)) (at_reduction update (number - 1) x y) update.right
+pub after-hit : (own : ℕ) (update : Update) (inputs earlier : Planes) (before : Plane) (number x y : ℕ) → 0 < number
+    → is_hit (reads_of inputs earlier) update (at_reduction update (number - 1) x y) ≡ true
+    → after own update inputs earlier before number x y ≡ value (reads_of inputs (with_plane own (after own update inputs earlier before (number - 1)) earlier))
+    (at_reduction update (number - 1) x y) update.right
 unfolding after
 after-hit own update inputs earlier before zero x y some hit = absurd (omega arith)
 after-hit own update inputs earlier before (suc number) x y some hit =
     let e : suc number - 1 ≡ number = omega arith in
     let hit' : is_hit (reads_of inputs earlier) update (at_reduction update number x y) ≡ true =
     subst (λ (n : ℕ). is_hit (reads_of inputs earlier) update (at_reduction update n x y) ≡ true) e hit in
-    subst (λ (n : ℕ). after own update inputs earlier before (suc number) x y ≡ value (reads_of inputs (with_plane own (after own update inputs earlier before n) earlier)) (at_reduction update n x y) update.right) (sym e)
+    subst (λ (n : ℕ). after own update inputs earlier before (suc number) x y
+    ≡ value (reads_of inputs (with_plane own (after own update inputs earlier before n) earlier)) (at_reduction update n x y) update.right) (sym e)
     (rw hit' refl)
 
 -- what reads find after some points
-pub reads-after : (scene : Scene) (own : ℕ) (func : Func) (update : Update) (updates number : ℕ) → slice_get scene.funcs.now own ≡ Some func → slice_get func.updates updates ≡ Some update
+pub reads-after : (scene : Scene) (own : ℕ) (func : Func) (update : Update) (updates number : ℕ) → slice_get scene.funcs.now own ≡ Some func
+    → slice_get func.updates updates ≡ Some update
     → reads_in scene own (states.After updates number)
-    ≡ reads_of (inputs_of scene) (with_plane own (after own update (inputs_of scene) (earlier_of scene own) (stage own func (inputs_of scene) (earlier_of scene own) updates) number) (earlier_of scene own))
+    ≡ reads_of (inputs_of scene) (with_plane own (after own update (inputs_of scene) (earlier_of scene own) (stage own func (inputs_of scene)
+    (earlier_of scene own) updates) number) (earlier_of scene own))
 reads-after scene own func update updates number is next =
     let with : Option Func → Plane = λ f. after_of own f (inputs_of scene) (earlier_of scene own) updates number in
     let one : reads_in scene own (states.After updates number) ≡ reads_of (inputs_of scene) (with_plane own (with (Some func)) (earlier_of scene own)) =
     ap (λ (f : Option Func). reads_of (inputs_of scene) (with_plane own (with f) (earlier_of scene own))) is in
-    one ∙ ap (λ (u : Option Update). reads_of (inputs_of scene) (with_plane own (after_some own u (inputs_of scene) (earlier_of scene own) (stage own func (inputs_of scene) (earlier_of scene own) updates) number) (earlier_of scene own))) next
+    one ∙ ap (λ (u : Option Update). reads_of (inputs_of scene) (with_plane own (after_some own u (inputs_of scene) (earlier_of scene own)
+    (stage own func (inputs_of scene) (earlier_of scene own) updates) number) (earlier_of scene own))) next

@@ -9,7 +9,8 @@ use Rattle.picture.specs.Reading.{Read, pixels_at, pixel_then, separator}
 abbrev pub onto : List ℕ → Read (List ℕ) → Read (List ℕ)
 onto front others = others >>= λ read. Ok (front ++ read.0, read.1)
 
-onto_onto : (front : List ℕ) (pixel : ℕ) (others : Read (List ℕ)) → onto front (others >>= λ read. Ok (pixel ∷ read.0, read.1)) ≡ onto (front ++ pixel ∷ []) others
+onto_onto : (front : List ℕ) (pixel : ℕ) (others : Read (List ℕ)) → onto front (others >>= λ read. Ok (pixel ∷ read.0, read.1))
+    ≡ onto (front ++ pixel ∷ []) others
 onto_onto front pixel (Ok read) = rw (append_assoc front (pixel ∷ []) read.0) refl
 onto_onto front pixel (Err fault) = refl
 
@@ -39,7 +40,8 @@ unfolding pixels_at
 refused width count text front left rest fault l read = sym (rw read at l.total)
 
 -- no pixel is left
-pub is_done : (width count : ℕ) (text front : List ℕ) (left : ℕ) (rest : List ℕ) → Left width count text front left rest → left ≡ 0 → pixels_at width count text ≡ Ok (front, rest)
+pub is_done : (width count : ℕ) (text front : List ℕ) (left : ℕ) (rest : List ℕ) → Left width count text front left rest → left ≡ 0
+    → pixels_at width count text ≡ Ok (front, rest)
 unfolding pixels_at
 is_done width count text front zero rest l e = sym l.total ∙ rw (append-nil front) refl
 is_done width count text front (suc left) rest l e = absurd (omega arith)

@@ -44,19 +44,22 @@ unfolding measure
 less_size scene own updates number small big less = omega arith
 
 -- fewer points
-pub less_number : (scene : Scene) (own updates low high small big : ℕ) → low < high → small < all_nodes scene.funcs.now + 8 → measure scene own updates low small < measure scene own updates high big
+pub less_number : (scene : Scene) (own updates low high small big : ℕ) → low < high → small < all_nodes scene.funcs.now + 8
+    → measure scene own updates low small < measure scene own updates high big
 unfolding measure
 less_number scene own updates low high small big less fits =
     below (all_nodes scene.funcs.now + 8) (level scene own updates low) (level scene own updates high) small big (omega arith) fits
 
 -- an earlier update
-pub less_updates : (scene : Scene) (own low high number more small big : ℕ) → low < high → number < 2 ^ 65 → small < all_nodes scene.funcs.now + 8 → measure scene own low number small < measure scene own high more big
+pub less_updates : (scene : Scene) (own low high number more small big : ℕ) → low < high → number < 2 ^ 65 → small < all_nodes scene.funcs.now + 8
+    → measure scene own low number small < measure scene own high more big
 unfolding measure
 less_updates scene own low high number more small big less few fits =
     below (all_nodes scene.funcs.now + 8) (level scene own low number) (level scene own high more) small big (omega arith) fits
 
 -- an earlier Func
-pub less_own : (scene : Scene) (low high updates upto number more small big : ℕ) → low < high → updates < all_updates scene.funcs.now + 2 → number < 2 ^ 65 → small < all_nodes scene.funcs.now + 8
+pub less_own : (scene : Scene) (low high updates upto number more small big : ℕ) → low < high → updates < all_updates scene.funcs.now + 2 → number < 2 ^ 65
+    → small < all_nodes scene.funcs.now + 8
     → measure scene low updates number small < measure scene high upto more big
 unfolding measure
 less_own scene low high updates upto number more small big less last few fits =
@@ -69,15 +72,18 @@ less_own scene low high updates upto number more small big less last few fits =
 pub pure_nodes : (funcs : List Func) (own : ℕ) (func : Func) → slice_get funcs own ≡ Some func → nodes func.pure ≤ all_nodes funcs
 unfolding all_nodes
 pure_nodes [] own func e = absurd cc
-pure_nodes (first ∷ funcs) zero func e = let same : first ≡ func = cc in let n : nodes first.pure ≡ nodes func.pure = ap (λ (f : Func). nodes f.pure) same in omega (arith, n)
+pure_nodes (first ∷ funcs) zero func e = let same : first ≡ func = cc in let n : nodes first.pure ≡ nodes func.pure = ap (λ (f : Func). nodes f.pure) same in
+    omega (arith, n)
 pure_nodes (first ∷ funcs) (suc own) func e = omega (arith, pure_nodes funcs own func e)
 
 update_in : (updates : List Update) (at : ℕ) (update : Update) → slice_get updates at ≡ Some update → update_nodes update ≤ updates_nodes updates
 update_in [] at update e = absurd cc
-update_in (first ∷ updates) zero update e = let same : first ≡ update = cc in let n : update_nodes first ≡ update_nodes update = ap update_nodes same in omega (arith, n)
+update_in (first ∷ updates) zero update e = let same : first ≡ update = cc in let n : update_nodes first ≡ update_nodes update = ap update_nodes same in
+    omega (arith, n)
 update_in (first ∷ updates) (suc at) update e = omega (arith, update_in updates at update e)
 
-pub in_updates : (funcs : List Func) (own at : ℕ) (func : Func) (update : Update) → slice_get funcs own ≡ Some func → slice_get func.updates at ≡ Some update → update_nodes update ≤ all_nodes funcs
+pub in_updates : (funcs : List Func) (own at : ℕ) (func : Func) (update : Update) → slice_get funcs own ≡ Some func → slice_get func.updates at ≡ Some update
+    → update_nodes update ≤ all_nodes funcs
 unfolding all_nodes
 in_updates [] own at func update e u = absurd cc
 in_updates (first ∷ funcs) zero at func update e u =
@@ -89,10 +95,12 @@ in_updates (first ∷ funcs) (suc own) at func update e u = omega (arith, in_upd
 pub length-updates : (funcs : List Func) (own : ℕ) (func : Func) → slice_get funcs own ≡ Some func → length func.updates ≤ all_updates funcs
 unfolding all_updates
 length-updates [] own func e = absurd cc
-length-updates (first ∷ funcs) zero func e = let same : first ≡ func = cc in let n : length first.updates ≡ length func.updates = ap (λ (f : Func). length f.updates) same in omega (arith, n)
+length-updates (first ∷ funcs) zero func e = let same : first ≡ func = cc in let n : length first.updates ≡ length func.updates =
+    ap (λ (f : Func). length f.updates) same in omega (arith, n)
 length-updates (first ∷ funcs) (suc own) func e = omega (arith, length-updates funcs own func e)
 
-pub less_in_state : (scene : Scene) (own : ℕ) (state : State) (small big : ℕ) → small < big → state_measure scene own state small < state_measure scene own state big
+pub less_in_state : (scene : Scene) (own : ℕ) (state : State) (small big : ℕ) → small < big
+    → state_measure scene own state small < state_measure scene own state big
 less_in_state scene own states.Earlier small big less = less_size scene own 0 0 small big less
 less_in_state scene own (states.After updates number) small big less = less_size scene own (updates + 1) number small big less
 less_in_state scene own (states.Forward updates number slice) small big less = less_size scene own (updates + 1) number small big less

@@ -1,5 +1,6 @@
 -- Numbers, spelled and read again.
-use Rattle.std.proofs.Common.{◌≡◌, ◌≢◌, ℕ, zero, suc, ◌+◌, ◌-◌, ◌*◌, ◌^◌, ◌<◌, Bool, true, false, cond, ◌&&◌, List, [], ◌∷◌, ◌++◌, length, take, drop, get_or, fold, Result, Ok, Err, refl, sym, ap, subst, ◌∙◌, rules, arith}
+use Rattle.std.proofs.Common.{◌≡◌, ◌≢◌, ℕ, zero, suc, ◌+◌, ◌-◌, ◌*◌, ◌^◌, ◌<◌, Bool, true, false, cond, ◌&&◌, List, [], ◌∷◌, ◌++◌, length, take, drop, get_or}
+use Rattle.std.proofs.Common.{fold, Result, Ok, Err, refl, sym, ap, subst, ◌∙◌, rules, arith}
 use Rattle.std.specs.Prelude.{◌==◌}
 use Rattle.std.specs.List.{list_all, prefix_len}
 use Rattle.std.specs.Fmt.{decimal}
@@ -16,7 +17,8 @@ use Rattle.picture.specs.Reading.{Numeral, is_plain, plain_at, numeral_at}
 
 -- ---- the digits of a number
 
-plain_digits : (negative : Bool) (digits : List ℕ) → 0 < length digits → (get_or digits 0 0 ≡ 48 → length digits ≡ 1) → (negative ≡ true → get_or digits 0 0 ≢ 48) → is_plain negative digits ≡ true
+plain_digits : (negative : Bool) (digits : List ℕ) → 0 < length digits → (get_or digits 0 0 ≡ 48 → length digits ≡ 1)
+    → (negative ≡ true → get_or digits 0 0 ≢ 48) → is_plain negative digits ≡ true
 plain_digits negative [] some one signed = absurd (omega arith)
 plain_digits true (first ∷ []) some one signed = grind (arith, nat_tests, signed refl)
 plain_digits false (first ∷ []) some one signed = refl
@@ -54,11 +56,13 @@ no_sign (first ∷ digits) rest some all =
     unsigned byte true others e is = grind (arith, nat_tests)
     unsigned byte false others e is = absurd cc
 
-pub numeral_at-decimal : (n : ℕ) (rest : List ℕ) → n < 2 ^ 64 → prefix_len is_digit rest ≡ 0 → numeral_at (decimal n ++ rest) ≡ Ok (record { negative = false; digits = decimal n }, rest)
+pub numeral_at-decimal : (n : ℕ) (rest : List ℕ) → n < 2 ^ 64 → prefix_len is_digit rest ≡ 0
+    → numeral_at (decimal n ++ rest) ≡ Ok (record { negative = false; digits = decimal n }, rest)
 numeral_at-decimal n rest small stops =
     no_sign (decimal n) rest (decimal_nonempty n small) (decimal_digits n small) ∙ plain_at-decimal false n rest small (λ e. absurd cc) stops
 
-pub numeral_at-signed : (n : ℕ) (rest : List ℕ) → 0 < n → n < 2 ^ 64 → prefix_len is_digit rest ≡ 0 → numeral_at (45 ∷ (decimal n ++ rest)) ≡ Ok (record { negative = true; digits = decimal n }, rest)
+pub numeral_at-signed : (n : ℕ) (rest : List ℕ) → 0 < n → n < 2 ^ 64 → prefix_len is_digit rest ≡ 0 → numeral_at (45 ∷ (decimal n ++ rest))
+    ≡ Ok (record { negative = true; digits = decimal n }, rest)
 unfolding numeral_at
 numeral_at-signed n rest some small stops = plain_at-decimal true n rest small (λ e. some) stops
 
@@ -70,7 +74,8 @@ cond-Ok true value got fault e = (refl, cc)
 cond-Ok false value got fault e = absurd cc
 
 -- a step that was made
-pub then-Ok : {A B F : Type 0} (first : Result A F) (next : A → Result B F) (got : B) → (first >>= next) ≡ Ok got → (value : A) × ((first ≡ Ok value) × (next value ≡ Ok got))
+pub then-Ok : {A B F : Type 0} (first : Result A F) (next : A → Result B F) (got : B) → (first >>= next) ≡ Ok got
+    → (value : A) × ((first ≡ Ok value) × (next value ≡ Ok got))
 then-Ok (Ok value) next got e = (value, (refl, e))
 then-Ok (Err fault) next got e = absurd cc
 
@@ -125,7 +130,8 @@ unfolding numeral_at
 numeral_at-Ok [] read e = absurd cc
 numeral_at-Ok (byte ∷ text) read e = by_sign byte text read (byte == 45) refl e
   where
-    by_sign : (byte : ℕ) (text : List ℕ) (read : Numeral × List ℕ) (signed : Bool) → (byte == 45) ≡ signed → cond signed (plain_at true text) (plain_at false (byte ∷ text)) ≡ Ok read → HasNumeral (byte ∷ text) read
+    by_sign : (byte : ℕ) (text : List ℕ) (read : Numeral × List ℕ) (signed : Bool) → (byte == 45) ≡ signed
+        → cond signed (plain_at true text) (plain_at false (byte ∷ text)) ≡ Ok read → HasNumeral (byte ∷ text) read
     by_sign byte text read true is e =
         let minus : 45 ≡ byte = grind (arith, nat_tests) in
         subst (λ (first : ℕ). HasNumeral (first ∷ text) read) minus (signed_from_plain true text read (plain_at-Ok true text read e))
@@ -148,12 +154,14 @@ no_leading_zero negative [] plain e = absurd cc
 no_leading_zero negative (first ∷ []) plain e = refl
 no_leading_zero negative (first ∷ second ∷ digits) plain e = absurd (grind (arith, nat_tests))
 
-pub decimal-decimal_number : (negative : Bool) (digits : List ℕ) → list_all is_digit digits ≡ true → is_plain negative digits ≡ true → decimal_number digits < 2 ^ 64 → decimal (decimal_number digits) ≡ digits
+pub decimal-decimal_number : (negative : Bool) (digits : List ℕ) → list_all is_digit digits ≡ true → is_plain negative digits ≡ true
+    → decimal_number digits < 2 ^ 64 → decimal (decimal_number digits) ≡ digits
 decimal-decimal_number negative digits all plain small =
     decimal-digits_value own digits all (some_digit negative digits plain) (no_leading_zero negative digits plain) small
 
 -- no `-0` is read
-pub some_below_zero : (digits : List ℕ) → list_all is_digit digits ≡ true → is_plain true digits ≡ true → decimal_number digits < 2 ^ 64 → 0 < decimal_number digits
+pub some_below_zero : (digits : List ℕ) → list_all is_digit digits ≡ true → is_plain true digits ≡ true → decimal_number digits < 2 ^ 64
+    → 0 < decimal_number digits
 some_below_zero digits all plain small = by_number (decimal_number digits) refl
   where
     by_number : (n : ℕ) → decimal_number digits ≡ n → 0 < n

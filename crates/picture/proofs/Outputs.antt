@@ -1,5 +1,6 @@
 -- A table of the output is the output.
-use Rattle.std.proofs.Common.{◌≡◌, ℕ, ◌+◌, ◌*◌, ◌^◌, ◌<◌, Bool, true, false, cond, List, length, get_or, Option, Some, None, refl, sym, ap, subst, ◌∙◌, arith, inl, inr}
+use Rattle.std.proofs.Common.{◌≡◌, ℕ, ◌+◌, ◌*◌, ◌^◌, ◌<◌, Bool, true, false, cond, List, length, get_or, Option, Some, None, refl, sym, ap, subst, ◌∙◌, arith}
+use Rattle.std.proofs.Common.{inl, inr}
 use Rattle.std.specs.Prelude.{slice_get}
 use Rattle.std.proofs.lemmas.Bool.{cases_lt}
 use Rattle.std.proofs.lemmas.Option.{slice_get_past}
@@ -24,7 +25,8 @@ subtract-zero x fits = omega arith
 func_plane-past : (place : ℕ) (func : Option Func) (inputs earlier : Planes) (x y : ℕ) → func ≡ None → func_plane place func inputs earlier x y ≡ 0
 func_plane-past place func inputs earlier x y e = rw e refl
 
-pub plane_of-all : (funcs : List Func) (given : List PictureContents) (place x y : ℕ) → plane_in funcs given place x y ≡ pixels funcs (input_planes given) (length funcs) place x y
+pub plane_of-all : (funcs : List Func) (given : List PictureContents) (place x y : ℕ)
+    → plane_in funcs given place x y ≡ pixels funcs (input_planes given) (length funcs) place x y
 plane_of-all funcs given place x y = elim (cases_lt place (length funcs)) [
   | inl before ↦ sym (pixels-before funcs (input_planes given) (length funcs) place x y before)
   | inr past ↦
@@ -37,9 +39,12 @@ accepted : (test : Bool) (parts picture : PictureContents) → cond test (Some p
 accepted true parts picture e = (refl, cc)
 accepted false parts picture e = absurd cc
 
-pub output_from_table : (pipeline : Pipeline) (pictures : List PictureContents) (funcs : List Func) (given : List PictureContents) (table : Table) (picture : PictureContents) → funcs ≡ pipeline.funcs → given ≡ pictures
-    → IsTable (plane_in funcs given pipeline.output.func) table → table.left ≡ 0 → table.top ≡ 0 → table.width ≡ pipeline.output.width → table.height ≡ pipeline.output.height
-    → picture_if (record { width = pipeline.output.width; height = pipeline.output.height; pixels = table.pixels.items }) ≡ Some picture → IsPicture picture → IsOutput pipeline pictures picture
+pub output_from_table : (pipeline : Pipeline) (pictures : List PictureContents) (funcs : List Func) (given : List PictureContents) (table : Table)
+    (picture : PictureContents) → funcs ≡ pipeline.funcs → given ≡ pictures
+    → IsTable (plane_in funcs given pipeline.output.func) table → table.left ≡ 0 → table.top ≡ 0 → table.width ≡ pipeline.output.width
+    → table.height ≡ pipeline.output.height
+    → picture_if (record { width = pipeline.output.width; height = pipeline.output.height; pixels = table.pixels.items }) ≡ Some picture → IsPicture picture
+    → IsOutput pipeline pictures picture
 output_from_table pipeline pictures funcs given table picture funcs_are pictures_are is left top width height made rules =
     let parts : PictureContents = record { width = pipeline.output.width; height = pipeline.output.height; pixels = table.pixels.items } in
     let same = accepted (is_picture parts) parts picture made in
@@ -52,7 +57,8 @@ output_from_table pipeline pictures funcs given table picture funcs_are pictures
           let fits_y : y < 2 ^ 32 = omega (arith, limits.most_height, high) in
           let column : x ≡ word.subtract x table.left = sym (ap (word.subtract x) left ∙ subtract-zero x fits_x) in
           let row : y ≡ word.subtract y table.top = sym (ap (word.subtract y) top ∙ subtract-zero y fits_y) in
-          let there = pixel_at_place table (plane_in funcs given pipeline.output.func) x y x y (y * table.width + x) is fits_x fits_y (omega (arith, left)) (omega (arith, top)) column row (omega (arith, width, wide)) (omega (arith, height, high)) refl in
+          let there = pixel_at_place table (plane_in funcs given pipeline.output.func) x y x y (y * table.width + x) is fits_x fits_y (omega (arith, left))
+          (omega (arith, top)) column row (omega (arith, width, wide)) (omega (arith, height, high)) refl in
           ap (λ (n : ℕ). get_or table.pixels.items (y * n + x) 0) (sym width) ∙ there.1 ∙ plane_of-all funcs given pipeline.output.func x y
           ∙ ap (λ (all : List Func). pixels all (input_planes given) (length all) pipeline.output.func x y) funcs_are
           ∙ ap (λ (all : List PictureContents). pixels pipeline.funcs (input_planes all) (length pipeline.funcs) pipeline.output.func x y) pictures_are;

@@ -31,12 +31,14 @@ everywhere update y first second = record {
       ap (λ (b : Bool). b && index_value reads point update.left_y == y) column ∙ row;
 }
 
-pub not-begun : (scene : Scene) (own : ℕ) (update : Update) (plane : Plane) (stretch : Stretch) (before pixels : List ℕ) → pixels ≡ before → IsRowOf plane stretch before
+pub not-begun : (scene : Scene) (own : ℕ) (update : Update) (plane : Plane) (stretch : Stretch) (before pixels : List ℕ) → pixels ≡ before
+    → IsRowOf plane stretch before
     → IsRowOf (after own update (inputs_of scene) (earlier_of scene own) plane 0) stretch pixels
 unfolding after
 not-begun scene own update plane stretch before pixels same is = rw same (record { len = is.len; each = λ at less. is.each at less })
 
-pub one-point-more : (scene : Scene) (own : ℕ) (update : Update) (plane : Plane) (stretch : Stretch) (number : ℕ) (pixels : List ℕ) → StoresEverywhere update stretch.y
+pub one-point-more : (scene : Scene) (own : ℕ) (update : Update) (plane : Plane) (stretch : Stretch) (number : ℕ) (pixels : List ℕ)
+    → StoresEverywhere update stretch.y
     → IsRowOf (one_more scene own update number (after own update (inputs_of scene) (earlier_of scene own) plane number)) stretch pixels
     → IsRowOf (after own update (inputs_of scene) (earlier_of scene own) plane (number + 1)) stretch pixels
 one-point-more scene own update plane stretch number pixels stores is = record {
@@ -51,8 +53,10 @@ one-point-more scene own update plane stretch number pixels stores is = record {
 }
 
 -- behind all points of an update
-pub staged : (own : ℕ) (func : Func) (update : Update) (inputs earlier : Planes) (updates : ℕ) (stretch : Stretch) (pixels : List ℕ) → 0 < updates → slice_get func.updates (updates - 1) ≡ Some update
-    → IsRowOf (after own update inputs earlier (stage own func inputs earlier (updates - 1)) (points update)) stretch pixels → IsRowOf (stage own func inputs earlier updates) stretch pixels
+pub staged : (own : ℕ) (func : Func) (update : Update) (inputs earlier : Planes) (updates : ℕ) (stretch : Stretch) (pixels : List ℕ) → 0 < updates
+    → slice_get func.updates (updates - 1) ≡ Some update
+    → IsRowOf (after own update inputs earlier (stage own func inputs earlier (updates - 1)) (points update)) stretch pixels
+    → IsRowOf (stage own func inputs earlier updates) stretch pixels
 staged own func update inputs earlier updates stretch pixels some next is = record {
   len = is.len;
   each = λ at less. is.each at less ∙ sym (stage-suc own func update inputs earlier updates (word.add stretch.left at) stretch.y some next);

@@ -1,5 +1,6 @@
 -- What is read was spelled so.
-use Rattle.std.proofs.Common.{◌≡◌, ℕ, zero, suc, ◌-◌, ◌*◌, ◌%◌, ◌^◌, ◌<◌, ◌≤◌, Bool, true, false, List, [], ◌∷◌, ◌++◌, length, take, drop, Result, Ok, Err, refl, sym, ap, subst, ◌∙◌, append_assoc, arith}
+use Rattle.std.proofs.Common.{◌≡◌, ℕ, zero, suc, ◌-◌, ◌*◌, ◌%◌, ◌^◌, ◌<◌, ◌≤◌, Bool, true, false, List, [], ◌∷◌, ◌++◌, length, take, drop, Result, Ok, Err}
+use Rattle.std.proofs.Common.{refl, sym, ap, subst, ◌∙◌, append_assoc, arith}
 use Rattle.std.specs.Prelude.{◌==◌, ◌&&◌, nat_eq, nat_lt, nat_le, codes, IfOk}
 use Rattle.std.specs.List.{AllByRecursion, starts_with}
 use Rattle.std.specs.Fmt.{decimal}
@@ -15,7 +16,8 @@ use Rattle.picture.specs.declared.faults.PictureFault.TheVariants.{Syntax, Exten
 use Rattle.halide_pipeline.specs.WellFormed.{is_width, is_height, most_extent, most_points}
 use Rattle.halide_pipeline.specs.Picture.{IsPicture}
 use Rattle.halide_pipeline.specs.Contents.{PictureContents}
-use Rattle.picture.specs.Reading.{number_text, rows_text, heading, spelled, Numeral, separator, pixel_of, pixel_then, pixels_at, heading_at, extent_at, extent_of, picture_at, picture_of, ended, behind, numeral_at}
+use Rattle.picture.specs.Reading.{number_text, rows_text, heading, spelled, Numeral, separator, pixel_of, pixel_then, pixels_at, heading_at, extent_at}
+use Rattle.picture.specs.Reading.{extent_of, picture_at, picture_of, ended, behind, numeral_at}
 use Rattle.picture.proofs.Numerals.{cond-Ok, then-Ok, sign, HasNumeral, numeral_at-Ok, decimal-decimal_number, some_below_zero}
 use Rattle.picture.proofs.Rows.{pixels_text, rows_flat}
 use Rattle.picture.proofs.SpelledBack.{picture_of-spelled}
@@ -109,24 +111,28 @@ pub record HasExtent (test : ℕ → Bool) (text : List ℕ) (read : ℕ × List
   pub text_is : text ≡ decimal read.0 ++ read.1
   pub passes : test read.0 ≡ true
 
-extent_of-Ok : (test : ℕ → Bool) (negative : Bool) (text digits rest : List ℕ) (extent : ℕ) → ((n : ℕ) → test n ≡ true → n < 2 ^ 64) → HasNumeral text (record { negative = negative; digits = digits }, rest)
+extent_of-Ok : (test : ℕ → Bool) (negative : Bool) (text digits rest : List ℕ) (extent : ℕ) → ((n : ℕ) → test n ≡ true → n < 2 ^ 64)
+    → HasNumeral text (record { negative = negative; digits = digits }, rest)
     → extent_of test (record { negative = negative; digits = digits }) ≡ Ok extent → HasExtent test text (extent, rest)
 extent_of-Ok test true text digits rest extent small has e = absurd cc
 extent_of-Ok test false text digits rest extent small has e =
     let passed = cond-Ok (test (decimal_number digits)) (decimal_number digits) extent Extents e in
     subst (λ (n : ℕ). HasExtent test text (n, rest)) passed.1 (record {
-      text_is = has.text_is ∙ ap (λ (xs : List ℕ). xs ++ rest) (sym (decimal-decimal_number false digits has.digits has.plain (small (decimal_number digits) passed.0)));
+      text_is = has.text_is ∙ ap (λ (xs : List ℕ). xs ++ rest) (sym (decimal-decimal_number false digits has.digits has.plain (small (decimal_number digits)
+          passed.0)));
       passes = passed.0;
     })
 
-extent_at-Ok : (test : ℕ → Bool) (text : List ℕ) (read : ℕ × List ℕ) → ((n : ℕ) → test n ≡ true → n < 2 ^ 64) → extent_at test text ≡ Ok read → HasExtent test text read
+extent_at-Ok : (test : ℕ → Bool) (text : List ℕ) (read : ℕ × List ℕ) → ((n : ℕ) → test n ≡ true → n < 2 ^ 64) → extent_at test text ≡ Ok read
+    → HasExtent test text read
 unfolding extent_at
 extent_at-Ok test text read small e =
     let number = then-Ok (numeral_at text) _ read e in
     let extent = then-Ok (extent_of test number.0.0) _ read number.1.1 in
     let has = numeral_at-Ok text number.0 number.1.0 in
     let found : (extent.0, number.0.1) ≡ read = cc extent.1.1 in
-    subst (λ (r : ℕ × List ℕ). HasExtent test text r) found (extent_of-Ok test number.0.0.negative text number.0.0.digits number.0.1 extent.0 small has extent.1.0)
+    subst (λ (r : ℕ × List ℕ). HasExtent test text r) found (extent_of-Ok test number.0.0.negative text number.0.0.digits number.0.1 extent.0 small has
+    extent.1.0)
 
 width_small : (n : ℕ) → is_width n ≡ true → n < 2 ^ 64
 width_small n e =
@@ -160,7 +166,8 @@ heading_at-Ok text read e =
           ∙ ap (λ (xs : List ℕ). codes "picture " ++ xs) has_width.text_is
           ∙ ap (λ (xs : List ℕ). codes "picture " ++ (decimal width.0.0 ++ xs)) (behind-Ok (codes " ") width.0.1 from_height.0 from_height.1.0)
           ∙ ap (λ (xs : List ℕ). codes "picture " ++ (decimal width.0.0 ++ (codes " " ++ xs))) has_height.text_is
-          ∙ ap (λ (xs : List ℕ). codes "picture " ++ (decimal width.0.0 ++ (codes " " ++ (decimal height.0.0 ++ xs)))) (behind-Ok (codes "\n") height.0.1 rest.0 rest.1.0)
+          ∙ ap (λ (xs : List ℕ). codes "picture " ++ (decimal width.0.0 ++ (codes " " ++ (decimal height.0.0 ++ xs)))) (behind-Ok (codes "\n") height.0.1 rest.0
+          rest.1.0)
           ∙ regrouped (codes "picture ") (decimal width.0.0) (codes " ") (decimal height.0.0) (codes "\n") rest.0;
       width = has_width.passes;
       height = has_height.passes;
@@ -186,7 +193,8 @@ picture_at-Ok text read e =
     let has_pixels = pixels_at-Ok width (width * height) extents.0.1 pixels.0 pixels.1.0 in
     let found : (record { width = width; height = height; pixels = pixels.0.0 }, pixels.0.1) ≡ read = cc pixels.1.1 in
     let wide : 0 < width = leb-true 1 width (and_parts (nat_le 1 width) (nat_le width most_extent) has.width).0 in
-    let flat : rows_text width height pixels.0.0 ≡ pixels_text width pixels.0.0 = rows_flat width height pixels.0.0 wide (has_pixels.len ∙ mul_comm width height) in
+    let flat : rows_text width height pixels.0.0 ≡ pixels_text width pixels.0.0 = rows_flat width height pixels.0.0 wide (has_pixels.len
+    ∙ mul_comm width height) in
     let enough : (length pixels.0.0 == width * height) ≡ true = eq-eqb (length pixels.0.0) (width * height) has_pixels.len in
     subst (λ (r : PictureContents × List ℕ). HasPicture text r) found (record {
       text_is = has.text_is
@@ -214,11 +222,13 @@ picture_of-Ok text picture e =
 
 -- ---- the same, of what a call answers
 
-pub IfOk-spelled : (text : List ℕ) (answer : Result PictureContents (ReadError PictureFault)) → Gives (λ picture. picture) answer (picture_of text) → IfOk answer (λ picture. text ≡ spelled picture)
+pub IfOk-spelled : (text : List ℕ) (answer : Result PictureContents (ReadError PictureFault)) → Gives (λ picture. picture) answer (picture_of text)
+    → IfOk answer (λ picture. text ≡ spelled picture)
 IfOk-spelled text (Ok picture) given = picture_of-Ok text picture given
 IfOk-spelled text (Err error) given = tt
 
-pub Gives-again : (text : List ℕ) (answer : Result PictureContents (ReadError PictureFault)) (picture : PictureContents) → Gives (λ read. read) answer (picture_of text) → IsPicture picture → text ≡ spelled picture
+pub Gives-again : (text : List ℕ) (answer : Result PictureContents (ReadError PictureFault)) (picture : PictureContents)
+    → Gives (λ read. read) answer (picture_of text) → IsPicture picture → text ≡ spelled picture
     → Gives (λ read. read) answer (Ok picture)
 Gives-again text answer picture given rules e =
     subst (λ (wanted : Result PictureContents PictureFault). Gives (λ read. read) answer wanted) (ap picture_of e ∙ picture_of-spelled picture rules) given

@@ -1,5 +1,6 @@
 -- The rows of a picture as one sequence of pixels, each with what stands behind it.
-use Rattle.std.proofs.Common.{◌≡◌, ℕ, zero, suc, ◌+◌, ◌-◌, ◌≤◌, ◌*◌, ◌%◌, ◌<◌, false, List, [], ◌∷◌, ◌++◌, length, get_or, take, drop, map, refl, sym, ap, ◌∙◌, append_assoc, arith}
+use Rattle.std.proofs.Common.{◌≡◌, ℕ, zero, suc, ◌+◌, ◌-◌, ◌≤◌, ◌*◌, ◌%◌, ◌<◌, false, List, [], ◌∷◌, ◌++◌, length, get_or, take, drop, map, refl, sym, ap, ◌∙◌}
+use Rattle.std.proofs.Common.{append_assoc, arith}
 use Rattle.std.specs.Prelude.{◌==◌, codes}
 use Rattle.std.specs.List.{join_with_byte}
 use Rattle.std.proofs.lemmas.Bool.{ne_eqb}
@@ -30,7 +31,8 @@ row_flat width first [] others rows few len =
     rw (len, ends_row width rows) (sym (append_assoc (number_text first) (codes "\n") (pixels_text width others)))
 row_flat width first (second ∷ row) others rows few len =
     let n : length ((second ∷ row) ++ others) ≡ rows * width + suc (length row) = length-append (second ∷ row) others ∙ omega arith in
-    let sep : separator width (length ((second ∷ row) ++ others)) ≡ codes " " = ap (λ (left : ℕ). separator width left) n ∙ within_row width rows (length row) few in
+    let sep : separator width (length ((second ∷ row) ++ others)) ≡ codes " " = ap (λ (left : ℕ). separator width left) n
+    ∙ within_row width rows (length row) few in
     let later = row_flat width second row others rows (omega arith) len in
     let text = join_with_byte 32 (map number_text (second ∷ row)) in
     ap (λ (between : List ℕ). number_text first ++ (between ++ pixels_text width ((second ∷ row) ++ others))) sep
@@ -53,7 +55,8 @@ rows_flat width (suc rows) pixels wide len =
     ∙ by_front width rows (take width pixels) (drop width pixels) wide front_len rest_len
     ∙ ap (λ (all : List ℕ). pixels_text width all) (take-append-drop width pixels)
   where
-    by_front : (width rows : ℕ) (front rest : List ℕ) → 0 < width → length front ≡ width → length rest ≡ rows * width → row_text front ++ pixels_text width rest ≡ pixels_text width (front ++ rest)
+    by_front : (width rows : ℕ) (front rest : List ℕ) → 0 < width → length front ≡ width → length rest ≡ rows * width → row_text front ++ pixels_text width rest
+        ≡ pixels_text width (front ++ rest)
     by_front width rows [] rest wide len rest_len = absurd (omega arith)
     by_front width rows (first ∷ row) rest wide len rest_len = sym (row_flat width first row rest rows (omega arith) rest_len)
 
@@ -67,7 +70,8 @@ pub wrote_none : (width : ℕ) (pixels before : List ℕ) → Wrote width pixels
 wrote_none width pixels before = record { whole = refl }
 
 pub wrote_more : (width : ℕ) (pixels before now with_number next : List ℕ) (done : ℕ) → done < length pixels → Wrote width pixels before now done
-    → with_number ≡ now ++ number_text (get_or pixels done 0) → next ≡ with_number ++ separator width (length pixels - 1 - done) → Wrote width pixels before next (done + 1)
+    → with_number ≡ now ++ number_text (get_or pixels done 0) → next ≡ with_number ++ separator width (length pixels - 1 - done)
+    → Wrote width pixels before next (done + 1)
 unfolding pixels_text
 wrote_more width pixels before now with_number next done more wrote number_is separator_is = record {
   whole =
@@ -85,8 +89,10 @@ wrote_more width pixels before now with_number next done more wrote number_is se
     regrouped : (a b c d : List ℕ) → ((a ++ b) ++ c) ++ d ≡ a ++ (b ++ (c ++ d))
     regrouped a b c d = simp append_assoc
 
-pub wrote_all : (width height : ℕ) (pixels before now : List ℕ) (done : ℕ) → 0 < width → length pixels ≡ height * width → length pixels ≤ done → Wrote width pixels before now done → now ≡ before ++ rows_text width height pixels
+pub wrote_all : (width height : ℕ) (pixels before now : List ℕ) (done : ℕ) → 0 < width → length pixels ≡ height * width → length pixels ≤ done
+    → Wrote width pixels before now done → now ≡ before ++ rows_text width height pixels
 unfolding pixels_text
 wrote_all width height pixels before now done wide whole all wrote =
     let none : drop done pixels ≡ [] = drop_all done pixels all in
-    sym (append-nil now) ∙ ap (λ (xs : List ℕ). now ++ pixels_text width xs) (sym none) ∙ wrote.whole ∙ ap (λ (xs : List ℕ). before ++ xs) (sym (rows_flat width height pixels wide whole))
+    sym (append-nil now) ∙ ap (λ (xs : List ℕ). now ++ pixels_text width xs) (sym none) ∙ wrote.whole
+    ∙ ap (λ (xs : List ℕ). before ++ xs) (sym (rows_flat width height pixels wide whole))

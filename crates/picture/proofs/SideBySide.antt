@@ -1,5 +1,6 @@
 -- Updates on many slices together.
-use Rattle.std.proofs.Common.{◌≡◌, ℕ, zero, suc, ◌+◌, ◌*◌, ◌/◌, ◌%◌, ◌-◌, ◌^◌, ◌<◌, ◌≤◌, Bool, true, false, cond, length, get_or, List, [], Option, Some, inl, inr, refl, sym, ap, subst, ◌∙◌, arith}
+use Rattle.std.proofs.Common.{◌≡◌, ℕ, zero, suc, ◌+◌, ◌*◌, ◌/◌, ◌%◌, ◌-◌, ◌^◌, ◌<◌, ◌≤◌, Bool, true, false, cond, length, get_or, List, [], Option, Some, inl}
+use Rattle.std.proofs.Common.{inr, refl, sym, ap, subst, ◌∙◌, arith}
 use Rattle.std.specs.Prelude.{◌==◌, ◌&&◌, ◌||◌, not, slice_get}
 use Rattle.std.proofs.lemmas.Bool.{and_parts, cases_eq, cases_lt, eq-eqb, ne_eqb}
 use Rattle.std.proofs.lemmas.Nat.{div-add-mod', div-mul-add}
@@ -21,7 +22,8 @@ use Rattle.picture.specs.declared.lines.Along.{Along}
 use Rattle.picture.specs.declared.lines.Along.TheVariants as alongs
 use Rattle.picture.specs.declared.lines.Line.{Line}
 use Rattle.picture.specs.declared.scenes.State.TheVariants as states
-use Rattle.picture.specs.inner.Evaluation.{inputs_of, earlier_of, numbered_pixel, reads_in, stage_in, stage_some, AreNumbered, IsAt, IsNumberedRow, IsPass, IsTable}
+use Rattle.picture.specs.inner.Evaluation.{inputs_of, earlier_of, numbered_pixel, reads_in, stage_in, stage_some, AreNumbered, IsAt, IsNumberedRow, IsPass}
+use Rattle.picture.specs.inner.Evaluation.{IsTable}
 use Rattle.picture.specs.inner.Lines.{line_point, lower_point, pixel_point, reads_with, Fits}
 use Rattle.picture.specs.declared.in_place.Stretch.{Stretch}
 use Rattle.picture.specs.inner.PixelRows.{IsRowOf}
@@ -40,12 +42,15 @@ argument_agrees false true i x ok same u = absurd cc
 argument_agrees false false i x ok same u = absurd cc
 
 -- arguments that are in place are the same
-pub sides-agree : (update : Update) (number i j x y : ℕ) → is_forward update ≡ true → (is_first_in_place update ≡ true → i ≡ x) → (is_second_in_place update ≡ true → j ≡ y)
+pub sides-agree : (update : Update) (number i j x y : ℕ) → is_forward update ≡ true → (is_first_in_place update ≡ true → i ≡ x)
+    → (is_second_in_place update ≡ true → j ≡ y)
     → SameSides update (at_reduction update number i j) (at_reduction update number x y)
 sides-agree update number i j x y forward first second = same_sides update (at_reduction update number i j) (at_reduction update number x y) agree
   where
-    parts : ((is_first_in_place update || not (mentions variables.FirstArgument update)) ≡ true) × ((is_second_in_place update || not (mentions variables.SecondArgument update)) ≡ true)
-    parts = and_parts (is_first_in_place update || not (mentions variables.FirstArgument update)) (is_second_in_place update || not (mentions variables.SecondArgument update)) forward
+    parts : ((is_first_in_place update || not (mentions variables.FirstArgument update)) ≡ true)
+        × ((is_second_in_place update || not (mentions variables.SecondArgument update)) ≡ true)
+    parts = and_parts (is_first_in_place update || not (mentions variables.FirstArgument update)) (is_second_in_place update
+        || not (mentions variables.SecondArgument update)) forward
 
     agree : (v : Variable) → mentions v update ≡ true → variable (at_reduction update number i j) v ≡ variable (at_reduction update number x y) v
     agree variables.FirstArgument used = argument_agrees (is_first_in_place update) (mentions variables.FirstArgument update) i x parts.0 first used
@@ -85,20 +90,26 @@ one-more-point scene pass number i j x y left_x left_y right forward first secon
 
 -- what a place of a row stores is what the update does at this point
 pub record Stores (scene : Scene) (pass : Pass) (number x y : ℕ) (row : StoreRow) (at : ℕ) : Type 0 where
-  pub left_x : value_at row.x at ≡ value (reads_of (inputs_of scene) (earlier_of scene pass.own)) (at_reduction pass.update.now number x y) pass.update.now.left_x
-  pub left_y : value_at row.y at ≡ index_value (reads_of (inputs_of scene) (earlier_of scene pass.own)) (at_reduction pass.update.now number x y) pass.update.now.left_y
-  pub right : value_at row.value at ≡ value (reads_with scene pass.own (after_points scene pass number)) (at_reduction pass.update.now number x y) pass.update.now.right
+  pub left_x : value_at row.x at ≡ value (reads_of (inputs_of scene) (earlier_of scene pass.own)) (at_reduction pass.update.now number x y)
+      pass.update.now.left_x
+  pub left_y : value_at row.y at ≡ index_value (reads_of (inputs_of scene) (earlier_of scene pass.own)) (at_reduction pass.update.now number x y)
+      pass.update.now.left_y
+  pub right : value_at row.value at ≡ value (reads_with scene pass.own (after_points scene pass number)) (at_reduction pass.update.now number x y)
+      pass.update.now.right
 
 -- the stores before a place, where no other place's reaches this point
-module _ (row : StoreRow) (plane : Plane) (i j at width : ℕ) (others : (k : ℕ) → k < width → (k ≡ at → ⊥) → (i == value_at row.x k && j == value_at row.y k) ≡ false) where
+module _ (row : StoreRow) (plane : Plane) (i j at width : ℕ) (others : (k : ℕ) → k < width → (k ≡ at → ⊥) → (i == value_at row.x k && j == value_at row.y k)
+    ≡ false) where
   not-yet : (count : ℕ) → count ≤ at → count ≤ width → with_stores row count plane i j ≡ plane i j
   unfolding with_stores
   not-yet zero less within = refl
   not-yet (suc count) less within =
-      ap (λ (t : Bool). cond t (value_at row.value count) (with_stores row count plane i j)) (others count (omega (arith, within)) (λ e. omega (arith, less, e)))
+      ap (λ (t : Bool). cond t (value_at row.value count) (with_stores row count plane i j)) (others count (omega (arith, within))
+      (λ e. omega (arith, less, e)))
       ∙ not-yet count (omega (arith, less)) (omega (arith, within))
 
-  pub stored-once : (count : ℕ) → at < count → count ≤ width → with_stores row count plane i j ≡ cond (i == value_at row.x at && j == value_at row.y at) (value_at row.value at) (plane i j)
+  pub stored-once : (count : ℕ) → at < count → count ≤ width → with_stores row count plane i j ≡ cond (i == value_at row.x at && j == value_at row.y at)
+      (value_at row.value at) (plane i j)
   unfolding with_stores
   stored-once zero less within = absurd (omega arith)
   stored-once (suc count) less within = elim (cases_eq count at) [
@@ -129,7 +140,8 @@ inside (suc width) height at less =
     )
 
 -- a plane that is the same at the points of a table
-pub table-same : (one other : Plane) (table : Table) → ((column row : ℕ) → column < table.width → row < table.height → one (word.add table.left column) (word.add table.top row) ≡ other (word.add table.left column) (word.add table.top row))
+pub table-same : (one other : Plane) (table : Table) → ((column row : ℕ) → column < table.width → row < table.height
+    → one (word.add table.left column) (word.add table.top row) ≡ other (word.add table.left column) (word.add table.top row))
     → IsTable one table → IsTable other table
 unfolding numbered_pixel
 table-same one other table same is = record {
@@ -147,13 +159,15 @@ apart corner one other small_one small_other differ e = differ (omega (arith, e)
 
 -- a line's stores come to one more point of the update, at each point of the box
 pub whole-columns : (scene : Scene) (pass : Pass) (number i j left top at width : ℕ) (row : StoreRow)
-    → ((reads : Reads) (point : Environment) → value reads point pass.update.now.left_x ≡ point.first_argument) → is_second_in_place pass.update.now ≡ false → is_forward pass.update.now ≡ true
+    → ((reads : Reads) (point : Environment) → value reads point pass.update.now.left_x ≡ point.first_argument) → is_second_in_place pass.update.now ≡ false
+    → is_forward pass.update.now ≡ true
     → ((k : ℕ) → k < width → Stores scene pass number (word.add left k) top row k) → width ≤ 2 ^ 32 → at < width → i ≡ word.add left at
     → with_stores row width (after_points scene pass number) i j ≡ after_points scene pass (number + 1) i j
 whole-columns scene pass number i j left top at width row first second forward stores narrow less i_is =
     let here = stores at less in
     stored-once row (after_points scene pass number) i j at width others width less (omega arith)
-    ∙ sym (one-more-point scene pass number i j (word.add left at) top (value_at row.x at) (value_at row.y at) (value_at row.value at) forward (λ e. i_is) (λ e. absurd (differ (sym second ∙ e))) here.left_x here.left_y here.right)
+    ∙ sym (one-more-point scene pass number i j (word.add left at) top (value_at row.x at) (value_at row.y at) (value_at row.value at) forward (λ e. i_is)
+    (λ e. absurd (differ (sym second ∙ e))) here.left_x here.left_y here.right)
   where
     differ : false ≡ true → ⊥
     differ e = cc
@@ -162,17 +176,20 @@ whole-columns scene pass number i j left top at width row first second forward s
     others k within other =
         let there = stores k within in
         let column : value_at row.x k ≡ word.add left k = there.left_x ∙ first _ _ in
-        let no : (i == value_at row.x k) ≡ false = ne_eqb i (value_at row.x k) (λ e. apart left k at (omega (arith, within, narrow)) (omega (arith, less, narrow)) other (sym column ∙ sym e ∙ i_is)) in
+        let no : (i == value_at row.x k) ≡ false = ne_eqb i (value_at row.x k) (λ e. apart left k at (omega (arith, within, narrow))
+        (omega (arith, less, narrow)) other (sym column ∙ sym e ∙ i_is)) in
         ap (λ (t : Bool). t && j == value_at row.y k) no
 
 pub whole-rows : (scene : Scene) (pass : Pass) (number i j left top at height : ℕ) (row : StoreRow)
-    → ((reads : Reads) (point : Environment) → index_value reads point pass.update.now.left_y ≡ point.second_argument) → is_first_in_place pass.update.now ≡ false → is_forward pass.update.now ≡ true
+    → ((reads : Reads) (point : Environment) → index_value reads point pass.update.now.left_y ≡ point.second_argument)
+    → is_first_in_place pass.update.now ≡ false → is_forward pass.update.now ≡ true
     → ((k : ℕ) → k < height → Stores scene pass number left (word.add top k) row k) → height ≤ 2 ^ 32 → at < height → j ≡ word.add top at
     → with_stores row height (after_points scene pass number) i j ≡ after_points scene pass (number + 1) i j
 whole-rows scene pass number i j left top at height row second first forward stores narrow less j_is =
     let here = stores at less in
     stored-once row (after_points scene pass number) i j at height others height less (omega arith)
-    ∙ sym (one-more-point scene pass number i j left (word.add top at) (value_at row.x at) (value_at row.y at) (value_at row.value at) forward (λ e. absurd (differ (sym first ∙ e))) (λ e. j_is) here.left_x here.left_y here.right)
+    ∙ sym (one-more-point scene pass number i j left (word.add top at) (value_at row.x at) (value_at row.y at) (value_at row.value at) forward
+    (λ e. absurd (differ (sym first ∙ e))) (λ e. j_is) here.left_x here.left_y here.right)
   where
     differ : false ≡ true → ⊥
     differ e = cc
@@ -185,26 +202,34 @@ whole-rows scene pass number i j left top at height row second first forward sto
     others k within other =
         let there = stores k within in
         let line : value_at row.y k ≡ word.add top k = there.left_y ∙ second _ _ in
-        let no : (j == value_at row.y k) ≡ false = ne_eqb j (value_at row.y k) (λ e. apart top k at (omega (arith, within, narrow)) (omega (arith, less, narrow)) other (sym line ∙ sym e ∙ j_is)) in
+        let no : (j == value_at row.y k) ≡ false = ne_eqb j (value_at row.y k) (λ e. apart top k at (omega (arith, within, narrow))
+        (omega (arith, less, narrow)) other (sym line ∙ sym e ∙ j_is)) in
         ap (λ (t : Bool). i == value_at row.x k && t) no ∙ neither (i == value_at row.x k)
 
 -- ---- a row of stores
 
-pub stores-of : (scene : Scene) (pass : Pass) (line : Line) (number x y k : ℕ) (row : StoreRow) → IsStoreRow scene pass line row → Fits line (after_points scene pass number)
+pub stores-of : (scene : Scene) (pass : Pass) (line : Line) (number x y k : ℕ) (row : StoreRow) → IsStoreRow scene pass line row
+    → Fits line (after_points scene pass number)
     → k < line.width → line_point line.along line.start k ≡ at_reduction pass.update.now number x y → Stores scene pass number x y row k
 stores-of scene pass line number x y k row is fits less point = record {
-  left_x = is.x.each (earlier_of scene pass.own pass.own) tt k less ∙ ap (λ (reads : Reads). value reads (line_point line.along line.start k) pass.update.now.left_x) (reads-earlier scene pass.own)
+  left_x = is.x.each (earlier_of scene pass.own pass.own) tt k less
+      ∙ ap (λ (reads : Reads). value reads (line_point line.along line.start k) pass.update.now.left_x) (reads-earlier scene pass.own)
       ∙ ap (λ (env : Environment). value (reads_in scene pass.own states.Earlier) env pass.update.now.left_x) point;
-  left_y = is.y.each (earlier_of scene pass.own pass.own) tt k less ∙ ap (λ (reads : Reads). index_value reads (line_point line.along line.start k) pass.update.now.left_y) (reads-earlier scene pass.own)
+  left_y = is.y.each (earlier_of scene pass.own pass.own) tt k less
+      ∙ ap (λ (reads : Reads). index_value reads (line_point line.along line.start k) pass.update.now.left_y) (reads-earlier scene pass.own)
       ∙ ap (λ (env : Environment). index_value (reads_in scene pass.own states.Earlier) env pass.update.now.left_y) point;
-  right = is.value.each (after_points scene pass number) fits k less ∙ ap (λ (env : Environment). value (reads_with scene pass.own (after_points scene pass number)) env pass.update.now.right) point;
+  right = is.value.each (after_points scene pass number) fits k less
+      ∙ ap (λ (env : Environment). value (reads_with scene pass.own (after_points scene pass number)) env pass.update.now.right) point;
 }
 
 -- ---- one point of the reduction box on all slices
 
-pub one-point-on : (scene : Scene) (pass : Pass) (along : Along) (line : Line) (number : ℕ) (old new : Table) (row : StoreRow) → IsSide pass.update.now along → line.along ≡ along → line.width ≡ side_length along old
-    → line.start ≡ at_reduction pass.update.now number old.left old.top → line.width ≤ 2 ^ 32 → IsStoreRow scene pass line row → Fits line (after_points scene pass number)
-    → IsAt old.left old.top old.width old.height new → IsTable (with_stores row line.width (after_points scene pass number)) new → IsTable (after_points scene pass (number + 1)) new
+pub one-point-on : (scene : Scene) (pass : Pass) (along : Along) (line : Line) (number : ℕ) (old new : Table) (row : StoreRow) → IsSide pass.update.now along
+    → line.along ≡ along → line.width ≡ side_length along old
+    → line.start ≡ at_reduction pass.update.now number old.left old.top → line.width ≤ 2 ^ 32 → IsStoreRow scene pass line row
+    → Fits line (after_points scene pass number)
+    → IsAt old.left old.top old.width old.height new → IsTable (with_stores row line.width (after_points scene pass number)) new
+    → IsTable (after_points scene pass (number + 1)) new
 one-point-on scene pass alongs.Reduction line number old new row side along_is width_is start_is narrow is fits at made = absurd side
 one-point-on scene pass alongs.Columns line number old new row side along_is width_is start_is narrow is fits at made =
     table-same (with_stores row line.width (after_points scene pass number)) (after_points scene pass (number + 1)) new each made
@@ -213,10 +238,12 @@ one-point-on scene pass alongs.Columns line number old new row side along_is wid
     point k = ap (λ (a : Along). line_point a line.start k) along_is ∙ ap (λ (start : Environment). pixel_point start k) start_is
 
     each : (column line_at : ℕ) → column < new.width → line_at < new.height
-        → with_stores row line.width (after_points scene pass number) (word.add new.left column) (word.add new.top line_at) ≡ after_points scene pass (number + 1) (word.add new.left column) (word.add new.top line_at)
+        → with_stores row line.width (after_points scene pass number) (word.add new.left column) (word.add new.top line_at)
+        ≡ after_points scene pass (number + 1) (word.add new.left column) (word.add new.top line_at)
     each column line_at wide high =
         whole-columns scene pass number (word.add new.left column) (word.add new.top line_at) old.left old.top column line.width row side.0 side.1 side.2
-        (λ k less. stores-of scene pass line number (word.add old.left k) old.top k row is fits less (point k)) narrow (omega (arith, wide, width_is, at.width_is)) (ap (λ (n : ℕ). word.add n column) at.left_is)
+        (λ k less. stores-of scene pass line number (word.add old.left k) old.top k row is fits less (point k)) narrow
+        (omega (arith, wide, width_is, at.width_is)) (ap (λ (n : ℕ). word.add n column) at.left_is)
 one-point-on scene pass alongs.Rows line number old new row side along_is width_is start_is narrow is fits at made =
     table-same (with_stores row line.width (after_points scene pass number)) (after_points scene pass (number + 1)) new each made
   where
@@ -224,10 +251,12 @@ one-point-on scene pass alongs.Rows line number old new row side along_is width_
     point k = ap (λ (a : Along). line_point a line.start k) along_is ∙ ap (λ (start : Environment). lower_point start k) start_is
 
     each : (column line_at : ℕ) → column < new.width → line_at < new.height
-        → with_stores row line.width (after_points scene pass number) (word.add new.left column) (word.add new.top line_at) ≡ after_points scene pass (number + 1) (word.add new.left column) (word.add new.top line_at)
+        → with_stores row line.width (after_points scene pass number) (word.add new.left column) (word.add new.top line_at)
+        ≡ after_points scene pass (number + 1) (word.add new.left column) (word.add new.top line_at)
     each column line_at wide high =
         whole-rows scene pass number (word.add new.left column) (word.add new.top line_at) old.left old.top line_at line.width row side.0 side.1 side.2
-        (λ k less. stores-of scene pass line number old.left (word.add old.top k) k row is fits less (point k)) narrow (omega (arith, high, width_is, at.height_is)) (ap (λ (n : ℕ). word.add n line_at) at.top_is)
+        (λ k less. stores-of scene pass line number old.left (word.add old.top k) k row is fits less (point k)) narrow
+        (omega (arith, high, width_is, at.height_is)) (ap (λ (n : ℕ). word.add n line_at) at.top_is)
 
 -- ---- one pixel put in its place
 
@@ -254,11 +283,15 @@ unfolding word.add word.subtract
 back corner at fits small = omega arith
 
 -- a pixel outside changes nothing
-pub put-nothing : (plane : Plane) (table : Table) (x y pixel column row : ℕ) → IsTable plane table → table.width ≤ 2 ^ 32 → table.height ≤ 2 ^ 32 → table.left < 2 ^ 32 → table.top < 2 ^ 32
-    → column ≡ word.subtract x table.left → row ≡ word.subtract y table.top → (column < table.width → row < table.height → ⊥) → IsTable (with_pixel x y pixel plane) table
-put-nothing plane table x y pixel column row is narrow low fits_left fits_top column_is row_is outside = table-same plane (with_pixel x y pixel plane) table each is
+pub put-nothing : (plane : Plane) (table : Table) (x y pixel column row : ℕ) → IsTable plane table → table.width ≤ 2 ^ 32 → table.height ≤ 2 ^ 32
+    → table.left < 2 ^ 32 → table.top < 2 ^ 32
+    → column ≡ word.subtract x table.left → row ≡ word.subtract y table.top → (column < table.width → row < table.height → ⊥)
+    → IsTable (with_pixel x y pixel plane) table
+put-nothing plane table x y pixel column row is narrow low fits_left fits_top column_is row_is outside = table-same plane (with_pixel x y pixel plane) table
+    each is
   where
-    each : (col line : ℕ) → col < table.width → line < table.height → plane (word.add table.left col) (word.add table.top line) ≡ with_pixel x y pixel plane (word.add table.left col) (word.add table.top line)
+    each : (col line : ℕ) → col < table.width → line < table.height → plane (word.add table.left col) (word.add table.top line)
+        ≡ with_pixel x y pixel plane (word.add table.left col) (word.add table.top line)
     each col line wide high = elim (cases_eq (word.add table.left col) x) [
       | inl same_x ↦
           let here : column ≡ col = column_is ∙ ap (λ (n : ℕ). word.subtract n table.left) (sym same_x) ∙ back table.left col fits_left (omega arith) in
@@ -266,13 +299,16 @@ put-nothing plane table x y pixel column row is narrow low fits_left fits_top co
             | inl same_y ↦
                 let there : row ≡ line = row_is ∙ ap (λ (n : ℕ). word.subtract n table.top) (sym same_y) ∙ back table.top line fits_top (omega arith) in
                 absurd (outside (omega (arith, here, wide)) (omega (arith, there, high)))
-            | inr other ↦ sym (ap (λ (t : Bool). cond t pixel (plane (word.add table.left col) (word.add table.top line))) (second-false x y (word.add table.left col) (word.add table.top line) other))
+            | inr other ↦ sym (ap (λ (t : Bool). cond t pixel (plane (word.add table.left col) (word.add table.top line)))
+                (second-false x y (word.add table.left col) (word.add table.top line) other))
           ]
-      | inr other ↦ sym (ap (λ (t : Bool). cond t pixel (plane (word.add table.left col) (word.add table.top line))) (first-false x y (word.add table.left col) (word.add table.top line) other))
+      | inr other ↦ sym (ap (λ (t : Bool). cond t pixel (plane (word.add table.left col) (word.add table.top line))) (first-false x y (word.add table.left col)
+          (word.add table.top line) other))
     ]
 
 -- a pixel inside
-pub put-pixel : (plane : Plane) (old new : Table) (x y pixel column row at : ℕ) → IsTable plane old → old.width ≤ 2 ^ 32 → old.height ≤ 2 ^ 32 → x < 2 ^ 32 → y < 2 ^ 32 → old.left < 2 ^ 32 → old.top < 2 ^ 32
+pub put-pixel : (plane : Plane) (old new : Table) (x y pixel column row at : ℕ) → IsTable plane old → old.width ≤ 2 ^ 32 → old.height ≤ 2 ^ 32 → x < 2 ^ 32
+    → y < 2 ^ 32 → old.left < 2 ^ 32 → old.top < 2 ^ 32
     → column ≡ word.subtract x old.left → row ≡ word.subtract y old.top → column < old.width → at ≡ row * old.width + column
     → IsAt old.left old.top old.width old.height new → length new.pixels.items ≡ length old.pixels.items → get_or new.pixels.items at 0 ≡ pixel
     → ((k : ℕ) → (k ≡ at → ⊥) → get_or new.pixels.items k 0 ≡ get_or old.pixels.items k 0) → IsTable (with_pixel x y pixel plane) new
@@ -291,8 +327,10 @@ put-pixel plane old new x y pixel column row at is narrow low fits_x fits_y fits
             let at_x : word.add old.left (k % old.width) ≡ x = ap (word.add old.left) (remainder ∙ column_is) ∙ add-subtract x old.left fits_x fits_left in
             let at_y : word.add old.top (k / old.width) ≡ y = ap (word.add old.top) (quotient ∙ row_is) ∙ add-subtract y old.top fits_y fits_top in
             ap (λ (n : ℕ). get_or new.pixels.items n 0) same ∙ there
-            ∙ sym (ap (λ (t : Bool). cond t pixel (plane (word.add old.left (k % old.width)) (word.add old.top (k / old.width)))) (both-true x y (word.add old.left (k % old.width)) (word.add old.top (k / old.width)) at_x at_y))
-        | inr other ↦ rest k other ∙ is.each k within ∙ sym (ap (λ (t : Bool). cond t pixel (plane (word.add old.left (k % old.width)) (word.add old.top (k / old.width)))) (elsewhere k within other))
+            ∙ sym (ap (λ (t : Bool). cond t pixel (plane (word.add old.left (k % old.width)) (word.add old.top (k / old.width))))
+            (both-true x y (word.add old.left (k % old.width)) (word.add old.top (k / old.width)) at_x at_y))
+        | inr other ↦ rest k other ∙ is.each k within
+            ∙ sym (ap (λ (t : Bool). cond t pixel (plane (word.add old.left (k % old.width)) (word.add old.top (k / old.width)))) (elsewhere k within other))
       ]);
 }
   where
@@ -302,10 +340,12 @@ put-pixel plane old new x y pixel column row at is narrow low fits_x fits_y fits
         let whole : k / old.width * old.width + k % old.width ≡ k = div-add-mod' k old.width in
         elim (cases_eq (word.add old.left (k % old.width)) x) [
           | inl same_x ↦
-              let here : column ≡ k % old.width = column_is ∙ ap (λ (n : ℕ). word.subtract n old.left) (sym same_x) ∙ back old.left (k % old.width) fits_left (omega (arith, places.0, narrow)) in
+              let here : column ≡ k % old.width = column_is ∙ ap (λ (n : ℕ). word.subtract n old.left) (sym same_x)
+              ∙ back old.left (k % old.width) fits_left (omega (arith, places.0, narrow)) in
               elim (cases_eq (word.add old.top (k / old.width)) y) [
                 | inl same_y ↦
-                    let below : row ≡ k / old.width = row_is ∙ ap (λ (n : ℕ). word.subtract n old.top) (sym same_y) ∙ back old.top (k / old.width) fits_top (omega (arith, places.1, low)) in
+                    let below : row ≡ k / old.width = row_is ∙ ap (λ (n : ℕ). word.subtract n old.top) (sym same_y)
+                    ∙ back old.top (k / old.width) fits_top (omega (arith, places.1, low)) in
                     let lines : row * old.width ≡ k / old.width * old.width = ap (λ (n : ℕ). n * old.width) below in
                     absurd (other (omega (arith, at_is, lines, here, whole)))
                 | inr differ ↦ second-false x y (word.add old.left (k % old.width)) (word.add old.top (k / old.width)) differ
@@ -316,14 +356,17 @@ put-pixel plane old new x y pixel column row at is narrow low fits_x fits_y fits
 -- ---- before the first point, and behind the last one
 
 pub begins : (scene : Scene) (pass : Pass) (left top width number y : ℕ) (pixels : List ℕ) → y ≡ word.add top number
-    → AreValues width (λ at. stage pass.own pass.func.now (inputs_of scene) (earlier_of scene pass.own) pass.updates (word.add left at) y) pixels → IsNumberedRow (after_points scene pass 0) left top width number pixels
+    → AreValues width (λ at. stage pass.own pass.func.now (inputs_of scene) (earlier_of scene pass.own) pass.updates (word.add left at) y) pixels
+    → IsNumberedRow (after_points scene pass 0) left top width number pixels
 unfolding after
 begins scene pass left top width number y pixels y_is are = record {
   len = are.len;
-  each = λ at less. are.each at less ∙ ap (λ (n : ℕ). stage pass.own pass.func.now (inputs_of scene) (earlier_of scene pass.own) pass.updates (word.add left at) n) y_is;
+  each = λ at less. are.each at less ∙ ap (λ (n : ℕ). stage pass.own pass.func.now (inputs_of scene) (earlier_of scene pass.own) pass.updates (word.add left at)
+      n) y_is;
 }
 
-pub table-of-rows : (plane : Plane) (table : Table) (rows : ℕ) → AreNumbered plane table.left table.top table.width rows table.pixels.items → rows ≡ table.height → IsTable plane table
+pub table-of-rows : (plane : Plane) (table : Table) (rows : ℕ) → AreNumbered plane table.left table.top table.width rows table.pixels.items
+    → rows ≡ table.height → IsTable plane table
 table-of-rows plane table rows are all = record { len = are.len ∙ ap (λ (n : ℕ). table.width * n) all; each = are.each }
 
 pub no-pixels : (plane : Plane) (table : Table) → table.pixels.items ≡ [] → table.height ≡ 0 → IsTable plane table
@@ -332,14 +375,18 @@ no-pixels plane table none low =
     let zero_is : table.width * table.height ≡ table.width * 0 = ap (λ (n : ℕ). table.width * n) low in
     record { len = omega (arith, empty, zero_is); each = λ at less. absurd (omega (arith, empty, less)) }
 
-pub behind : (scene : Scene) (pass : Pass) (table : Table) → IsPass scene pass → IsTable (after_points scene pass (points pass.update.now)) table → IsTable (stage_in scene.funcs.now scene.pictures.now pass.own (pass.updates + 1)) table
-behind scene pass table is made = table-same (after_points scene pass (points pass.update.now)) (stage_in scene.funcs.now scene.pictures.now pass.own (pass.updates + 1)) table (λ column row wide high. all (word.add table.left column) (word.add table.top row)) made
+pub behind : (scene : Scene) (pass : Pass) (table : Table) → IsPass scene pass → IsTable (after_points scene pass (points pass.update.now)) table
+    → IsTable (stage_in scene.funcs.now scene.pictures.now pass.own (pass.updates + 1)) table
+behind scene pass table is made = table-same (after_points scene pass (points pass.update.now)) (stage_in scene.funcs.now scene.pictures.now pass.own
+    (pass.updates + 1)) table (λ column row wide high. all (word.add table.left column) (word.add table.top row)) made
   where
     all : (x y : ℕ) → after_points scene pass (points pass.update.now) x y ≡ stage_in scene.funcs.now scene.pictures.now pass.own (pass.updates + 1) x y
     all x y =
         let e : pass.updates + 1 - 1 ≡ pass.updates = omega arith in
-        let next : slice_get pass.func.now.updates (pass.updates + 1 - 1) ≡ Some pass.update.now = subst (λ (n : ℕ). slice_get pass.func.now.updates n ≡ Some pass.update.now) (sym e) is.next in
-        ap (λ (n : ℕ). after pass.own pass.update.now (inputs_of scene) (earlier_of scene pass.own) (stage pass.own pass.func.now (inputs_of scene) (earlier_of scene pass.own) n) (points pass.update.now) x y) (sym e)
+        let next : slice_get pass.func.now.updates (pass.updates + 1 - 1) ≡ Some pass.update.now = subst (λ (n : ℕ). slice_get pass.func.now.updates n
+        ≡ Some pass.update.now) (sym e) is.next in
+        ap (λ (n : ℕ). after pass.own pass.update.now (inputs_of scene) (earlier_of scene pass.own) (stage pass.own pass.func.now (inputs_of scene)
+        (earlier_of scene pass.own) n) (points pass.update.now) x y) (sym e)
         ∙ sym (stage-suc pass.own pass.func.now pass.update.now (inputs_of scene) (earlier_of scene pass.own) (pass.updates + 1) x y (omega arith) next)
         ∙ ap (λ (f : Option Func). stage_some pass.own f (inputs_of scene) (earlier_of scene pass.own) (pass.updates + 1) x y) (sym is.is)
 
@@ -349,7 +396,8 @@ pub no-store : (row : StoreRow) (plane : Plane) (table : Table) → IsTable plan
 unfolding with_stores
 no-store row plane table is = table-same plane (with_stores row 0 plane) table (λ column line wide high. refl) is
 
-pub store-more : (row : StoreRow) (at x y pixel : ℕ) (plane : Plane) (table : Table) → x ≡ value_at row.x at → y ≡ value_at row.y at → pixel ≡ value_at row.value at
+pub store-more : (row : StoreRow) (at x y pixel : ℕ) (plane : Plane) (table : Table) → x ≡ value_at row.x at → y ≡ value_at row.y at
+    → pixel ≡ value_at row.value at
     → IsTable (with_pixel x y pixel (with_stores row at plane)) table → IsTable (with_stores row (at + 1) plane) table
 unfolding with_stores
 store-more row at x y pixel plane table x_is y_is pixel_is is =
@@ -358,8 +406,10 @@ store-more row at x y pixel plane table x_is y_is pixel_is is =
     (λ column line wide high.
     let i = word.add table.left column in
     let j = word.add table.top line in
-    ap (λ (n : ℕ). cond (i == n && j == y) pixel (with_stores row at plane i j)) x_is ∙ ap (λ (n : ℕ). cond (i == value_at row.x at && j == n) pixel (with_stores row at plane i j)) y_is
-    ∙ ap (λ (n : ℕ). cond (i == value_at row.x at && j == value_at row.y at) n (with_stores row at plane i j)) pixel_is ∙ ap (λ (n : ℕ). with_stores row n plane i j) e)
+    ap (λ (n : ℕ). cond (i == n && j == y) pixel (with_stores row at plane i j)) x_is
+    ∙ ap (λ (n : ℕ). cond (i == value_at row.x at && j == n) pixel (with_stores row at plane i j)) y_is
+    ∙ ap (λ (n : ℕ). cond (i == value_at row.x at && j == value_at row.y at) n (with_stores row at plane i j)) pixel_is
+    ∙ ap (λ (n : ℕ). with_stores row n plane i j) e)
     is
 
 -- ---- pixels of a box
@@ -369,21 +419,25 @@ pub boxed-stage : (scene : Scene) (own : ℕ) (func : Func) (updates before x y 
 boxed-stage scene own func updates before x y pixel is one there =
     there ∙ ap (λ (n : ℕ). stage_in scene.funcs.now scene.pictures.now own n x y) one ∙ stage_in-known scene own func updates x y is
 
-pub boxed-stretch : (scene : Scene) (own : ℕ) (func : Func) (updates before : ℕ) (stretch : Stretch) (pixels : List ℕ) → slice_get scene.funcs.now own ≡ Some func → before + 1 ≡ updates
-    → IsRowOf (stage_in scene.funcs.now scene.pictures.now own (before + 1)) stretch pixels → IsRowOf (stage own func (inputs_of scene) (earlier_of scene own) updates) stretch pixels
+pub boxed-stretch : (scene : Scene) (own : ℕ) (func : Func) (updates before : ℕ) (stretch : Stretch) (pixels : List ℕ)
+    → slice_get scene.funcs.now own ≡ Some func → before + 1 ≡ updates
+    → IsRowOf (stage_in scene.funcs.now scene.pictures.now own (before + 1)) stretch pixels
+    → IsRowOf (stage own func (inputs_of scene) (earlier_of scene own) updates) stretch pixels
 boxed-stretch scene own func updates before stretch pixels is one are = record {
   len = are.len;
   each = λ at less. boxed-stage scene own func updates before (word.add stretch.left at) stretch.y _ is one (are.each at less);
 }
 
 -- pixels of the pure definition
-pub pure-stretch : (scene : Scene) (own : ℕ) (func : Func) (stretch : Stretch) (start : Environment) (row : Row) (pixels : List ℕ) → start ≡ at_point stretch.left stretch.y
+pub pure-stretch : (scene : Scene) (own : ℕ) (func : Func) (stretch : Stretch) (start : Environment) (row : Row) (pixels : List ℕ)
+    → start ≡ at_point stretch.left stretch.y
     → ((plane : Plane) (at : ℕ) → at < stretch.width → value_at row at ≡ value (reads_with scene own plane) (pixel_point start at) func.pure)
     → AreValues stretch.width (value_at row) pixels → IsRowOf (stage own func (inputs_of scene) (earlier_of scene own) 0) stretch pixels
 unfolding stage
 pure-stretch scene own func stretch start row pixels start_is shared written = record {
   len = written.len;
   each = λ at less.
-      written.each at less ∙ shared (earlier_of scene own own) at less ∙ ap (λ (reads : Reads). value reads (pixel_point start at) func.pure) (reads-earlier scene own)
+      written.each at less ∙ shared (earlier_of scene own own) at less ∙ ap (λ (reads : Reads). value reads (pixel_point start at) func.pure)
+      (reads-earlier scene own)
       ∙ ap (λ (from : Environment). value (reads_in scene own states.Earlier) (pixel_point from at) func.pure) start_is;
 }

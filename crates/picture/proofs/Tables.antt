@@ -1,5 +1,6 @@
 -- Reads of a table.
-use Rattle.std.proofs.Common.{◌≡◌, ℕ, zero, suc, ◌+◌, ◌*◌, ◌/◌, ◌%◌, ◌^◌, ◌<◌, ◌≤◌, List, [], ◌∷◌, ◌++◌, length, Some, ◌⊎◌, inl, inr, subst, get_or, refl, sym, ap, ◌∙◌, arith}
+use Rattle.std.proofs.Common.{◌≡◌, ℕ, zero, suc, ◌+◌, ◌*◌, ◌/◌, ◌%◌, ◌^◌, ◌<◌, ◌≤◌, List, [], ◌∷◌, ◌++◌, length, Some, ◌⊎◌, inl, inr, subst, get_or, refl, sym}
+use Rattle.std.proofs.Common.{ap, ◌∙◌, arith}
 use Rattle.std.proofs.lemmas.Nat.{div-mul-add, div-add-mod'}
 use Rattle.std.proofs.Math.Nat.{mul-le-mul_right}
 use Rattle.halide_pipeline.specs.Words as word
@@ -16,7 +17,8 @@ pub add-subtract : (x corner : ℕ) → x < 2 ^ 32 → corner < 2 ^ 32 → word.
 unfolding word.add word.subtract
 add-subtract x corner fits corner_fits = omega arith
 
-pub pixel_at_place : (table : Table) (plane : Plane) (x y column row at : ℕ) → IsTable plane table → x < 2 ^ 32 → y < 2 ^ 32 → table.left < 2 ^ 32 → table.top < 2 ^ 32
+pub pixel_at_place : (table : Table) (plane : Plane) (x y column row at : ℕ) → IsTable plane table → x < 2 ^ 32 → y < 2 ^ 32 → table.left < 2 ^ 32
+    → table.top < 2 ^ 32
     → column ≡ word.subtract x table.left → row ≡ word.subtract y table.top → column < table.width → row < table.height → at ≡ row * table.width + column
     → (at < length table.pixels.items) × (get_or table.pixels.items at 0 ≡ plane x y)
 unfolding numbered_pixel
@@ -46,7 +48,8 @@ no_tables funcs pictures tables e = record { each = λ place table at. absurd (n
     none place table e = cc
 
 -- an item behind others
-got : {X : Type 0} (tables : List X) (table : X) (place : ℕ) (other : X) → slice_get (tables ++ table ∷ []) place ≡ Some other → (slice_get tables place ≡ Some other) ⊎ ((place ≡ length tables) × (table ≡ other))
+got : {X : Type 0} (tables : List X) (table : X) (place : ℕ) (other : X) → slice_get (tables ++ table ∷ []) place ≡ Some other
+    → (slice_get tables place ≡ Some other) ⊎ ((place ≡ length tables) × (table ≡ other))
 got [] table zero other at = inr (refl, cc)
 got [] table (suc place) other at = absurd cc
 got (first ∷ tables) table zero other at = inl at
@@ -55,12 +58,17 @@ got (first ∷ tables) table (suc place) other at = elim (got tables table place
   | inr last ↦ inr (ap suc last.0, last.1)
 ]
 
-pub one_more_table : (funcs : List Func) (pictures : List PictureContents) (tables next : List Table) (table : Table) → AreTablesOf funcs pictures tables → IsTable (plane_in funcs pictures (length tables)) table → next ≡ tables ++ table ∷ []
+pub one_more_table : (funcs : List Func) (pictures : List PictureContents) (tables next : List Table) (table : Table) → AreTablesOf funcs pictures tables
+    → IsTable (plane_in funcs pictures (length tables)) table → next ≡ tables ++ table ∷ []
     → AreTablesOf funcs pictures next
 one_more_table funcs pictures tables next table are is e =
-    subst (λ (all : List Table). AreTablesOf funcs pictures all) (sym e) (record { each = λ place other at. by_place place other (got tables table place other at) })
+    subst (λ (all : List Table). AreTablesOf funcs pictures all) (sym e) (record {
+      each = λ place other at. by_place place other (got tables table place other
+          at);
+    })
   where
-    by_place : (place : ℕ) (other : Table) → (slice_get tables place ≡ Some other) ⊎ ((place ≡ length tables) × (table ≡ other)) → IsTable (plane_in funcs pictures place) other
+    by_place : (place : ℕ) (other : Table) → (slice_get tables place ≡ Some other) ⊎ ((place ≡ length tables) × (table ≡ other))
+        → IsTable (plane_in funcs pictures place) other
     by_place place other (inl before) = are.each place other before
     by_place place other (inr last) =
         subst (λ (t : Table). IsTable (plane_in funcs pictures place) t) last.1 (subst (λ (at : ℕ). IsTable (plane_in funcs pictures at) table) (sym last.0) is)
@@ -73,7 +81,8 @@ item-is (first ∷ items) (suc at) item is less = item-is items at item is (omeg
 
 -- ---- what updates come to, one after the other
 
-pub known-at : (funcs : List Func) (pictures : List PictureContents) (known : List Known) (at : ℕ) (one : Known) (own updates : ℕ) → AreKnownOf funcs pictures known
+pub known-at : (funcs : List Func) (pictures : List PictureContents) (known : List Known) (at : ℕ) (one : Known) (own updates : ℕ)
+    → AreKnownOf funcs pictures known
     → one ≡ get_or known at one → at < length known → one.own ≡ own → one.updates ≡ updates → IsKnown funcs pictures own updates one
 known-at funcs pictures known at one own updates are is less own_is updates_is =
     subst (λ (n : ℕ). IsKnown funcs pictures n updates one) own_is
@@ -85,10 +94,12 @@ none_known funcs pictures known e = record { each = λ at k is. absurd (none at 
     none : (at : ℕ) (k : Known) → slice_get {X = Known} [] at ≡ Some k → ⊥
     none at k e = cc
 
-pub one_more_known : (funcs : List Func) (pictures : List PictureContents) (known next : List Known) (one : Known) → AreKnownOf funcs pictures known → IsKnown funcs pictures one.own one.updates one → next ≡ known ++ one ∷ [] → AreKnownOf funcs pictures next
+pub one_more_known : (funcs : List Func) (pictures : List PictureContents) (known next : List Known) (one : Known) → AreKnownOf funcs pictures known
+    → IsKnown funcs pictures one.own one.updates one → next ≡ known ++ one ∷ [] → AreKnownOf funcs pictures next
 one_more_known funcs pictures known next one are is e =
     subst (λ (all : List Known). AreKnownOf funcs pictures all) (sym e) (record { each = λ at other there. by_place at other (got known one at other there) })
   where
-    by_place : (at : ℕ) (other : Known) → (slice_get known at ≡ Some other) ⊎ ((at ≡ length known) × (one ≡ other)) → IsKnown funcs pictures other.own other.updates other
+    by_place : (at : ℕ) (other : Known) → (slice_get known at ≡ Some other) ⊎ ((at ≡ length known) × (one ≡ other))
+        → IsKnown funcs pictures other.own other.updates other
     by_place at other (inl before) = are.each at other before
     by_place at other (inr last) = subst (λ (k : Known). IsKnown funcs pictures k.own k.updates k) last.1 is

@@ -2,7 +2,8 @@
 -- first place that is faulty decides. A number is judged as a whole, where it begins: its digits are
 -- all that stand there, and they are judged before the byte behind them.
 -- The format is this project's own.
-use Rattle.std.specs.Prelude.{◌≡◌, ℕ, zero, suc, ◌-◌, ◌*◌, ◌%◌, ◌^◌, ◌==◌, ◌&&◌, not, Bool, true, false, nat_eq, nat_lt, nat_le, if◌then◌else◌, List, [], ◌∷◌, length, take, drop, codes, Result, Ok, Err, ◌++◌, map}
+use Rattle.std.specs.Prelude.{◌≡◌, ℕ, zero, suc, ◌-◌, ◌*◌, ◌%◌, ◌^◌, ◌==◌, ◌&&◌, not, Bool, true, false, nat_eq, nat_lt, nat_le, if◌then◌else◌, List, [], ◌∷◌}
+use Rattle.std.specs.Prelude.{length, take, drop, codes, Result, Ok, Err, ◌++◌, map}
 use Rattle.std.specs.List.{prefix_len, starts_with, join_with_byte}
 use Rattle.std.specs.Fmt.{decimal}
 use Rattle.line_text.specs.Lines.{is_digit, decimal_number, ◌>>=◌}

@@ -22,7 +22,8 @@ step-adds width first second made operation row row_is operation_is made_is = re
   each = λ at less. rw (made_is, row_is, operation_is) (adds first second at);
 }
 
-pub step-subtracts : (width first second made : ℕ) (operation : Operation) (row : Row) → row ≡ rows.Step first → operation ≡ op.Subtract → made ≡ word.subtract first second
+pub step-subtracts : (width first second made : ℕ) (operation : Operation) (row : Row) → row ≡ rows.Step first → operation ≡ op.Subtract
+    → made ≡ word.subtract first second
     → IsRow width (λ at. word.applied operation (value_at row at) second) (rows.Step made)
 step-subtracts width first second made operation row row_is operation_is made_is = record {
   len = tt;

@@ -83,7 +83,8 @@ pub parts_made : (word : ℕ) (parts : List (ℕ × ℕ × ℕ)) → PartsAre wo
 unfolding in_parts Holds
 parts_made word [] are = tt
 parts_made word (p ∷ parts) are =
-    Holds-append word (fixed (span p.0 p.1) p.2) (in_parts parts) (Holds-fixed word (span p.0 p.1) p.2 (number_at-span word p.0 p.1 ∙ are.0)) (parts_made word parts are.1)
+    Holds-append word (fixed (span p.0 p.1) p.2) (in_parts parts) (Holds-fixed word (span p.0 p.1) p.2 (number_at-span word p.0 p.1 ∙ are.0))
+    (parts_made word parts are.1)
 
 pub parts_read : (word : ℕ) (parts : List (ℕ × ℕ × ℕ)) → PartsFit parts → Holds word (in_parts parts) → PartsAre word parts
 unfolding in_parts

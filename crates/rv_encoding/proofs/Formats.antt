@@ -1,12 +1,14 @@
 -- Each format both ways: a word with the right parts stands for a row of the format, and a word that stands for one is decoded to its fields.
-use Rattle.std.proofs.Common.{◌≡◌, ℕ, ◌+◌, ◌*◌, ◌^◌, ◌<◌, List, [], ◌∷◌, ◌++◌, length, refl, sym, ◌∙◌, ap, arith, lit<, ℤ, pos, Option, Some, Bool, true, false, nat_eq}
+use Rattle.std.proofs.Common.{◌≡◌, ℕ, ◌+◌, ◌*◌, ◌^◌, ◌<◌, List, [], ◌∷◌, ◌++◌, length, refl, sym, ◌∙◌, ap, arith, lit<, ℤ, pos, Option, Some, Bool, true, false}
+use Rattle.std.proofs.Common.{nat_eq}
 use Rattle.rv_insn.specs.Encoding.{Holds, number_at, span, fixed, signed, field_of, bit_of}
 use Rattle.rv_insn.specs.Encoding.Field.{Unsigned, Signed}
 use Rattle.rv_insn.specs.Table as table
 use Rattle.rv_insn.specs.Table.{i_places, s_places, b_places, u_places, j_places, r_type, i_type, s_type, b_type, u_type, j_type, amo_type, whole_word}
 use Rattle.rv_insn.specs.declared.instructions.Insn.{Insn}
 use Rattle.rv_encoding.specs.Formats.{Stands}
-use Rattle.rv_encoding.specs.Decoding.{part, rd_of, rs1_of, rs2_of, i_immediate_of, s_immediate_of, b_offset_of, u_immediate_of, j_offset_of, flag_of, by_keys, decoded}
+use Rattle.rv_encoding.specs.Decoding.{part, rd_of, rs1_of, rs2_of, i_immediate_of, s_immediate_of, b_offset_of, u_immediate_of, j_offset_of, flag_of, by_keys}
+use Rattle.rv_encoding.specs.Decoding.{decoded}
 use Rattle.rv_encoding.proofs.Bits.{number_at-span, number_at-append, Holds-fixed, number_at-fixed, Holds-append, Holds-parts}
 
 -- ---- keys: a part of the word that is fixed
@@ -23,7 +25,8 @@ two_keys opcode funct3 = fixed (span 0 7) opcode ++ fixed (span 12 3) funct3
 two_made : (word opcode funct3 : ℕ) → part word 0 7 ≡ opcode → part word 12 3 ≡ funct3 → Holds word (two_keys opcode funct3)
 two_made word opcode funct3 opcode_is funct3_is = Holds-append word _ _ (key_made word 0 7 opcode opcode_is) (key_made word 12 3 funct3 funct3_is)
 
-two_read : (word opcode funct3 : ℕ) → opcode < 2 ^ 7 → funct3 < 2 ^ 3 → Holds word (two_keys opcode funct3) → (part word 0 7 ≡ opcode) × (part word 12 3 ≡ funct3)
+two_read : (word opcode funct3 : ℕ) → opcode < 2 ^ 7 → funct3 < 2 ^ 3 → Holds word (two_keys opcode funct3)
+    → (part word 0 7 ≡ opcode) × (part word 12 3 ≡ funct3)
 unfolding span
 two_read word opcode funct3 small small' h =
     let parts = Holds-parts word (fixed (span 0 7) opcode) (fixed (span 12 3) funct3) h in
@@ -187,7 +190,8 @@ unfolding rd_of rs1_of rs2_of
 amo_packed word rd rs1 rs2 aq rl opcode_is funct3_is funct7_is rd_is rs1_is rs2_is =
     let aq_small = bit_of-lt aq in
     let rl_small = bit_of-lt rl in
-    amo_made 0b0101111 0b010 0b00000 word rd rs1 rs2 aq rl opcode_is funct3_is (omega (arith, funct7_is, aq_small, rl_small)) rd_is rs1_is rs2_is (omega (arith, funct7_is, aq_small, rl_small)) (omega (arith, funct7_is, aq_small, rl_small))
+    amo_made 0b0101111 0b010 0b00000 word rd rs1 rs2 aq rl opcode_is funct3_is (omega (arith, funct7_is, aq_small, rl_small)) rd_is rs1_is rs2_is
+    (omega (arith, funct7_is, aq_small, rl_small)) (omega (arith, funct7_is, aq_small, rl_small))
 
 -- ---- from a row that a word stands for to what the word is decoded to
 
@@ -201,10 +205,12 @@ by_opcode : (opcode word : ℕ) (o : Option Insn) → part word 0 7 ≡ opcode �
 unfolding decoded
 by_opcode opcode word o e k = ap (λ x. by_keys x (funct3_of word) (funct7_of word) word) e ∙ k
 
-by_funct3 : (opcode funct3 word : ℕ) (o : Option Insn) → part word 0 7 ≡ opcode → part word 12 3 ≡ funct3 → by_keys opcode funct3 (funct7_of word) word ≡ o → decoded word ≡ o
+by_funct3 : (opcode funct3 word : ℕ) (o : Option Insn) → part word 0 7 ≡ opcode → part word 12 3 ≡ funct3 → by_keys opcode funct3 (funct7_of word) word ≡ o
+    → decoded word ≡ o
 by_funct3 opcode funct3 word o e f k = by_opcode opcode word o e (ap (λ x. by_keys opcode x (funct7_of word) word) f ∙ k)
 
-by_funct7 : (opcode funct3 funct7 word : ℕ) (o : Option Insn) → part word 0 7 ≡ opcode → part word 12 3 ≡ funct3 → part word 25 7 ≡ funct7 → by_keys opcode funct3 funct7 word ≡ o → decoded word ≡ o
+by_funct7 : (opcode funct3 funct7 word : ℕ) (o : Option Insn) → part word 0 7 ≡ opcode → part word 12 3 ≡ funct3 → part word 25 7 ≡ funct7
+    → by_keys opcode funct3 funct7 word ≡ o → decoded word ≡ o
 by_funct7 opcode funct3 funct7 word o e f s k = by_funct3 opcode funct3 word o e f (ap (λ x. by_keys opcode funct3 x word) s ∙ k)
 
 pub u_case : (make : ℕ → ℕ → Insn) (opcode : ℕ) → opcode < 2 ^ 7 → (word rd imm : ℕ)
@@ -261,9 +267,12 @@ r_case make opcode funct3 funct7 small small' small'' word rd rs1 rs2 k h =
     by_funct7 opcode funct3 funct7 word _ keys.0 keys.1 (key_read word 25 7 funct7 small'' parts.1) (k ∙ cc)
 
 -- an atomic operation, of which funct5 names the row
-pub amo_case : (make : ℕ → ℕ → ℕ → Bool → Bool → Insn) (opcode funct3 funct5 : ℕ) → opcode < 2 ^ 7 → funct3 < 2 ^ 3 → funct5 < 2 ^ 5 → (word rd rs1 rs2 : ℕ) (aq rl : Bool)
-    → (part word 27 5 ≡ funct5 → by_keys opcode funct3 (funct7_of word) word ≡ Some (make (rd_of word) (rs1_of word) (rs2_of word) (flag_of word 26) (flag_of word 25)))
-    → Stands word (amo_type [] opcode funct3 funct5) (pos rd ∷ pos rs1 ∷ pos rs2 ∷ pos (bit_of aq) ∷ pos (bit_of rl) ∷ []) → decoded word ≡ Some (make rd rs1 rs2 aq rl)
+pub amo_case : (make : ℕ → ℕ → ℕ → Bool → Bool → Insn) (opcode funct3 funct5 : ℕ) → opcode < 2 ^ 7 → funct3 < 2 ^ 3 → funct5 < 2 ^ 5
+    → (word rd rs1 rs2 : ℕ) (aq rl : Bool)
+    → (part word 27 5 ≡ funct5 → by_keys opcode funct3 (funct7_of word) word ≡ Some (make (rd_of word) (rs1_of word) (rs2_of word) (flag_of word 26)
+    (flag_of word 25)))
+    → Stands word (amo_type [] opcode funct3 funct5) (pos rd ∷ pos rs1 ∷ pos rs2 ∷ pos (bit_of aq) ∷ pos (bit_of rl) ∷ [])
+    → decoded word ≡ Some (make rd rs1 rs2 aq rl)
 unfolding Stands amo_type span
 amo_case make opcode funct3 funct5 small small' small'' word rd rs1 rs2 aq rl k h =
     let parts = Holds-parts word (two_keys opcode funct3) (fixed (span 27 5) funct5) h.0 in

@@ -46,7 +46,8 @@ All-from_test test P means [] h k d within = absurd (omega arith)
 All-from_test test P means (x ∷ xs) h zero d within = means x (both_true _ _ h).0
 All-from_test test P means (x ∷ xs) h (suc k) d within = All-from_test test P means xs (both_true _ _ h).1 k d (omega arith)
 
-pub AllPairs-from_test : {X : Type 0} (test : X → X → Bool) (R : X → X → Type 0) → ((x y : X) → test x y ≡ true → R x y) → (xs : List X) → pairs_pass test xs ≡ true → AllPairs R xs
+pub AllPairs-from_test : {X : Type 0} (test : X → X → Bool) (R : X → X → Type 0) → ((x y : X) → test x y ≡ true → R x y) → (xs : List X)
+    → pairs_pass test xs ≡ true → AllPairs R xs
 AllPairs-from_test test R means [] h = λ i j d lt within. absurd (omega arith)
 AllPairs-from_test test R means (x ∷ xs) h =
     let parts = both_true _ _ h in

@@ -5,15 +5,20 @@ use Rattle.std.specs.Str.{bytes_eq}
 use Rattle.rv_insn.specs.Encoding.{Holds, field_of, Row, in_parts, fixed, span}
 use Rattle.rv_insn.specs.Table.{table, scalar_table, r_type, i_type, s_type, b_type, u_type, j_type, amo_type, whole_word, name_of, fields_of, Means}
 use Rattle.rv_insn.specs.declared.instructions.Insn.{Insn}
-use Rattle.rv_insn.specs.declared.instructions.Insn.TheVariants.{Lui, Auipc, Jal, Jalr, Branch, Load, Store, AluImm, Shift, Alu, AmoaddW, Fence, Ecall, Ebreak, Vector}
+use Rattle.rv_insn.specs.declared.instructions.Insn.TheVariants.{Lui, Auipc, Jal, Jalr, Branch, Load, Store, AluImm, Shift, Alu, AmoaddW, Fence, Ecall, Ebreak}
+use Rattle.rv_insn.specs.declared.instructions.Insn.TheVariants.{Vector}
 use Rattle.rv_insn.specs.declared.operations.ShiftOp.{ShiftOp}
 use Rattle.rv_insn.specs.VectorTable.{vector_table}
-use Rattle.rv_encoding.specs.Operations.{branch_funct3, branch_of, load_funct3, load_of, store_funct3, store_of, alu_imm_funct3, alu_imm_of, shift_funct3, shift_funct7, shift_of, alu_funct3, alu_funct7, alu_of, key_in}
+use Rattle.rv_encoding.specs.Operations.{branch_funct3, branch_of, load_funct3, load_of, store_funct3, store_of, alu_imm_funct3, alu_imm_of, shift_funct3}
+use Rattle.rv_encoding.specs.Operations.{shift_funct7, shift_of, alu_funct3, alu_funct7, alu_of, key_in}
 use Rattle.rv_encoding.specs.Formats.{Stands, shape_of, StandsFor}
 use Rattle.rv_encoding.specs.Decoding.{part, rd_of, rs1_of, rs2_of, i_immediate_of, s_immediate_of, b_offset_of, with_op, op_imm_from, op_imm_in, decoded}
-use Rattle.rv_encoding.proofs.Formats.{u_made, j_made, i_made, s_made, b_made, r_made, amo_made, whole_made, bit_of-flag, u_case, j_case, i_case, s_case, b_case, r_case, amo_case, whole_case, funct3_of, funct7_of}
+use Rattle.rv_encoding.proofs.Formats.{u_made, j_made, i_made, s_made, b_made, r_made, amo_made, whole_made, bit_of-flag, u_case, j_case, i_case, s_case}
+use Rattle.rv_encoding.proofs.Formats.{b_case, r_case, amo_case, whole_case, funct3_of, funct7_of}
 use Rattle.rv_encoding.proofs.Lists.{some_same, Contains-find}
-use Rattle.rv_encoding.proofs.Operations.{branch_funct3-lt, branch_of-funct3, branch_found, load_funct3-lt, load_of-funct3, load_found, store_funct3-lt, store_of-funct3, store_found, alu_imm_funct3-lt, alu_imm_of-funct3, alu_imm_found, shift_funct3-lt, shift_funct7-lt, shift_of-keys, shift_found, shift_is_no_alu_imm, alu_funct3-lt, alu_funct7-lt, alu_of-keys, alu_found}
+use Rattle.rv_encoding.proofs.Operations.{branch_funct3-lt, branch_of-funct3, branch_found, load_funct3-lt, load_of-funct3, load_found, store_funct3-lt}
+use Rattle.rv_encoding.proofs.Operations.{store_of-funct3, store_found, alu_imm_funct3-lt, alu_imm_of-funct3, alu_imm_found, shift_funct3-lt, shift_funct7-lt}
+use Rattle.rv_encoding.proofs.Operations.{shift_of-keys, shift_found, shift_is_no_alu_imm, alu_funct3-lt, alu_funct7-lt, alu_of-keys, alu_found}
 use Rattle.rv_encoding.proofs.Rows.{same_row}
 use Rattle.rv_encoding.proofs.VectorMeanings.{vector_decoded, tried, with_found, op_v_stands, load_stands, store_stands}
 
@@ -99,11 +104,13 @@ decoded_from_stands word (Vector insn) small h = vector_decoded word insn h
 
 -- an operation with an immediate, and where there is none a shift
 op_imm_stands : (word : ℕ) → part word 0 7 ≡ 0b0010011 → IfSome (op_imm_in (funct3_of word) (funct7_of word) word) (StandsFor word)
-op_imm_stands word o = elim (alu_imm_of (funct3_of word)) as (λ found. (alu_imm_of (funct3_of word) ≡ found) → IfSome (op_imm_from found (funct3_of word) (funct7_of word) word) (StandsFor word)) [
-  | Some op ↦ λ e. i_made 0b0010011 (alu_imm_funct3 op) word _ _ _ o (sym (alu_imm_found _ op e)) refl refl refl
-  | None ↦ λ e. with_found _ (shift_of (funct3_of word) (funct7_of word)) (StandsFor word)
-      (λ op e. let keys = shift_found _ _ op e in r_made 0b0010011 (shift_funct3 op) (shift_funct7 op) word _ _ _ o (sym keys.0) (sym keys.1) refl refl refl)
-] refl
+op_imm_stands word o = elim (alu_imm_of (funct3_of word)) as (λ found. (alu_imm_of (funct3_of word) ≡ found)
+    → IfSome (op_imm_from found (funct3_of word) (funct7_of word) word) (StandsFor word)) [
+      | Some op ↦ λ e. i_made 0b0010011 (alu_imm_funct3 op) word _ _ _ o (sym (alu_imm_found _ op e)) refl refl refl
+      | None ↦ λ e. with_found _ (shift_of (funct3_of word) (funct7_of word)) (StandsFor word)
+          (λ op e. let keys = shift_found _ _ op e in r_made 0b0010011 (shift_funct3 op) (shift_funct7 op) word _ _ _ o (sym keys.0) (sym keys.1) refl refl
+          refl)
+    ] refl
 
 stands_if_decoded : (word : ℕ) → word < 2 ^ 32 → IfSome (decoded word) (StandsFor word)
 unfolding decoded
@@ -122,8 +129,10 @@ stands_if_decoded word small =
     tried (part word 0 7) 0b0010011 _ _ (StandsFor word) (λ o. op_imm_stands word o) (
     tried (part word 0 7) 0b0110011 _ _ (StandsFor word) (λ o. with_found _ (alu_of (funct3_of word) (funct7_of word)) (StandsFor word)
     (λ op e. let keys = alu_found _ _ op e in r_made 0b0110011 (alu_funct3 op) (alu_funct7 op) word _ _ _ o (sym keys.0) (sym keys.1) refl refl refl)) (
-    tried (part word 0 7) 0b0101111 _ _ (StandsFor word) (λ o. tried (funct3_of word) 0b010 _ _ (StandsFor word) (λ f. tried (part word 27 5) 0b00000 _ _ (StandsFor word)
-    (λ s. amo_made 0b0101111 0b010 0b00000 word _ _ _ _ _ o f s refl refl refl (bit_of-flag (part word 26 1) (omega arith)) (bit_of-flag (part word 25 1) (omega arith))) tt) tt) (
+    tried (part word 0 7) 0b0101111 _ _ (StandsFor word) (λ o. tried (funct3_of word) 0b010 _ _ (StandsFor word) (λ f. tried (part word 27 5) 0b00000
+    _ _ (StandsFor word)
+    (λ s. amo_made 0b0101111 0b010 0b00000 word _ _ _ _ _ o f s refl refl refl (bit_of-flag (part word 26 1) (omega arith)) (bit_of-flag (part word 25 1)
+    (omega arith))) tt) tt) (
     tried (part word 0 7) 0b0001111 _ _ (StandsFor word) (λ o. tried word 0x0FF0000F _ _ (StandsFor word)
     (λ e. subst (λ w. StandsFor w Fence) (sym e) (whole_made 0x0FF0000F (lit< tt))) tt) (
     tried (part word 0 7) 0b1110011 _ _ (StandsFor word) (λ o. tried word 0x00000073 _ _ (StandsFor word)

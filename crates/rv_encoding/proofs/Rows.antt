@@ -1,5 +1,6 @@
 -- The table as a whole: its names are distinct, its rows apart, and each row has a place for every bit of a word.
-use Rattle.std.proofs.Common.{◌≡◌, ◌≢◌, ℕ, zero, suc, ◌^◌, ◌<◌, ◌==◌, List, [], ◌∷◌, length, refl, sym, ◌∙◌, ap, arith, subst, Bool, true, false, not, ◌&&◌, ◌||◌, nat_eq, inl, inr, get_or}
+use Rattle.std.proofs.Common.{◌≡◌, ◌≢◌, ℕ, zero, suc, ◌^◌, ◌<◌, ◌==◌, List, [], ◌∷◌, length, refl, sym, ◌∙◌, ap, arith, subst, Bool, true, false, not, ◌&&◌}
+use Rattle.std.proofs.Common.{◌||◌, nat_eq, inl, inr, get_or}
 use Rattle.std.specs.Prelude.{All, AllPairs, Contains, map}
 use Rattle.std.specs.List.{list_all, list_any}
 use Rattle.std.specs.Str.{bytes_eq}
@@ -58,7 +59,8 @@ distinct_names =
     AllPairs-from_test are_named_apart (λ (first second : Row). first.name ≢ second.name)
     (λ first second h e. not_true _ h ((bytes_decides first.name second.name).1 e)) table names_apart
 
-no_clash : (word place bit : ℕ) (pairs : List (ℕ × ℕ)) → list_any (λ other. (place == other.0) && not (bit == other.1)) pairs ≡ true → bit_at word place ≡ bit → Holds word pairs → ⊥
+no_clash : (word place bit : ℕ) (pairs : List (ℕ × ℕ)) → list_any (λ other. (place == other.0) && not (bit == other.1)) pairs ≡ true → bit_at word place ≡ bit
+    → Holds word pairs → ⊥
 unfolding Holds
 no_clash word place bit [] h e k = cc
 no_clash word place bit (pair ∷ pairs) h e k = elim (one_true _ _ h) [
@@ -69,7 +71,8 @@ no_clash word place bit (pair ∷ pairs) h e k = elim (one_true _ _ h) [
   | inr later ↦ no_clash word place bit pairs later e k.1
 ]
 
-no_word : (word : ℕ) (pairs others : List (ℕ × ℕ)) → list_any (λ pair. list_any (λ other. (pair.0 == other.0) && not (pair.1 == other.1)) others) pairs ≡ true → Holds word pairs → Holds word others → ⊥
+no_word : (word : ℕ) (pairs others : List (ℕ × ℕ)) → list_any (λ pair. list_any (λ other. (pair.0 == other.0) && not (pair.1 == other.1)) others) pairs ≡ true
+    → Holds word pairs → Holds word others → ⊥
 unfolding Holds
 no_word word [] others h k l = cc
 no_word word (pair ∷ pairs) others h k l = elim (one_true _ _ h) [
@@ -101,7 +104,8 @@ same_row first second a b e =
 
 -- ---- a row with a place for every bit is spelled in one way
 
-pinned_digit : (word other place : ℕ) (places : List ℕ) → list_any (λ q. q == place) places ≡ true → number_at word places ≡ number_at other places → bit_at word place ≡ bit_at other place
+pinned_digit : (word other place : ℕ) (places : List ℕ) → list_any (λ q. q == place) places ≡ true → number_at word places ≡ number_at other places
+    → bit_at word place ≡ bit_at other place
 unfolding number_at
 pinned_digit word other place [] h e = absurd cc
 pinned_digit word other place (q ∷ places) h e = elim (one_true _ _ h) [
@@ -109,7 +113,8 @@ pinned_digit word other place (q ∷ places) h e = elim (one_true _ _ h) [
   | inr later ↦ pinned_digit word other place places later (omega (arith, e))
 ]
 
-pinned_pair : (word other place : ℕ) (pairs : List (ℕ × ℕ)) → is_fixed place pairs ≡ true → Holds word pairs → Holds other pairs → bit_at word place ≡ bit_at other place
+pinned_pair : (word other place : ℕ) (pairs : List (ℕ × ℕ)) → is_fixed place pairs ≡ true → Holds word pairs → Holds other pairs
+    → bit_at word place ≡ bit_at other place
 unfolding Holds
 pinned_pair word other place [] h k l = absurd cc
 pinned_pair word other place (pair ∷ pairs) h k l = elim (one_true _ _ h) [
@@ -120,12 +125,14 @@ pinned_pair word other place (pair ∷ pairs) h k l = elim (one_true _ _ h) [
 pub signed-inj : (digits n m : ℕ) → n < 2 ^ digits → m < 2 ^ digits → signed digits n ≡ signed digits m → n ≡ m
 signed-inj digits n m a b e = grind (arith, ints)
 
-field_number : (word other : ℕ) (field : Field) (place : ℕ) → is_read place field ≡ true → field_of word field ≡ field_of other field → bit_at word place ≡ bit_at other place
+field_number : (word other : ℕ) (field : Field) (place : ℕ) → is_read place field ≡ true → field_of word field ≡ field_of other field
+    → bit_at word place ≡ bit_at other place
 field_number word other (Unsigned places) place h e = pinned_digit word other place places h cc
 field_number word other (Signed places) place h e =
     pinned_digit word other place places h (signed-inj (length places) _ _ (number_at-lt word places) (number_at-lt other places) e)
 
-pinned_field : (word other place : ℕ) (fields : List Field) → list_any (is_read place) fields ≡ true → map (field_of word) fields ≡ map (field_of other) fields → bit_at word place ≡ bit_at other place
+pinned_field : (word other place : ℕ) (fields : List Field) → list_any (is_read place) fields ≡ true → map (field_of word) fields ≡ map (field_of other) fields
+    → bit_at word place ≡ bit_at other place
 pinned_field word other place [] h e = absurd cc
 pinned_field word other place (field ∷ fields) h e = elim (one_true _ _ h) [
   | inl here ↦ field_number word other field place here cc
@@ -135,7 +142,8 @@ pinned_field word other place (field ∷ fields) h e = elim (one_true _ _ h) [
 below_from_not : (place n : ℕ) → place < suc n → nat_eq place n ≡ false → place < n
 below_from_not place n within e = grind arith
 
-covered : (count : ℕ) (row : Row) → covers count row ≡ true → (place : ℕ) → place < count → (is_fixed place row.pairs || list_any (is_read place) row.fields) ≡ true
+covered : (count : ℕ) (row : Row) → covers count row ≡ true → (place : ℕ) → place < count → (is_fixed place row.pairs || list_any (is_read place) row.fields)
+    ≡ true
 covered zero row h place within = absurd (omega arith)
 covered (suc n) row h place within =
     let parts = both_true _ _ h in

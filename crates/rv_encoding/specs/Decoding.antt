@@ -3,13 +3,15 @@
 use Rattle.std.specs.Prelude.{ℕ, ◌+◌, ◌*◌, ◌/◌, ◌%◌, ◌^◌, ℤ, Bool, Option, Some, None, ◌==◌, if◌then◌else◌}
 use Rattle.rv_insn.specs.Encoding.{signed}
 use Rattle.rv_insn.specs.declared.instructions.Insn.{Insn}
-use Rattle.rv_insn.specs.declared.instructions.Insn.TheVariants.{Lui, Auipc, Jal, Jalr, Branch, Load, Store, AluImm, Shift, Alu, AmoaddW, Fence, Ecall, Ebreak, Vector}
+use Rattle.rv_insn.specs.declared.instructions.Insn.TheVariants.{Lui, Auipc, Jal, Jalr, Branch, Load, Store, AluImm, Shift, Alu, AmoaddW, Fence, Ecall, Ebreak}
+use Rattle.rv_insn.specs.declared.instructions.Insn.TheVariants.{Vector}
 use Rattle.rv_insn.specs.declared.vector_instructions.VectorInsn.{VectorInsn}
 use Rattle.rv_insn.specs.declared.vector_instructions.VectorInsn.TheVariants as v
 use Rattle.rv_insn.specs.declared.vector_instructions.Addressing.{Addressing}
 use Rattle.rv_insn.specs.declared.vector_instructions.Addressing.TheVariants as addressings
 use Rattle.rv_insn.specs.declared.vector_operations.ElementWidth.{ElementWidth}
-use Rattle.rv_encoding.specs.Operations.{arithmetic_vv_of, arithmetic_vx_of, arithmetic_vi_of, shift_vi_of, compare_vv_of, compare_vx_of, compare_vi_of, multiply_of, reduction_of, width_of, branch_of, load_of, store_of, alu_imm_of, shift_of, alu_of}
+use Rattle.rv_encoding.specs.Operations.{arithmetic_vv_of, arithmetic_vx_of, arithmetic_vi_of, shift_vi_of, compare_vv_of, compare_vx_of, compare_vi_of}
+use Rattle.rv_encoding.specs.Operations.{multiply_of, reduction_of, width_of, branch_of, load_of, store_of, alu_imm_of, shift_of, alu_of}
 use Rattle.rv_insn.specs.declared.operations.AluImmOp.{AluImmOp}
 
 -- the number in so many bits of the word, from the bit `low` up
@@ -130,7 +132,8 @@ opivx_in funct6 vm vs2 word =
 
 abbrev pub opivi_in : ℕ → ℕ → ℕ → ℕ → Option Insn
 opivi_in funct6 vm vs2 word =
-    if funct6 == 0b010111 then merge_in vm vs2 (v.MergeVi (rd_of word) (rs2_of word) (vector_immediate_of word)) (v.MoveVi (rd_of word) (vector_immediate_of word))
+    if funct6 == 0b010111 then merge_in vm vs2 (v.MergeVi (rd_of word) (rs2_of word) (vector_immediate_of word))
+    (v.MoveVi (rd_of word) (vector_immediate_of word))
     else op_or (λ op. Vector (v.ArithmeticVi op (rd_of word) (rs2_of word) (vector_immediate_of word) (vm_of word))) (arithmetic_vi_of funct6)
     (op_or (λ op. Vector (v.ShiftVi op (rd_of word) (rs2_of word) (rs1_of word) (vm_of word))) (shift_vi_of funct6)
     (with_op (λ op. Vector (v.CompareVi op (rd_of word) (rs2_of word) (vector_immediate_of word) (vm_of word))) (compare_vi_of funct6)))
@@ -193,13 +196,15 @@ with_both make (Some width) (Some addressing) = Some (make width addressing)
 abbrev pub vector_load_in : ℕ → ℕ → ℕ → ℕ → ℕ → Option Insn
 vector_load_in width high mode last word =
     if high == 0
-    then with_both (λ width addressing. Vector (v.LoadElements width (rd_of word) (rs1_of word) addressing (vm_of word))) (width_of width) (addressing_in mode last word)
+    then with_both (λ width addressing. Vector (v.LoadElements width (rd_of word) (rs1_of word) addressing (vm_of word))) (width_of width)
+    (addressing_in mode last word)
     else None
 
 abbrev pub vector_store_in : ℕ → ℕ → ℕ → ℕ → ℕ → Option Insn
 vector_store_in width high mode last word =
     if high == 0
-    then with_both (λ width addressing. Vector (v.StoreElements width (rd_of word) (rs1_of word) addressing (vm_of word))) (width_of width) (addressing_in mode last word)
+    then with_both (λ width addressing. Vector (v.StoreElements width (rd_of word) (rs1_of word) addressing (vm_of word))) (width_of width)
+    (addressing_in mode last word)
     else None
 
 abbrev pub vector_by_opcode : ℕ → ℕ → ℕ → Option Insn

@@ -2,14 +2,18 @@
 -- are decoded by them; that this is the literal table read backwards is a theorem (`decoded_is_meant`).
 use Rattle.std.specs.Prelude.{ℕ, ◌==◌, ◌&&◌, Option, find, zero, suc, ◌+◌, ◌*◌, List, Some, None}
 use Rattle.std.specs.Str.{bytes_eq}
-use Rattle.rv_insn.specs.Table.{scalar_table, branch_name, load_name, store_name, alu_imm_name, shift_name, alu_name, all_branches, all_loads, all_stores, all_alu_imms, all_shifts, all_alus}
+use Rattle.rv_insn.specs.Table.{scalar_table, branch_name, load_name, store_name, alu_imm_name, shift_name, alu_name, all_branches, all_loads, all_stores}
+use Rattle.rv_insn.specs.Table.{all_alu_imms, all_shifts, all_alus}
 use Rattle.rv_insn.specs.declared.operations.BranchOp.{BranchOp}
 use Rattle.rv_insn.specs.declared.operations.LoadOp.{LoadOp}
 use Rattle.rv_insn.specs.declared.operations.StoreOp.{StoreOp}
 use Rattle.rv_insn.specs.declared.operations.AluImmOp.{AluImmOp}
 use Rattle.rv_insn.specs.declared.operations.ShiftOp.{ShiftOp}
 use Rattle.rv_insn.specs.declared.operations.AluOp.{AluOp}
-use Rattle.rv_insn.specs.VectorTable.{vector_table, arithmetic_vv_name, arithmetic_vx_name, arithmetic_vi_name, shift_vi_name, compare_vv_name, compare_vx_name, compare_vi_name, multiply_vv_name, reduction_name, load_elements_name, all_arithmetic_vvs, all_arithmetic_vxs, all_arithmetic_vis, all_shift_vis, all_compare_vvs, all_compare_vxs, all_compare_vis, all_multiplies, all_reductions, all_widths}
+use Rattle.rv_insn.specs.VectorTable.{vector_table, arithmetic_vv_name, arithmetic_vx_name, arithmetic_vi_name, shift_vi_name, compare_vv_name, compare_vx_name}
+use Rattle.rv_insn.specs.VectorTable.{compare_vi_name, multiply_vv_name, reduction_name, load_elements_name, all_arithmetic_vvs, all_arithmetic_vxs}
+use Rattle.rv_insn.specs.VectorTable.{all_arithmetic_vis, all_shift_vis, all_compare_vvs, all_compare_vxs, all_compare_vis, all_multiplies, all_reductions}
+use Rattle.rv_insn.specs.VectorTable.{all_widths}
 use Rattle.rv_insn.specs.declared.vector_operations.AddressMode.TheVariants as modes
 use Rattle.rv_insn.specs.declared.vector_operations.ArithmeticVvOp.{ArithmeticVvOp}
 use Rattle.rv_insn.specs.declared.vector_operations.ArithmeticVxOp.{ArithmeticVxOp}

@@ -8,7 +8,8 @@ use Rattle.rv_insn.specs.Encoding.{span, fixed, Field, Row, Holds, field_of, bit
 use Rattle.rv_insn.specs.Encoding.Field.{Unsigned, Signed}
 use Rattle.rv_insn.specs.VectorTable.{vector_table, vector_name_of, vector_fields_of}
 use Rattle.rv_insn.specs.declared.instructions.Insn.{Insn}
-use Rattle.rv_insn.specs.declared.instructions.Insn.TheVariants.{Lui, Auipc, Jal, Jalr, Branch, Load, Store, AluImm, Shift, Alu, AmoaddW, Fence, Ecall, Ebreak, Vector}
+use Rattle.rv_insn.specs.declared.instructions.Insn.TheVariants.{Lui, Auipc, Jal, Jalr, Branch, Load, Store, AluImm, Shift, Alu, AmoaddW, Fence, Ecall, Ebreak}
+use Rattle.rv_insn.specs.declared.instructions.Insn.TheVariants.{Vector}
 use Rattle.rv_insn.specs.declared.operations.BranchOp.{BranchOp}
 use Rattle.rv_insn.specs.declared.operations.BranchOp.TheVariants as branches
 use Rattle.rv_insn.specs.declared.operations.LoadOp.{LoadOp}

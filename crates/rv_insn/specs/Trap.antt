@@ -1,7 +1,8 @@
 -- The numbers of the traps, which are this project's own.
 use Rattle.std.specs.Prelude.{ℕ}
 use Rattle.rv_insn.specs.declared.outcomes.Trap.{Trap}
-use Rattle.rv_insn.specs.declared.outcomes.Trap.TheVariants.{IllegalInstruction, FetchOutside, MisalignedTarget, LoadMisaligned, LoadOutside, StoreMisaligned, StoreOutside, Breakpoint}
+use Rattle.rv_insn.specs.declared.outcomes.Trap.TheVariants.{IllegalInstruction, FetchOutside, MisalignedTarget, LoadMisaligned, LoadOutside, StoreMisaligned}
+use Rattle.rv_insn.specs.declared.outcomes.Trap.TheVariants.{StoreOutside, Breakpoint}
 
 abbrev pub trap_number : Trap → ℕ
 trap_number IllegalInstruction = 1

@@ -7,7 +7,10 @@ use Rattle.std.specs.Prelude.{ℕ, List, [], ◌∷◌, codes, ℤ, pos, ◌++�
 use Rattle.rv_insn.specs.Encoding.{span, in_parts, Field, Row, bit_of, mode_of, offset_fields}
 use Rattle.rv_insn.specs.Encoding.Field.{Unsigned, Signed}
 use Rattle.rv_insn.specs.declared.vector_instructions.VectorInsn.{VectorInsn}
-use Rattle.rv_insn.specs.declared.vector_instructions.VectorInsn.TheVariants.{ArithmeticVv, ArithmeticVx, ArithmeticVi, ShiftVi, CompareVv, CompareVx, CompareVi, MultiplyVv, MultiplyVx, Reduce, MergeVv, MergeVx, MergeVi, MoveVv, MoveVx, MoveVi, MoveToScalar, MoveFromScalar, ElementNumbers, ExtendBytes, Vsetvli, Vsetivli, Vsetvl, LoadElements, StoreElements}
+use Rattle.rv_insn.specs.declared.vector_instructions.VectorInsn.TheVariants.{ArithmeticVv, ArithmeticVx, ArithmeticVi, ShiftVi, CompareVv, CompareVx}
+use Rattle.rv_insn.specs.declared.vector_instructions.VectorInsn.TheVariants.{CompareVi, MultiplyVv, MultiplyVx, Reduce, MergeVv, MergeVx, MergeVi, MoveVv}
+use Rattle.rv_insn.specs.declared.vector_instructions.VectorInsn.TheVariants.{MoveVx, MoveVi, MoveToScalar, MoveFromScalar, ElementNumbers, ExtendBytes}
+use Rattle.rv_insn.specs.declared.vector_instructions.VectorInsn.TheVariants.{Vsetvli, Vsetivli, Vsetvl, LoadElements, StoreElements}
 use Rattle.rv_insn.specs.declared.vector_operations.ArithmeticVvOp.{ArithmeticVvOp}
 use Rattle.rv_insn.specs.declared.vector_operations.ArithmeticVvOp.TheVariants as arithmetic_vvs
 use Rattle.rv_insn.specs.declared.vector_operations.ArithmeticVxOp.{ArithmeticVxOp}

@@ -8,7 +8,8 @@ use Rattle.halide_pipeline.specs.declared.definitions.Reduction.{Reduction}
 use Rattle.halide_pipeline.specs.declared.definitions.Update.{Update}
 use Rattle.halide_pipeline.specs.declared.expressions.Variable.{Variable}
 use Rattle.halide_pipeline.specs.declared.expressions.Variable.TheVariants as variables
-use Rattle.halide_pipeline.specs.WellFormed.{is_first_in_place, is_second_in_place, is_name, is_second_name, are_arguments, is_argument_name, is_second_reduction, are_reductions}
+use Rattle.halide_pipeline.specs.WellFormed.{is_first_in_place, is_second_in_place, is_name, is_second_name, are_arguments, is_argument_name}
+use Rattle.halide_pipeline.specs.WellFormed.{is_second_reduction, are_reductions}
 use Rattle.halide_pipeline.specs.Pipelines.{is_named}
 use Rattle.schedule_lines.specs.declared.stages.Loop.{Loop}
 use Rattle.schedule_lines.specs.declared.stages.LoopId.TheVariants as ids
@@ -56,7 +57,8 @@ absent_one own name apart = absent_more [] own name apart refl
 
 -- ---- a pure definition
 
-second_differs : (second : Option (List ℕ)) (first : List ℕ) → is_named second first ≡ false → Differ (with_second (with_loop [] first variables.FirstArgument) second variables.SecondArgument)
+second_differs : (second : Option (List ℕ)) (first : List ℕ) → is_named second first ≡ false
+    → Differ (with_second (with_loop [] first variables.FirstArgument) second variables.SecondArgument)
 second_differs None first apart = one_alone (over first variables.FirstArgument)
 second_differs (Some name) first apart =
     let turned_apart : bytes_eq first name ≡ false = turned first name ∙ apart in
@@ -65,7 +67,8 @@ second_differs (Some name) first apart =
 
 pub pure_differs : (func : Func) → are_arguments func.first_argument func.second_argument ≡ true → Differ (pure_loops func)
 pure_differs func names =
-    let parts = and_parts (is_name func.first_argument && is_second_name func.second_argument) (not (is_named func.second_argument func.first_argument)) names in
+    let parts = and_parts (is_name func.first_argument && is_second_name func.second_argument) (not (is_named func.second_argument func.first_argument)) names
+    in
     second_differs func.second_argument func.first_argument (not_true (is_named func.second_argument func.first_argument) parts.1)
 
 -- ---- an update
@@ -97,7 +100,8 @@ placed_differs : (in_place : Bool) (loops : List Loop) (own : Loop) → Absent o
 placed_differs true loops own absent differ = more loops own absent differ
 placed_differs false loops own absent differ = differ
 
-placed_absent : (in_place : Bool) (loops : List Loop) (own : Loop) (name : List ℕ) → bytes_eq own.name name ≡ false → Absent name loops → Absent name (cond in_place (loops ++ own ∷ []) loops)
+placed_absent : (in_place : Bool) (loops : List Loop) (own : Loop) (name : List ℕ) → bytes_eq own.name name ≡ false → Absent name loops
+    → Absent name (cond in_place (loops ++ own ∷ []) loops)
 placed_absent true loops own name apart absent = absent_more loops own name apart absent
 placed_absent false loops own name apart absent = absent
 
@@ -129,18 +133,25 @@ no_argument func own e =
     let parts = or_parts (bytes_eq func.first_argument own) (is_named func.second_argument own) e in
     (turned own func.first_argument ∙ parts.0, λ name is. second_apart func.second_argument name own parts.1 is)
 
-outer_apart : (second : Option Reduction) (func : Func) (inner : List ℕ) (outer : Reduction) → is_second_reduction func.first_argument func.second_argument inner second ≡ true → second ≡ Some outer
+outer_apart : (second : Option Reduction) (func : Func) (inner : List ℕ) (outer : Reduction)
+    → is_second_reduction func.first_argument func.second_argument inner second ≡ true → second ≡ Some outer
     → (bytes_eq inner outer.name ≡ false) × IsNoArgument func outer.name
 outer_apart None func inner outer e is = absurd cc
 outer_apart (Some other) func inner outer e is =
     let same : other ≡ outer = cc in
     let parts = and_parts (is_name other.name) (not (bytes_eq other.name inner || is_argument_name func.first_argument func.second_argument other.name)) e in
     let tests = or_parts (bytes_eq other.name inner) (is_argument_name func.first_argument func.second_argument other.name) (not_true _ parts.1) in
-    subst (λ (o : Reduction). (bytes_eq inner o.name ≡ false) × IsNoArgument func o.name) same (turned inner other.name ∙ tests.0, no_argument func other.name tests.1)
+    subst (λ (o : Reduction). (bytes_eq inner o.name ≡ false) × IsNoArgument func o.name) same (
+      turned inner other.name
+          ∙ tests.0,
+      no_argument func other.name tests.1,
+    )
 
-are_apart : (func : Func) (update : Update) → are_arguments func.first_argument func.second_argument ≡ true → are_reductions func.first_argument func.second_argument update ≡ true → AreApart func update
+are_apart : (func : Func) (update : Update) → are_arguments func.first_argument func.second_argument ≡ true
+    → are_reductions func.first_argument func.second_argument update ≡ true → AreApart func update
 are_apart func update arguments reductions =
-    let names = and_parts (is_name func.first_argument && is_second_name func.second_argument) (not (is_named func.second_argument func.first_argument)) arguments in
+    let names = and_parts (is_name func.first_argument && is_second_name func.second_argument) (not (is_named func.second_argument func.first_argument))
+    arguments in
     let both = and_parts (is_name update.first.name && not (is_argument_name func.first_argument func.second_argument update.first.name))
     (is_second_reduction func.first_argument func.second_argument update.first.name update.second) reductions in
     let first = and_parts (is_name update.first.name) (not (is_argument_name func.first_argument func.second_argument update.first.name)) both.0 in
@@ -154,11 +165,14 @@ are_apart func update arguments reductions =
       reductions = λ o is. (outer o is).0;
     }
 
-pub update_differs : (func : Func) (update : Update) → are_arguments func.first_argument func.second_argument ≡ true → are_reductions func.first_argument func.second_argument update ≡ true
+pub update_differs : (func : Func) (update : Update) → are_arguments func.first_argument func.second_argument ≡ true
+    → are_reductions func.first_argument func.second_argument update ≡ true
     → Differ (update_loops func update)
 update_differs func update arguments reductions =
     let apart = are_apart func update arguments reductions in
     let begun = reductions_differ update.second update.first.name apart.reductions in
-    let first = placed_differs (is_first_in_place update) (reduction_loops update) (over func.first_argument variables.FirstArgument) (absent_reductions update func.first_argument apart.from_first) begun in
+    let first = placed_differs (is_first_in_place update) (reduction_loops update) (over func.first_argument variables.FirstArgument) (absent_reductions update
+    func.first_argument apart.from_first) begun in
     second_placed (is_second_in_place update) func.second_argument (with_first_in_place func update (reduction_loops update))
-    (λ name is. placed_absent (is_first_in_place update) (reduction_loops update) (over func.first_argument variables.FirstArgument) name (apart.arguments name is) (absent_reductions update name (apart.from_second name is))) first
+    (λ name is. placed_absent (is_first_in_place update) (reduction_loops update) (over func.first_argument variables.FirstArgument) name
+    (apart.arguments name is) (absent_reductions update name (apart.from_second name is))) first

@@ -1,5 +1,6 @@
 -- The reads of a Func that is computed at a loop stand within it, and the consumer of a Func that is reached is reached and at root.
-use Rattle.std.proofs.Common.{◌≡◌, ℕ, zero, suc, ◌+◌, ◌-◌, ◌<◌, ◌≤◌, Bool, true, false, not, cond, List, [], ◌∷◌, length, Option, Some, None, refl, sym, ap, ◌∙◌, subst, arith}
+use Rattle.std.proofs.Common.{◌≡◌, ℕ, zero, suc, ◌+◌, ◌-◌, ◌<◌, ◌≤◌, Bool, true, false, not, cond, List, [], ◌∷◌, length, Option, Some, None, refl, sym, ap}
+use Rattle.std.proofs.Common.{◌∙◌, subst, arith}
 use Rattle.std.specs.Prelude.{◌&&◌, ◌||◌, ◌==◌, slice_get}
 use Rattle.std.proofs.lemmas.Bool.{and_parts, or_parts, eqb-true, eq-eqb}
 use Rattle.std.proofs.lemmas.Option.{slice_get_past}
@@ -13,7 +14,8 @@ use Rattle.schedule.specs.declared.standings.Place.{Place}
 use Rattle.schedule.specs.declared.standings.Place.TheVariants as places
 use Rattle.schedule.specs.declared.standings.Standing.{Standing}
 use Rattle.schedule.specs.Accepted.{Numbered, IsConsumer}
-use Rattle.schedule.specs.Standing.{place_calls, is_read, is_called, is_root_computed, is_root_line, is_root, is_within, is_away, is_outside, outside, consumer, place_at, place_computed, place_of, place, standing, standings_from}
+use Rattle.schedule.specs.Standing.{place_calls, is_read, is_called, is_root_computed, is_root_line, is_root, is_within, is_away, is_outside, outside, consumer}
+use Rattle.schedule.specs.Standing.{place_at, place_computed, place_of, place, standing, standings_from}
 use Rattle.schedule.specs.Uses.{IsReached, StandsWithin, Consumer, Computed as ComputedThere, Inlined, HasUsesWithin, HasConsumerAtRoot}
 
 -- ---- small facts
@@ -56,7 +58,8 @@ module _ (pipeline : Pipeline) (plans : List FuncPlan) (all : List Standing) whe
 
   -- ---- Funcs that are flagged don't call
 
-  not_called : (func at k : ℕ) (flags : List Bool) → is_called pipeline func at flags ≡ false → slice_get flags k ≡ Some true → place_calls pipeline (at + k) func ≡ false
+  not_called : (func at k : ℕ) (flags : List Bool) → is_called pipeline func at flags ≡ false → slice_get flags k ≡ Some true
+      → place_calls pipeline (at + k) func ≡ false
   not_called func at k [] e flag = cc
   not_called func at zero (first ∷ rest) e flag =
       let parts = or_parts (first && place_calls pipeline at func) (is_called pipeline func (at + 1) rest) e in
@@ -77,20 +80,24 @@ module _ (pipeline : Pipeline) (plans : List FuncPlan) (all : List Standing) whe
 
   -- what a list of flags says of its Funcs
   abbrev Flags : LoopPlace → ℕ → List Standing → Type 0
-  Flags consumer at rest = (k : ℕ) (own : Standing) → slice_get rest k ≡ Some own → own.is_reached ≡ true → slice_get (outside pipeline plans consumer at rest) k ≡ Some false → Within consumer (at + k)
+  Flags consumer at rest = (k : ℕ) (own : Standing) → slice_get rest k ≡ Some own → own.is_reached ≡ true
+      → slice_get (outside pipeline plans consumer at rest) k ≡ Some false → Within consumer (at + k)
 
   -- what calls a Func stands within
   abbrev Callers : LoopPlace → ℕ → Type 0
   Callers consumer at = (reader : ℕ) (its : Standing) → at < reader → IsReached all reader its → place_calls pipeline reader at ≡ true → Within consumer reader
 
-  by_flag : (flag : Bool) (consumer : LoopPlace) (at k reader : ℕ) (rest : List Standing) (its : Standing) → at + 1 + k ≡ reader → slice_get rest k ≡ Some its → IsReached all reader its
-      → slice_get (outside pipeline plans consumer (at + 1) rest) k ≡ Some flag → is_called pipeline at (at + 1) (outside pipeline plans consumer (at + 1) rest) ≡ false
+  by_flag : (flag : Bool) (consumer : LoopPlace) (at k reader : ℕ) (rest : List Standing) (its : Standing) → at + 1 + k ≡ reader → slice_get rest k ≡ Some its
+      → IsReached all reader its
+      → slice_get (outside pipeline plans consumer (at + 1) rest) k ≡ Some flag → is_called pipeline at (at + 1) (outside pipeline plans consumer (at + 1) rest)
+      ≡ false
       → place_calls pipeline reader at ≡ true → Flags consumer (at + 1) rest → Within consumer reader
   by_flag true consumer at k reader rest its same found reached flag e calls each =
       let none : place_calls pipeline reader at ≡ false =
       subst (λ (n : ℕ). place_calls pipeline n at ≡ false) same (not_called at (at + 1) k (outside pipeline plans consumer (at + 1) rest) e flag) in
       absurd cc
-  by_flag false consumer at k reader rest its same found reached flag e calls each = subst (λ (n : ℕ). Within consumer n) same (each k its found reached.reached flag)
+  by_flag false consumer at k reader rest its same found reached flag e calls each = subst (λ (n : ℕ). Within consumer n) same (each k its found reached.reached
+      flag)
 
   called_by : (consumer : LoopPlace) (at : ℕ) (rest : List Standing) → From (at + 1) rest → Flags consumer (at + 1) rest
       → is_called pipeline at (at + 1) (outside pipeline plans consumer (at + 1) rest) ≡ false → Callers consumer at
@@ -101,14 +108,16 @@ module _ (pipeline : Pipeline) (plans : List FuncPlan) (all : List Standing) whe
       let flag = flagged consumer (at + 1) (reader - (at + 1)) rest its found in
       by_flag flag.0 consumer at (reader - (at + 1)) reader rest its same found reached flag.1 e calls each
 
-  here_within : (is_consumer : Bool) (where_it_is : Place) (consumer : LoopPlace) (at : ℕ) (own : Standing) (flags : List Bool) → IsReached all at own → (at == consumer.func) ≡ is_consumer → own.place ≡ where_it_is
+  here_within : (is_consumer : Bool) (where_it_is : Place) (consumer : LoopPlace) (at : ℕ) (own : Standing) (flags : List Bool) → IsReached all at own
+      → (at == consumer.func) ≡ is_consumer → own.place ≡ where_it_is
       → (is_called pipeline at (at + 1) flags ≡ false → Callers consumer at)
       → (not is_consumer && is_away pipeline plans consumer at where_it_is flags) ≡ false → Within consumer at
   here_within true where_it_is consumer at own flags reached is_consumer place_is callers e =
       let same : consumer.func ≡ at = sym (eqb-true at consumer.func is_consumer) in
       subst (λ (n : ℕ). Within consumer n) same Consumer
   here_within false places.Inlined consumer at own flags reached is_consumer place_is callers e = Inlined at own reached place_is (callers e)
-  here_within false (places.At there) consumer at own flags reached is_consumer place_is callers e = ComputedThere at own there reached place_is (not_false (is_within plans consumer there) e)
+  here_within false (places.At there) consumer at own flags reached is_consumer place_is callers e = ComputedThere at own there reached place_is
+      (not_false (is_within plans consumer there) e)
   here_within false places.Root consumer at own flags reached is_consumer place_is callers e = absurd cc
   here_within false places.Nowhere consumer at own flags reached is_consumer place_is callers e = absurd cc
 
@@ -166,7 +175,8 @@ module _ (pipeline : Pipeline) (plans : List FuncPlan) (all : List Standing) whe
   placed_by true own wanted e = absurd cc
   placed_by false own wanted e = (refl, cc)
 
-  consumer_placed : (found : Option LoopPlace) (at : ℕ) (behind : List Standing) (wanted : LoopPlace) → place_at pipeline plans at behind found ≡ places.At wanted
+  consumer_placed : (found : Option LoopPlace) (at : ℕ) (behind : List Standing) (wanted : LoopPlace) → place_at pipeline plans at behind found
+      ≡ places.At wanted
       → is_called pipeline at (at + 1) (outside pipeline plans wanted (at + 1) behind) ≡ false
   consumer_placed None at behind wanted e = absurd cc
   consumer_placed (Some own) at behind wanted e =
@@ -201,7 +211,8 @@ module _ (pipeline : Pipeline) (plans : List FuncPlan) (all : List Standing) whe
     there : IsReached all reader its
     calls : place_calls pipeline reader func ≡ true
 
-  read_further : (reads : Bool) (func at : ℕ) (first : Standing) (others : List Standing) → From at (first ∷ others) → (first.is_reached && place_calls pipeline at func) ≡ reads
+  read_further : (reads : Bool) (func at : ℕ) (first : Standing) (others : List Standing) → From at (first ∷ others)
+      → (first.is_reached && place_calls pipeline at func) ≡ reads
       → (reads || is_read pipeline func (at + 1) others) ≡ true → (is_read pipeline func (at + 1) others ≡ true → IsReadBy func (at + 1)) → IsReadBy func at
   read_further true func at first others from is e goes_on =
       let parts = and_parts first.is_reached (place_calls pipeline at func) is in
@@ -220,17 +231,20 @@ module _ (pipeline : Pipeline) (plans : List FuncPlan) (all : List Standing) whe
   read_by : (func at : ℕ) (rest : List Standing) → From at rest → is_read pipeline func at rest ≡ true → IsReadBy func at
   read_by func at [] from e = absurd cc
   read_by func at (first ∷ others) from e =
-      read_further (first.is_reached && place_calls pipeline at func) func at first others from refl e (read_by func (at + 1) others (from_next at first others from))
+      read_further (first.is_reached && place_calls pipeline at func) func at first others from refl e (read_by func (at + 1) others (from_next at first others
+      from))
 
   -- a Func that is no output has no other way to be reached
   read_since : (is_output : Bool) (compute : Option ComputeLine) (at : ℕ) (behind : List Standing) → From (at + 1) behind
-      → (cond is_output places.Root (place_of pipeline plans at behind compute) ≡ places.Root → ⊥) → (is_output || is_read pipeline at (at + 1) behind) ≡ true → IsReadBy at (at + 1)
+      → (cond is_output places.Root (place_of pipeline plans at behind compute) ≡ places.Root → ⊥) → (is_output || is_read pipeline at (at + 1) behind) ≡ true
+      → IsReadBy at (at + 1)
   read_since true compute at behind from no_root e = absurd (no_root refl)
   read_since false compute at behind from no_root e = read_by at (at + 1) behind from e
 
   read_at : (at : ℕ) (own : Standing) → StandingAt at own → own.is_reached ≡ true → (own.place ≡ places.Root → ⊥) → IsReadBy at (at + 1)
   read_at at own is reached no_root =
-      let raised : (at == pipeline.output.func || is_read pipeline at (at + 1) is.behind) ≡ true = ap (λ (s : Standing). s.is_reached) (sym is.own_is) ∙ reached in
+      let raised : (at == pipeline.output.func || is_read pipeline at (at + 1) is.behind) ≡ true = ap (λ (s : Standing). s.is_reached) (sym is.own_is)
+      ∙ reached in
       let place_is : place pipeline plans at is.plan is.behind ≡ own.place = ap (λ (s : Standing). s.place) (sym is.own_is) in
       read_since (at == pipeline.output.func) is.plan.compute at is.behind is.from (λ root. no_root (sym place_is ∙ root)) raised
 
@@ -241,7 +255,8 @@ module _ (pipeline : Pipeline) (plans : List FuncPlan) (all : List Standing) whe
     own : Standing
     there : IsReached all at own
 
-  consumer_within : (consumer : LoopPlace) (least reader : ℕ) → Standings → Within consumer reader → least < reader → (its : Standing) → IsReached all reader its
+  consumer_within : (consumer : LoopPlace) (least reader : ℕ) → Standings → Within consumer reader → least < reader → (its : Standing)
+      → IsReached all reader its
       → ((at : ℕ) (own : Standing) (h : LoopPlace) → least < at → IsReached all at own → own.place ≡ places.At h → IsThere h.func) → IsThere consumer.func
   consumer_within consumer least reader known Consumer lt its there later = record { own = its; there = there }
   consumer_within consumer least reader known (ComputedThere _ own at own_there place_is within) lt its there later =
@@ -252,7 +267,8 @@ module _ (pipeline : Pipeline) (plans : List FuncPlan) (all : List Standing) whe
       let behind : reader < read.reader = omega (arith, read.later) in
       consumer_within consumer least read.reader known (callers read.reader read.its behind read.there read.calls) (omega arith) read.its read.there later
 
-  consumer_there : (fuel at : ℕ) → Standings → length all ≤ at + fuel → (own : Standing) (consumer : LoopPlace) → IsReached all at own → own.place ≡ places.At consumer → IsThere consumer.func
+  consumer_there : (fuel at : ℕ) → Standings → length all ≤ at + fuel → (own : Standing) (consumer : LoopPlace) → IsReached all at own
+      → own.place ≡ places.At consumer → IsThere consumer.func
   consumer_there zero at known le own consumer there place_is =
       let past : slice_get all at ≡ None = slice_get_past all at (omega arith) in
       let found = there.standing in
@@ -261,7 +277,8 @@ module _ (pipeline : Pipeline) (plans : List FuncPlan) (all : List Standing) whe
       let is = known at own there.standing in
       let read = read_at at own is there.reached (λ root. absurd cc) in
       let behind : at < read.reader = omega (arith, read.later) in
-      consumer_within consumer at read.reader known (uses_at at own is consumer place_is read.reader read.its behind read.there read.calls) behind read.its read.there
+      consumer_within consumer at read.reader known (uses_at at own is consumer place_is read.reader read.its behind read.there read.calls) behind read.its
+      read.there
       (λ later its h lt its_there its_place. consumer_there fuel later known (omega arith) its h its_there its_place)
 
   root_said : (said : Computed) (at : ℕ) (behind : List Standing) → is_root_computed said ≡ true → place_computed pipeline plans at behind said ≡ places.Root
@@ -274,13 +291,15 @@ module _ (pipeline : Pipeline) (plans : List FuncPlan) (all : List Standing) whe
   root_placed false None at behind e = absurd cc
   root_placed false (Some line) at behind e = root_said line.computed at behind e
 
-  consumer_at_root : Standings → (at : ℕ) (own : Standing) → slice_get all at ≡ Some own → ((consumer : LoopPlace) → own.place ≡ places.At consumer → IsConsumer pipeline plans at consumer) → HasConsumerAtRoot all at own
+  consumer_at_root : Standings → (at : ℕ) (own : Standing) → slice_get all at ≡ Some own → ((consumer : LoopPlace) → own.place ≡ places.At consumer
+      → IsConsumer pipeline plans at consumer) → HasConsumerAtRoot all at own
   consumer_at_root known at own found produced reached consumer place_is =
       let is_consumer = produced consumer place_is in
       let there = consumer_there (length all) at known (omega arith) own consumer (record { standing = found; reached = reached }) place_is in
       let is = known consumer.func there.own there.there.standing in
       let plan_is : is.plan ≡ is_consumer.plan = let a = is.plan_is in let b = is_consumer.plan_is in cc in
-      let root : is_root pipeline consumer.func is.plan ≡ true = subst (λ (p : FuncPlan). is_root pipeline consumer.func p ≡ true) (sym plan_is) is_consumer.root in
+      let root : is_root pipeline consumer.func is.plan ≡ true = subst (λ (p : FuncPlan). is_root pipeline consumer.func p ≡ true) (sym plan_is)
+      is_consumer.root in
       record {
         own = there.own;
         there = there.there;
@@ -320,19 +339,22 @@ read_next : (a b : Bool) → b ≡ true → (a || b) ≡ true
 read_next true b e = refl
 read_next false b e = e
 
-read_there : (pipeline : Pipeline) (func at : ℕ) (rest : List Standing) (k : ℕ) (its : Standing) → slice_get rest k ≡ Some its → its.is_reached ≡ true → place_calls pipeline (at + k) func ≡ true
+read_there : (pipeline : Pipeline) (func at : ℕ) (rest : List Standing) (k : ℕ) (its : Standing) → slice_get rest k ≡ Some its → its.is_reached ≡ true
+    → place_calls pipeline (at + k) func ≡ true
     → is_read pipeline func at rest ≡ true
 read_there pipeline func at [] k its found reached called = absurd cc
 read_there pipeline func at (first ∷ others) zero its found reached called =
     let first_is : first ≡ its = cc in
     let here : at + 0 ≡ at = omega arith in
-    read_first first.is_reached (place_calls pipeline at func) (is_read pipeline func (at + 1) others) (ap (λ (s : Standing). s.is_reached) first_is ∙ reached) (subst (λ (n : ℕ). place_calls pipeline n func ≡ true) here called)
+    read_first first.is_reached (place_calls pipeline at func) (is_read pipeline func (at + 1) others) (ap (λ (s : Standing). s.is_reached) first_is
+    ∙ reached) (subst (λ (n : ℕ). place_calls pipeline n func ≡ true) here called)
 read_there pipeline func at (first ∷ others) (suc k) its found reached called =
     let next : at + suc k ≡ at + 1 + k = omega arith in
     read_next (first.is_reached && place_calls pipeline at func) (is_read pipeline func (at + 1) others)
     (read_there pipeline func (at + 1) others k its found reached (subst (λ (n : ℕ). place_calls pipeline n func ≡ true) next called))
 
-pub called_is_reached : (pipeline : Pipeline) (plans : List FuncPlan) (reader : ℕ) (its : Standing) → IsReached (standings_from pipeline plans 0 plans) reader its
+pub called_is_reached : (pipeline : Pipeline) (plans : List FuncPlan) (reader : ℕ) (its : Standing)
+    → IsReached (standings_from pipeline plans 0 plans) reader its
     → (func : ℕ) → func < reader → place_calls pipeline reader func ≡ true → IsThereReached (standings_from pipeline plans 0 plans) func
 called_is_reached pipeline plans reader its there func before called =
     let all = standings_from pipeline plans 0 plans in
@@ -341,7 +363,8 @@ called_is_reached pipeline plans reader its there func before called =
     let k : ℕ = reader - (func + 1) in
     let at_reader : func + 1 + k ≡ reader = omega (arith, before) in
     let found : slice_get is.behind k ≡ Some its = sym (is.from k) ∙ ap (λ (n : ℕ). slice_get all n) at_reader ∙ there.standing in
-    let read = read_there pipeline func (func + 1) is.behind k its found there.reached (subst (λ (n : ℕ). place_calls pipeline n func ≡ true) (sym at_reader) called) in
+    let read = read_there pipeline func (func + 1) is.behind k its found there.reached (subst (λ (n : ℕ). place_calls pipeline n func ≡ true) (sym at_reader)
+    called) in
     record {
       own = some.value;
       there = record {
@@ -351,7 +374,8 @@ called_is_reached pipeline plans reader its there func before called =
     }
 
 -- the output is reached, and computed at root
-pub output_standing : (pipeline : Pipeline) (plans : List FuncPlan) (own : Standing) → slice_get (standings_from pipeline plans 0 plans) pipeline.output.func ≡ Some own
+pub output_standing : (pipeline : Pipeline) (plans : List FuncPlan) (own : Standing) → slice_get (standings_from pipeline plans 0 plans) pipeline.output.func
+    ≡ Some own
     → (own.is_reached ≡ true) × (own.place ≡ places.Root)
 output_standing pipeline plans own found =
     let is = known_all pipeline plans pipeline.output.func own found in
@@ -361,21 +385,30 @@ output_standing pipeline plans own found =
     )
 
 -- each Func has a standing
-pub standing_some : (pipeline : Pipeline) (plans : List FuncPlan) (at : ℕ) (rest : List FuncPlan) (k : ℕ) (plan : FuncPlan) → slice_get rest k ≡ Some plan → IsSome (slice_get (standings_from pipeline plans at rest) k)
+pub standing_some : (pipeline : Pipeline) (plans : List FuncPlan) (at : ℕ) (rest : List FuncPlan) (k : ℕ) (plan : FuncPlan) → slice_get rest k ≡ Some plan
+    → IsSome (slice_get (standings_from pipeline plans at rest) k)
 standing_some pipeline plans at [] k plan found = absurd cc
-standing_some pipeline plans at (first ∷ others) zero plan found = record { value = standing pipeline plans at first (standings_from pipeline plans (at + 1) others); is = refl }
+standing_some pipeline plans at (first ∷ others) zero plan found = record {
+  value = standing pipeline plans at first (standings_from pipeline plans (at + 1)
+      others);
+  is = refl;
+}
 standing_some pipeline plans at (first ∷ others) (suc k) plan found = standing_some pipeline plans (at + 1) others k plan found
 
-pub uses_lie_within : (pipeline : Pipeline) (plans : List FuncPlan) → Numbered (HasUsesWithin pipeline plans (standings_from pipeline plans 0 plans)) 0 (standings_from pipeline plans 0 plans)
+pub uses_lie_within : (pipeline : Pipeline) (plans : List FuncPlan) → Numbered (HasUsesWithin pipeline plans (standings_from pipeline plans 0 plans)) 0
+    (standings_from pipeline plans 0 plans)
 uses_lie_within pipeline plans =
     let all = standings_from pipeline plans 0 plans in
     let here : (k : ℕ) → k ≡ 0 + k = λ k. omega arith in
-    numbered_from (HasUsesWithin pipeline plans all) 0 all (λ k own found. subst (λ (n : ℕ). HasUsesWithin pipeline plans all n own) (here k) (uses_at pipeline plans all k own (known_all pipeline plans k own found)))
+    numbered_from (HasUsesWithin pipeline plans all) 0 all (λ k own found. subst (λ (n : ℕ). HasUsesWithin pipeline plans all n own) (here k)
+    (uses_at pipeline plans all k own (known_all pipeline plans k own found)))
 
 pub consumers_at_root : (pipeline : Pipeline) (plans : List FuncPlan)
-    → ((k : ℕ) (own : Standing) → slice_get (standings_from pipeline plans 0 plans) k ≡ Some own → (consumer : LoopPlace) → own.place ≡ places.At consumer → IsConsumer pipeline plans k consumer)
+    → ((k : ℕ) (own : Standing) → slice_get (standings_from pipeline plans 0 plans) k ≡ Some own → (consumer : LoopPlace) → own.place ≡ places.At consumer
+    → IsConsumer pipeline plans k consumer)
     → Numbered (HasConsumerAtRoot (standings_from pipeline plans 0 plans)) 0 (standings_from pipeline plans 0 plans)
 consumers_at_root pipeline plans produced =
     let all = standings_from pipeline plans 0 plans in
     let here : (k : ℕ) → k ≡ 0 + k = λ k. omega arith in
-    numbered_from (HasConsumerAtRoot all) 0 all (λ k own found. subst (λ (n : ℕ). HasConsumerAtRoot all n own) (here k) (consumer_at_root pipeline plans all (known_all pipeline plans) k own found (produced k own found)))
+    numbered_from (HasConsumerAtRoot all) 0 all (λ k own found. subst (λ (n : ℕ). HasConsumerAtRoot all n own) (here k) (consumer_at_root pipeline plans all
+    (known_all pipeline plans) k own found (produced k own found)))

@@ -24,8 +24,10 @@ use Rattle.schedule.specs.declared.standings.LoopPlace.{LoopPlace}
 use Rattle.schedule.specs.declared.standings.Place.TheVariants as places
 use Rattle.schedule.specs.declared.standings.Standing.{Standing}
 use Rattle.schedule.specs.Accepted.{Pairwise, Numbered, keeps, Keeps, IsLegal, IsConsumer, IsProduced}
-use Rattle.schedule.specs.Legal.{breaks, earlier, line_of, is_empty, loops_line, stage_line, stages_line, plan_line, is_root as at_root, rule_line, is_nowhere, compute_line, nowhere_line, is_inlined, has_lost, or_next, last_verdict, verdict}
-use Rattle.schedule.specs.Standing.{is_root, is_consumer, unvectorized, loop_of, consumer_of, consumer, is_called, outside, place_at, place_computed, place_of, place, standings_from}
+use Rattle.schedule.specs.Legal.{breaks, earlier, line_of, is_empty, loops_line, stage_line, stages_line, plan_line, is_root as at_root, rule_line, is_nowhere}
+use Rattle.schedule.specs.Legal.{compute_line, nowhere_line, is_inlined, has_lost, or_next, last_verdict, verdict}
+use Rattle.schedule.specs.Standing.{is_root, is_consumer, unvectorized, loop_of, consumer_of, consumer, is_called, outside, place_at, place_computed, place_of}
+use Rattle.schedule.specs.Standing.{place, standings_from}
 
 -- ---- lines that are none
 
@@ -49,7 +51,8 @@ no_line : (marked : Option Marked) → line_of marked ≡ None → marked ≡ No
 no_line None e = refl
 no_line (Some m) e = cc
 
-unbroken_by : (broken : Bool) (rule : LoopRule) (root inner outer : Bool) (own : Loop) → breaks rule root inner outer own ≡ broken → cond broken (line_of own.marked) None ≡ None
+unbroken_by : (broken : Bool) (rule : LoopRule) (root inner outer : Bool) (own : Loop) → breaks rule root inner outer own ≡ broken
+    → cond broken (line_of own.marked) None ≡ None
     → not (breaks rule root inner outer own) ≡ true
 unbroken_by true rule root inner outer own is e = rw (unmarked rule root inner outer own (no_line own.marked e)) refl
 unbroken_by false rule root inner outer own is e = rw is refl
@@ -59,7 +62,8 @@ loops_keep rule root inner [] e = refl
 loops_keep rule root inner (first ∷ outside) e =
     let test = breaks rule root inner (is_empty outside) first in
     let parts = no_earlier (cond test (line_of first.marked) None) (loops_line rule root false outside) e in
-    and_from (not test) (keeps rule root false outside) (unbroken_by test rule root inner (is_empty outside) first refl parts.0) (loops_keep rule root false outside parts.1)
+    and_from (not test) (keeps rule root false outside) (unbroken_by test rule root inner (is_empty outside) first refl parts.0) (loops_keep rule root false
+    outside parts.1)
 
 stages_keep : (rule : LoopRule) (root : Bool) (stages : List Stage) → stages_line rule root stages ≡ None → AllByRecursion (Keeps rule root) stages
 stages_keep rule root [] e = tt
@@ -83,7 +87,8 @@ reached_line : (reached : Bool) (line : Option ℕ) → reached ≡ true → con
 reached_line true line is e = e
 reached_line false line is e = cc
 
-nowhere_by : (nowhere : Bool) (compute : Option ComputeLine) → (nowhere ≡ true → is_some compute ≡ true) → cond nowhere (compute_line compute) None ≡ None → nowhere ≡ false
+nowhere_by : (nowhere : Bool) (compute : Option ComputeLine) → (nowhere ≡ true → is_some compute ≡ true) → cond nowhere (compute_line compute) None ≡ None
+    → nowhere ≡ false
 nowhere_by false compute has e = refl
 nowhere_by true None has e = let some : false ≡ true = has refl in cc
 nowhere_by true (Some line) has e = cc
@@ -92,7 +97,8 @@ reached_nowhere : (reached nowhere : Bool) (line : Option ℕ) → reached ≡ t
 reached_nowhere true nowhere line is e = e
 reached_nowhere false nowhere line is e = cc
 
-lost_by : (reached inlined directed : Bool) (count : ℕ) → reached ≡ true → inlined ≡ true → (reached && inlined && (directed || not (count == 0))) ≡ false → (count ≡ 0) × (directed ≡ false)
+lost_by : (reached inlined directed : Bool) (count : ℕ) → reached ≡ true → inlined ≡ true → (reached && inlined && (directed || not (count == 0))) ≡ false
+    → (count ≡ 0) × (directed ≡ false)
 lost_by true true true count r i e = cc
 lost_by true true false count r i e = (eqb-true count 0 (not_false (count == 0) e), refl)
   where
@@ -109,11 +115,13 @@ func_keeps : (plan : FuncPlan) (own : Standing) → HasLine plan own
     → IsLegal plan own
 func_keeps plan own has rules nowhere lost reached =
     let each : (rule : LoopRule) → (stage_line rule (at_root own.place) plan.pure ≡ None) × (stages_line rule (at_root own.place) plan.updates ≡ None) =
-    λ rule. no_earlier (stage_line rule (at_root own.place) plan.pure) (stages_line rule (at_root own.place) plan.updates) (reached_line own.is_reached (plan_line rule (at_root own.place) plan) reached (rules rule)) in
+    λ rule. no_earlier (stage_line rule (at_root own.place) plan.pure) (stages_line rule (at_root own.place) plan.updates) (reached_line own.is_reached
+    (plan_line rule (at_root own.place) plan) reached (rules rule)) in
     record {
       pure = λ rule. loops_keep rule (at_root own.place) true plan.pure.loops (each rule).0;
       updates = λ rule. stages_keep rule (at_root own.place) plan.updates (each rule).1;
-      somewhere = nowhere_by (is_nowhere own.place) plan.compute has (reached_nowhere own.is_reached (is_nowhere own.place) (compute_line plan.compute) reached nowhere);
+      somewhere = nowhere_by (is_nowhere own.place) plan.compute has (reached_nowhere own.is_reached (is_nowhere own.place) (compute_line plan.compute) reached
+          nowhere);
       no_updates = λ inlined. (lost_by own.is_reached (is_inlined own.place) plan.is_directed (length plan.updates) reached inlined lost).0;
       no_lines = λ inlined. (lost_by own.is_reached (is_inlined own.place) plan.is_directed (length plan.updates) reached inlined lost).1;
     }
@@ -126,7 +134,8 @@ funcs_keep (plan ∷ plans) (own ∷ behind) has kept =
     let rule_parts : (rule : LoopRule) → (cond own.is_reached (plan_line rule (at_root own.place) plan) None ≡ None) × (rule_line rule behind plans ≡ None) =
     λ rule. no_earlier (cond own.is_reached (plan_line rule (at_root own.place) plan) None) (rule_line rule behind plans) (kept.rules rule) in
     let place_parts = no_earlier (cond (own.is_reached && is_nowhere own.place) (compute_line plan.compute) None) (nowhere_line behind plans) kept.places in
-    let lost_parts = or_parts (own.is_reached && is_inlined own.place && (plan.is_directed || not (length plan.updates == 0))) (has_lost behind plans) kept.lost in (
+    let lost_parts = or_parts (own.is_reached && is_inlined own.place && (plan.is_directed || not (length plan.updates == 0))) (has_lost behind plans) kept.lost
+    in (
       func_keeps plan own has.0 (λ rule. (rule_parts rule).0) place_parts.0 lost_parts.0,
       funcs_keep plans behind has.1 (record { rules = λ rule. (rule_parts rule).1; places = place_parts.1; lost = lost_parts.1 }),
     )
@@ -135,8 +144,10 @@ not_lost : (lost : Bool) → last_verdict lost ≡ None → lost ≡ false
 not_lost true e = cc
 not_lost false e = refl
 
-each : (plans : List FuncPlan) (found : List Standing) → rule_line rules_of.ParallelOutermost found plans ≡ None → rule_line rules_of.ParallelOverArgument found plans ≡ None
-    → rule_line rules_of.ParallelUnshifted found plans ≡ None → rule_line rules_of.VectorizedInnermost found plans ≡ None → (rule : LoopRule) → rule_line rule found plans ≡ None
+each : (plans : List FuncPlan) (found : List Standing) → rule_line rules_of.ParallelOutermost found plans ≡ None
+    → rule_line rules_of.ParallelOverArgument found plans ≡ None
+    → rule_line rules_of.ParallelUnshifted found plans ≡ None → rule_line rules_of.VectorizedInnermost found plans ≡ None → (rule : LoopRule)
+    → rule_line rule found plans ≡ None
 each plans found a b d v rules_of.ParallelOutermost = a
 each plans found a b d v rules_of.ParallelOverArgument = b
 each plans found a b d v rules_of.ParallelUnshifted = d
@@ -179,8 +190,10 @@ have_lines pipeline plans at (first ∷ others) = (
 
 -- ---- the loop at which a Func is computed
 
-marked_consumer : (vectorized : Bool) (pipeline : Pipeline) (plans : List FuncPlan) (at func : ℕ) (plan : FuncPlan) (name : List ℕ) (own : Loop) (wanted : LoopPlace)
-    → at < func → slice_get plans func ≡ Some plan → is_consumer pipeline func plan ≡ true → find name plan.pure.loops ≡ Some own → is_marked marks.Vectorized own ≡ vectorized
+marked_consumer : (vectorized : Bool) (pipeline : Pipeline) (plans : List FuncPlan) (at func : ℕ) (plan : FuncPlan) (name : List ℕ) (own : Loop)
+    (wanted : LoopPlace)
+    → at < func → slice_get plans func ≡ Some plan → is_consumer pipeline func plan ≡ true → find name plan.pure.loops ≡ Some own
+    → is_marked marks.Vectorized own ≡ vectorized
     → cond vectorized None (Some (record { func = func; inside = own.id })) ≡ Some wanted → IsConsumer pipeline plans at wanted
 marked_consumer true pipeline plans at func plan name own wanted later plan_is consumers found mark e = cc
 marked_consumer false pipeline plans at func plan name own wanted later plan_is consumers found mark e =
@@ -210,20 +223,24 @@ found_consumer (Some own) pipeline plans at func plan name wanted later plan_is 
 tested_consumer : (consumers : Bool) (pipeline : Pipeline) (plans : List FuncPlan) (at func : ℕ) (plan : FuncPlan) (name : List ℕ) (wanted : LoopPlace)
     → at < func → slice_get plans func ≡ Some plan → is_consumer pipeline func plan ≡ consumers
     → cond consumers (unvectorized func (find name plan.pure.loops)) None ≡ Some wanted → IsConsumer pipeline plans at wanted
-tested_consumer true pipeline plans at func plan name wanted later plan_is consumers e = found_consumer (find name plan.pure.loops) pipeline plans at func plan name wanted later plan_is consumers refl e
+tested_consumer true pipeline plans at func plan name wanted later plan_is consumers e = found_consumer (find name plan.pure.loops) pipeline plans at func plan
+    name wanted later plan_is consumers refl e
 tested_consumer false pipeline plans at func plan name wanted later plan_is consumers e = cc
 
 planned_consumer : (found : Option FuncPlan) (pipeline : Pipeline) (plans : List FuncPlan) (at func : ℕ) (name : List ℕ) (wanted : LoopPlace)
     → at < func → slice_get plans func ≡ found → loop_of pipeline func name found ≡ Some wanted → IsConsumer pipeline plans at wanted
 planned_consumer None pipeline plans at func name wanted later plan_is e = cc
-planned_consumer (Some plan) pipeline plans at func name wanted later plan_is e = tested_consumer (is_consumer pipeline func plan) pipeline plans at func plan name wanted later plan_is refl e
+planned_consumer (Some plan) pipeline plans at func name wanted later plan_is e = tested_consumer (is_consumer pipeline func plan) pipeline plans at func plan
+    name wanted later plan_is refl e
 
 later_consumer : (later : Bool) (pipeline : Pipeline) (plans : List FuncPlan) (at func : ℕ) (name : List ℕ) (wanted : LoopPlace) → nat_lt at func ≡ later
     → cond later (loop_of pipeline func name (slice_get plans func)) None ≡ Some wanted → IsConsumer pipeline plans at wanted
-later_consumer true pipeline plans at func name wanted is e = planned_consumer (slice_get plans func) pipeline plans at func name wanted (ltb-true at func is) refl e
+later_consumer true pipeline plans at func name wanted is e = planned_consumer (slice_get plans func) pipeline plans at func name wanted (ltb-true at func is)
+    refl e
 later_consumer false pipeline plans at func name wanted is e = cc
 
-named_consumer : (named : Option Source) (pipeline : Pipeline) (plans : List FuncPlan) (at : ℕ) (name : List ℕ) (wanted : LoopPlace) → consumer_of pipeline plans at name named ≡ Some wanted
+named_consumer : (named : Option Source) (pipeline : Pipeline) (plans : List FuncPlan) (at : ℕ) (name : List ℕ) (wanted : LoopPlace)
+    → consumer_of pipeline plans at name named ≡ Some wanted
     → IsConsumer pipeline plans at wanted
 named_consumer None pipeline plans at name wanted e = cc
 named_consumer (Some (sources.Input place)) pipeline plans at name wanted e = cc
@@ -233,7 +250,8 @@ used_by : (away : Bool) (own wanted : LoopPlace) → cond away places.Nowhere (p
 used_by true own wanted e = cc
 used_by false own wanted e = cc
 
-consumer_by : (found : Option LoopPlace) (pipeline : Pipeline) (plans : List FuncPlan) (at : ℕ) (names : LoopNames) (behind : List Standing) (wanted : LoopPlace) → consumer pipeline plans at names ≡ found
+consumer_by : (found : Option LoopPlace) (pipeline : Pipeline) (plans : List FuncPlan) (at : ℕ) (names : LoopNames) (behind : List Standing)
+    (wanted : LoopPlace) → consumer pipeline plans at names ≡ found
     → place_at pipeline plans at behind found ≡ places.At wanted → IsConsumer pipeline plans at wanted
 consumer_by None pipeline plans at names behind wanted is e = cc
 consumer_by (Some own) pipeline plans at names behind wanted is e =
@@ -243,15 +261,18 @@ consumer_by (Some own) pipeline plans at names behind wanted is e =
 computed_consumer : (said : Computed) (pipeline : Pipeline) (plans : List FuncPlan) (at : ℕ) (behind : List Standing) (wanted : LoopPlace)
     → place_computed pipeline plans at behind said ≡ places.At wanted → IsConsumer pipeline plans at wanted
 computed_consumer computed.Root pipeline plans at behind wanted e = cc
-computed_consumer (computed.At names) pipeline plans at behind wanted e = consumer_by (consumer pipeline plans at names) pipeline plans at names behind wanted refl e
+computed_consumer (computed.At names) pipeline plans at behind wanted e = consumer_by (consumer pipeline plans at names) pipeline plans at names behind wanted
+    refl e
 
-consumer_of_line : (is_output : Bool) (compute : Option ComputeLine) (pipeline : Pipeline) (plans : List FuncPlan) (at : ℕ) (behind : List Standing) (wanted : LoopPlace)
+consumer_of_line : (is_output : Bool) (compute : Option ComputeLine) (pipeline : Pipeline) (plans : List FuncPlan) (at : ℕ) (behind : List Standing)
+    (wanted : LoopPlace)
     → cond is_output places.Root (place_of pipeline plans at behind compute) ≡ places.At wanted → IsConsumer pipeline plans at wanted
 consumer_of_line true compute pipeline plans at behind wanted e = cc
 consumer_of_line false None pipeline plans at behind wanted e = cc
 consumer_of_line false (Some line) pipeline plans at behind wanted e = computed_consumer line.computed pipeline plans at behind wanted e
 
-pub are_produced : (pipeline : Pipeline) (plans : List FuncPlan) (at : ℕ) (rest : List FuncPlan) → Numbered (IsProduced pipeline plans) at (standings_from pipeline plans at rest)
+pub are_produced : (pipeline : Pipeline) (plans : List FuncPlan) (at : ℕ) (rest : List FuncPlan)
+    → Numbered (IsProduced pipeline plans) at (standings_from pipeline plans at rest)
 are_produced pipeline plans at [] = tt
 are_produced pipeline plans at (first ∷ others) = (
   λ wanted e. consumer_of_line (at == pipeline.output.func) first.compute pipeline plans at (standings_from pipeline plans (at + 1) others) wanted e,

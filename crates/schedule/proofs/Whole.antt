@@ -16,7 +16,8 @@ use Rattle.schedule.proofs.KeptPlans.{lines_keep, plans_begun}
 use Rattle.schedule.proofs.Uses.{numbered_at, consumers_at_root, uses_lie_within}
 use Rattle.schedule.proofs.Verdicts.{are_kept, funcs_keep, have_lines, are_produced}
 
-accepted_by : (wrong : Option (ℕ × ScheduleFault)) (pipeline : Pipeline) (reader : Reader) (schedule : Schedule) → verdict (standings pipeline reader.plans) reader.plans ≡ wrong
+accepted_by : (wrong : Option (ℕ × ScheduleFault)) (pipeline : Pipeline) (reader : Reader) (schedule : Schedule)
+    → verdict (standings pipeline reader.plans) reader.plans ≡ wrong
     → finished_as reader (standings pipeline reader.plans) wrong ≡ Ok schedule → Pairwise IsPlan pipeline.funcs reader.plans → IsAccepted pipeline schedule
 unfolding standings
 accepted_by (Some wrong) pipeline reader schedule is e plans = cc
@@ -36,24 +37,28 @@ accepted_by None pipeline reader schedule is e plans =
       uses = uses_lie_within pipeline reader.plans;
     })
 
-read_by : (given : Result Reader (ℕ × ScheduleFault)) (pipeline : Pipeline) (text : List ℕ) (schedule : Schedule) → taken_from (taken pipeline) 1 (start pipeline) (lines_of text) ≡ given
+read_by : (given : Result Reader (ℕ × ScheduleFault)) (pipeline : Pipeline) (text : List ℕ) (schedule : Schedule)
+    → taken_from (taken pipeline) 1 (start pipeline) (lines_of text) ≡ given
     → (given >>= λ reader. finished pipeline reader) ≡ Ok schedule → IsWellFormed pipeline → IsAccepted pipeline schedule
 read_by (Err wrong) pipeline text schedule is e rules = cc
 read_by (Ok reader) pipeline text schedule is e rules =
     accepted_by (verdict (standings pipeline reader.plans) reader.plans) pipeline reader schedule refl e
     (lines_keep pipeline 1 (start pipeline) (lines_of text) reader is (plans_begun pipeline rules))
 
-pub read_keeps : (pipeline : Pipeline) (text : List ℕ) (schedule : Schedule) → read pipeline text ≡ Ok schedule → IsWellFormed pipeline → IsAccepted pipeline schedule
+pub read_keeps : (pipeline : Pipeline) (text : List ℕ) (schedule : Schedule) → read pipeline text ≡ Ok schedule → IsWellFormed pipeline
+    → IsAccepted pipeline schedule
 unfolding read
 read_keeps pipeline text schedule e rules = read_by (taken_from (taken pipeline) 1 (start pipeline) (lines_of text)) pipeline text schedule refl e rules
 
 -- a line is faulty
-pub fails : (error : LocatedError ScheduleFault) (pipeline : Pipeline) (text : List ℕ) → FailsAt error (taken_from (taken pipeline) 1 (start pipeline) (lines_of text)) → FailsAt error (read pipeline text)
+pub fails : (error : LocatedError ScheduleFault) (pipeline : Pipeline) (text : List ℕ)
+    → FailsAt error (taken_from (taken pipeline) 1 (start pipeline) (lines_of text)) → FailsAt error (read pipeline text)
 unfolding read
 fails places.Memory pipeline text e = tt
 fails (places.Fault number fault) pipeline text e = rw e refl
 
 -- no line is
-pub ends : (pipeline : Pipeline) (text : List ℕ) (reader : Reader) → taken_from (taken pipeline) 1 (start pipeline) (lines_of text) ≡ Ok reader → read pipeline text ≡ finished pipeline reader
+pub ends : (pipeline : Pipeline) (text : List ℕ) (reader : Reader) → taken_from (taken pipeline) 1 (start pipeline) (lines_of text) ≡ Ok reader
+    → read pipeline text ≡ finished pipeline reader
 unfolding read
 ends pipeline text reader e = rw e refl

@@ -1,6 +1,7 @@
 -- A schedule's text, one line after the other: what each says of the Funcs, or its least fault; and the text as a whole.
 -- This project's own.
-use Rattle.std.specs.Prelude.{ℕ, ◌+◌, ◌-◌, ◌==◌, nat_le, nat_lt, if◌then◌else◌, List, [], ◌∷◌, length, map, slice_get, slice_set, Option, Some, None, is_some, Result, Ok, Err, Bool, false}
+use Rattle.std.specs.Prelude.{ℕ, ◌+◌, ◌-◌, ◌==◌, nat_le, nat_lt, if◌then◌else◌, List, [], ◌∷◌, length, map, slice_get, slice_set, Option, Some, None, is_some}
+use Rattle.std.specs.Prelude.{Result, Ok, Err, Bool, false}
 use Rattle.line_text.specs.Lines.{is_digit, ◌>>=◌, taken_from, lines_of}
 use Rattle.halide_pipeline.specs.declared.expressions.Source.{Source}
 use Rattle.halide_pipeline.specs.declared.expressions.Source.TheVariants as sources

@@ -32,9 +32,11 @@ parted_at : (test : Bool) (n a b c : ℕ) → c ≡ a + b → n + c ≡ cond tes
 parted_at true n a b c e = omega arith
 parted_at false n a b c e = omega arith
 
-parted : (names : List (List ℕ)) (value : Loop → ℕ) (loops : List Loop) → total value loops ≡ total (others_of names value) loops + total (named names value) loops
+parted : (names : List (List ℕ)) (value : Loop → ℕ) (loops : List Loop) → total value loops ≡ total (others_of names value) loops + total (named names value)
+    loops
 parted names value [] = refl
-parted names value (first ∷ others) = parted_at (is_among first.name names) (value first) (total (others_of names value) others) (total (named names value) others) (total value others) (parted names value others)
+parted names value (first ∷ others) = parted_at (is_among first.name names) (value first) (total (others_of names value) others) (total (named names value)
+    others) (total value others) (parted names value others)
 
 -- the value of a loop that is found
 found_value : (value : Loop → ℕ) (found : Option Loop) (other : Loop) → is_some found ≡ true → value (or_else other found) ≡ value_of value found
@@ -60,25 +62,30 @@ placed_none false own names value first others is later known count =
     rw is (omega arith)
 
 -- a name is left
-placed_one : (test : Bool) (own : List Loop) (names : List (List ℕ)) (value : Loop → ℕ) (name : List ℕ) (behind : List (List ℕ)) (first : Loop) (others : List Loop) → is_among first.name names ≡ test
+placed_one : (test : Bool) (own : List Loop) (names : List (List ℕ)) (value : Loop → ℕ) (name : List ℕ) (behind : List (List ℕ)) (first : Loop)
+    (others : List Loop) → is_among first.name names ≡ test
     → Placed own names value behind others → Placed own names value (name ∷ behind) others → Placed own names value (name ∷ behind) (first ∷ others)
 placed_one true own names value name behind first others is taken later known count =
     let parts = and_parts (is_known name own) (are_known own behind) known in
     let e : 1 + total (named names one) others ≡ suc (length behind) = rw is at count in
-    let rest : total value (reordered_from own names behind others) ≡ total (others_of names value) others + chosen own value behind = taken parts.1 (omega arith) in
+    let rest : total value (reordered_from own names behind others) ≡ total (others_of names value) others + chosen own value behind =
+    taken parts.1 (omega arith) in
     let f : value (find_or name own first) ≡ value_of value (find name own) = found_value value (find name own) first parts.0 in
     rw is (omega arith)
 placed_one false own names value name behind first others is taken later known count =
     let e : 0 + total (named names one) others ≡ length (name ∷ behind) = rw is at count in
-    let rest : total value (reordered_from own names (name ∷ behind) others) ≡ total (others_of names value) others + chosen own value (name ∷ behind) = later known (omega arith) in
+    let rest : total value (reordered_from own names (name ∷ behind) others) ≡ total (others_of names value) others + chosen own value (name ∷ behind) =
+    later known (omega arith) in
     rw is (omega arith)
 
 placed : (own : List Loop) (names : List (List ℕ)) (value : Loop → ℕ) (left : List (List ℕ)) (loops : List Loop) → Placed own names value left loops
 placed own names value [] [] known count = refl
 placed own names value (name ∷ behind) [] known count = let e : 0 ≡ length (name ∷ behind) = count in absurd (omega arith)
-placed own names value [] (first ∷ others) known count = placed_none (is_among first.name names) own names value first others refl (placed own names value [] others) known count
+placed own names value [] (first ∷ others) known count = placed_none (is_among first.name names) own names value first others refl (placed own names value []
+    others) known count
 placed own names value (name ∷ behind) (first ∷ others) known count =
-    placed_one (is_among first.name names) own names value name behind first others refl (placed own names value behind others) (placed own names value (name ∷ behind) others) known count
+    placed_one (is_among first.name names) own names value name behind first others refl (placed own names value behind others) (placed own names value (name
+    ∷ behind) others) known count
 
 -- ---- the loops that are named are those with the names
 
@@ -97,24 +104,28 @@ unused_at false name names value first others is none later =
     let back : bytes_eq name first.name ≡ false = turned name first.name ∙ is in
     rw back (ap (λ n. cond (is_among first.name names) (value first) 0 + n) (later (omega arith)))
 
-unused : (name : List ℕ) (names : List (List ℕ)) (value : Loop → ℕ) (loops : List Loop) → total (has_name name) loops ≡ 0 → total (named (name ∷ names) value) loops ≡ total (named names value) loops
+unused : (name : List ℕ) (names : List (List ℕ)) (value : Loop → ℕ) (loops : List Loop) → total (has_name name) loops ≡ 0
+    → total (named (name ∷ names) value) loops ≡ total (named names value) loops
 unused name names value [] none = refl
 unused name names value (first ∷ others) none = unused_at (bytes_eq first.name name) name names value first others refl none (unused name names value others)
 
 -- no loop that is found is named twice
-twice_at : (test : Bool) (name : List ℕ) (names : List (List ℕ)) (first : Loop) (others : List Loop) (own : Loop) → cond test (Some first) (find name others) ≡ Some own
+twice_at : (test : Bool) (name : List ℕ) (names : List (List ℕ)) (first : Loop) (others : List Loop) (own : Loop) → cond test (Some first) (find name others)
+    ≡ Some own
     → is_twice_among first.name names ≡ false → (find name others ≡ Some own → is_twice_among own.name names ≡ false)
     → is_twice_among own.name names ≡ false
 twice_at true name names first others own e once later = let same : first ≡ own = cc in rw (← same) once
 twice_at false name names first others own e once later = later e
 
-twice : (name : List ℕ) (names : List (List ℕ)) (loops : List Loop) (own : Loop) → has_twice loops names ≡ false → find name loops ≡ Some own → is_twice_among own.name names ≡ false
+twice : (name : List ℕ) (names : List (List ℕ)) (loops : List Loop) (own : Loop) → has_twice loops names ≡ false → find name loops ≡ Some own
+    → is_twice_among own.name names ≡ false
 twice name names [] own none e = cc
 twice name names (first ∷ others) own none e =
     let parts = or_parts (is_twice_among first.name names) (has_twice others names) none in
     twice_at (bytes_eq first.name name) name names first others own e parts.0 (twice name names others own parts.1)
 
-not_twice_at : (test : Bool) (name : List ℕ) (names : List (List ℕ)) → (test || is_among name names) ≡ false → (is_among name names ≡ false → is_twice_among name names ≡ false)
+not_twice_at : (test : Bool) (name : List ℕ) (names : List (List ℕ)) → (test || is_among name names) ≡ false → (is_among name names ≡ false
+    → is_twice_among name names ≡ false)
     → cond test (is_among name names) (is_twice_among name names) ≡ false
 not_twice_at true name names none later = cc
 not_twice_at false name names none later = later none
@@ -123,7 +134,8 @@ not_twice : (name : List ℕ) (names : List (List ℕ)) → is_among name names 
 not_twice name [] none = refl
 not_twice name (first ∷ others) none = not_twice_at (bytes_eq first name) name others none (not_twice name others)
 
-fewer_at : (test : Bool) (name : List ℕ) (names : List (List ℕ)) → cond test (is_among name names) (is_twice_among name names) ≡ false → is_twice_among name names ≡ false
+fewer_at : (test : Bool) (name : List ℕ) (names : List (List ℕ)) → cond test (is_among name names) (is_twice_among name names) ≡ false
+    → is_twice_among name names ≡ false
 fewer_at true name names none = not_twice name names none
 fewer_at false name names none = none
 
@@ -197,7 +209,8 @@ total-ones [] = refl
 total-ones (first ∷ others) = omega (arith, total-ones others)
 
 -- Loops that are named once and take their places anew are the same loops.
-pub same_loops : (own : List Loop) (names : List (List ℕ)) → Differ own → are_known own names ≡ true → has_twice own names ≡ false → SameLoops (reordered own names) own
+pub same_loops : (own : List Loop) (names : List (List ℕ)) → Differ own → are_known own names ≡ true → has_twice own names ≡ false
+    → SameLoops (reordered own names) own
 same_loops own names differ known once value =
     let count : total (named names one) own ≡ length names = chosen_are own names one differ known once ∙ ones own names known in
     omega (arith, placed own names value names own known count, chosen_are own names value differ known once, parted names value own)

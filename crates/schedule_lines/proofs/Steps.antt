@@ -1,5 +1,6 @@
 -- Each line that is accepted keeps what is kept of a stage.
-use Rattle.std.proofs.Common.{◌≡◌, ℕ, suc, ◌≤◌, Bool, true, false, not, cond, List, [], ◌∷◌, ◌++◌, length, map, Option, Some, None, Result, Ok, Err, refl, sym, ap, ◌∙◌, subst, arith}
+use Rattle.std.proofs.Common.{◌≡◌, ℕ, suc, ◌≤◌, Bool, true, false, not, cond, List, [], ◌∷◌, ◌++◌, length, map, Option, Some, None, Result, Ok, Err, refl, sym}
+use Rattle.std.proofs.Common.{ap, ◌∙◌, subst, arith}
 use Rattle.std.specs.Prelude.{◌&&◌, ◌||◌, ◌<◌, is_some, nat_le, nat_lt}
 use Rattle.std.specs.Str.{bytes_eq}
 use Rattle.std.proofs.lemmas.Bool.{and_parts, or_parts, eqb-true, leb-false, ltb-false}
@@ -16,7 +17,8 @@ use Rattle.schedule_lines.specs.declared.stages.LoopId.{LoopId}
 use Rattle.schedule_lines.specs.declared.stages.LoopId.TheVariants as ids
 use Rattle.schedule_lines.specs.declared.stages.Marked.{Marked}
 use Rattle.schedule_lines.specs.declared.stages.Stage.{Stage}
-use Rattle.schedule_lines.specs.Directives.{find, same_id, is_shift, open_of, parts, split_fault, split_loop, settled_split, split_of, are_known, has_twice, reordered, reductions, same_ids, reorder, with_mark, mark_loop, is_bad_unroll, mark_of, directed, is_known}
+use Rattle.schedule_lines.specs.Directives.{find, same_id, is_shift, open_of, parts, split_fault, split_loop, settled_split, split_of, are_known, has_twice}
+use Rattle.schedule_lines.specs.Directives.{reordered, reductions, same_ids, reorder, with_mark, mark_loop, is_bad_unroll, mark_of, directed, is_known}
 use Rattle.schedule_lines.specs.Making.{total, has_name, is_stray, bare, SameLoops, IsMade, Parted, Marked as Remarked, Moved, IsStage}
 use Rattle.schedule_lines.proofs.Names.{same_bytes, total-append, unknown}
 use Rattle.schedule_lines.proofs.Replacing.{between}
@@ -38,11 +40,13 @@ not_not false e = cc
 
 -- ---- one loop for another
 
-replaced_map : (before : List Loop) (own other : Loop) (after : List Loop) → bare own ≡ bare other → map bare (before ++ own ∷ after) ≡ map bare (before ++ other ∷ after)
+replaced_map : (before : List Loop) (own other : Loop) (after : List Loop) → bare own ≡ bare other
+    → map bare (before ++ own ∷ after) ≡ map bare (before ++ other ∷ after)
 replaced_map [] own other after e = ap (λ (l : Loop). l ∷ map bare after) e
 replaced_map (first ∷ before) own other after e = ap (λ (ls : List Loop). bare first ∷ ls) (replaced_map before own other after e)
 
-replaced_total : (value : Loop → ℕ) (before : List Loop) (own other : Loop) (after : List Loop) → value own ≡ value other → total value (before ++ own ∷ after) ≡ total value (before ++ other ∷ after)
+replaced_total : (value : Loop → ℕ) (before : List Loop) (own other : Loop) (after : List Loop) → value own ≡ value other
+    → total value (before ++ own ∷ after) ≡ total value (before ++ other ∷ after)
 replaced_total value [] own other after e = omega arith
 replaced_total value (first ∷ before) own other after e = omega (arith, replaced_total value before own other after e)
 
@@ -52,7 +56,8 @@ stray_mark : (bad : Bool) (own : Loop) (marked : Marked) → is_bad_unroll marke
 stray_mark true own marked e right = cc
 stray_mark false own marked e right = rw e refl
 
-marked_keeps : (is_update : Bool) (start : List Loop) (stage : Stage) (own : Loop) (name : List ℕ) (marked : Marked) → find name stage.loops ≡ Some own → is_bad_unroll marked.mark own ≡ false
+marked_keeps : (is_update : Bool) (start : List Loop) (stage : Stage) (own : Loop) (name : List ℕ) (marked : Marked) → find name stage.loops ≡ Some own
+    → is_bad_unroll marked.mark own ≡ false
     → IsStage is_update start stage → IsStage is_update start (mark_loop stage own name marked)
 marked_keeps is_update start stage own name marked e right is =
     let place = between name stage.loops own e in
@@ -61,7 +66,8 @@ marked_keeps is_update start stage own name marked e right is =
     let same : (value : Loop → ℕ) → value new ≡ value own → total value (mark_loop stage own name marked).loops ≡ total value stage.loops =
     λ value equal. ap (total value) loops_are ∙ replaced_total value place.before new own place.after equal ∙ sym (ap (total value) place.loops_are) in
     record {
-      made = Remarked stage.loops (mark_loop stage own name marked).loops stage.splits is.made (ap (map bare) loops_are ∙ replaced_map place.before new own place.after refl ∙ sym (ap (map bare) place.loops_are));
+      made = Remarked stage.loops (mark_loop stage own name marked).loops stage.splits is.made (ap (map bare) loops_are
+          ∙ replaced_map place.before new own place.after refl ∙ sym (ap (map bare) place.loops_are));
       names = λ n. omega (arith, same (has_name n) refl, is.names n);
       few = omega (arith, same one refl, total-ones (mark_loop stage own name marked).loops, total-ones stage.loops, is.few);
       unrolled = omega (
@@ -80,7 +86,8 @@ marked_keeps is_update start stage own name marked e right is =
 -- the two parts have names that differ and that no other loop has
 part_names : (in_inner in_outer : Bool) (name : List ℕ) (before : List Loop) (own : Loop) (after : List Loop) (inner outer : Loop)
     → bytes_eq inner.name name ≡ in_inner → bytes_eq outer.name name ≡ in_outer → bytes_eq outer.name inner.name ≡ false
-    → total (has_name inner.name) (before ++ own ∷ after) ≡ 0 → total (has_name outer.name) (before ++ own ∷ after) ≡ 0 → total (has_name name) (before ++ own ∷ after) ≤ 1
+    → total (has_name inner.name) (before ++ own ∷ after) ≡ 0 → total (has_name outer.name) (before ++ own ∷ after) ≡ 0
+    → total (has_name name) (before ++ own ∷ after) ≤ 1
     → total (has_name name) (before ++ (inner ∷ outer ∷ after)) ≤ 1
 part_names true true name before own after inner outer i o apart no_inner no_outer one_at_most =
     let e : bytes_eq outer.name inner.name ≡ true = rw (same_bytes inner.name name i) o in
@@ -115,7 +122,8 @@ at_shift is_update line = cond (shift_test is_update line) (Some fault.ShiftOnUp
 abbrev at_limit : Bool → Stage → SplitLine → Option ScheduleFault
 at_limit is_update stage line = cond (limit_test stage line) (Some fault.Limit) (at_shift is_update line)
 
-split_keeps : (is_update : Bool) (start : List Loop) (stage : Stage) (own : Loop) (line : SplitLine) → find line.of stage.loops ≡ Some own → split_fault is_update stage line ≡ None
+split_keeps : (is_update : Bool) (start : List Loop) (stage : Stage) (own : Loop) (line : SplitLine) → find line.of stage.loops ≡ Some own
+    → split_fault is_update stage line ≡ None
     → IsStage is_update start stage → IsStage is_update start (split_loop stage own line)
 split_keeps is_update start stage own line e right is =
     let place = between line.of stage.loops own e in
@@ -128,10 +136,14 @@ split_keeps is_update start stage own line e right is =
     let counts = or_parts (nat_lt line.factor 1 || nat_lt 64 line.factor) (nat_le 5 (length stage.loops)) limits.0 in
     let factors = or_parts (nat_lt line.factor 1) (nat_lt 64 line.factor) counts.0 in
     let loops_are : (split_loop stage own line).loops ≡ place.before ++ (new_loops ++ place.after) = place.replaced_are new_loops in
-    let old_total : (value : Loop → ℕ) → total value stage.loops ≡ total value (place.before ++ own ∷ place.after) = λ value. ap (total value) place.loops_are in
-    let new_total : (value : Loop → ℕ) → total value (split_loop stage own line).loops ≡ total value (place.before ++ (new_loops ++ place.after)) = λ value. ap (total value) loops_are in
-    let no_inner : total (has_name line.inner) (place.before ++ own ∷ place.after) ≡ 0 = sym (old_total (has_name line.inner)) ∙ unknown line.inner stage.loops each_known.1 in
-    let no_outer : total (has_name line.outer) (place.before ++ own ∷ place.after) ≡ 0 = sym (old_total (has_name line.outer)) ∙ unknown line.outer stage.loops each_known.0 in
+    let old_total : (value : Loop → ℕ) → total value stage.loops ≡ total value (place.before ++ own ∷ place.after) = λ value. ap (total value) place.loops_are
+    in
+    let new_total : (value : Loop → ℕ) → total value (split_loop stage own line).loops ≡ total value (place.before ++ (new_loops ++ place.after)) =
+    λ value. ap (total value) loops_are in
+    let no_inner : total (has_name line.inner) (place.before ++ own ∷ place.after) ≡ 0 = sym (old_total (has_name line.inner))
+    ∙ unknown line.inner stage.loops each_known.1 in
+    let no_outer : total (has_name line.outer) (place.before ++ own ∷ place.after) ≡ 0 = sym (old_total (has_name line.outer))
+    ∙ unknown line.outer stage.loops each_known.0 in
     let counted : total one (place.before ++ (new_loops ++ place.after)) ≡ suc (total one (place.before ++ own ∷ place.after)) =
     omega (arith, total-append one place.before (new_loops ++ place.after), total-append one place.before (own ∷ place.after)) in
     let below : length stage.loops < 5 = leb-false 5 (length stage.loops) counts.1 in
@@ -198,7 +210,8 @@ reorder_keeps is_update start stage names new e is =
     let once = passed (has_twice stage.loops names) fault.ReductionOrder (at_order stage names) new known.1 in
     let ordered = passed (not (order_test stage names)) fault.ReductionOrder (Ok (reordered_stage stage names)) new once.1 in
     let new_is : reordered_stage stage names ≡ new = cc in
-    let same : SameLoops (reordered stage.loops names) stage.loops = same_loops stage.loops names is.names (not_not (are_known stage.loops names) known.0) once.0 in
+    let same : SameLoops (reordered stage.loops names) stage.loops = same_loops stage.loops names is.names (not_not (are_known stage.loops names) known.0)
+    once.0 in
     let order : reductions (reordered stage.loops names) ≡ reductions stage.loops =
     sym (same_ids-true (reductions stage.loops) (reductions (reordered stage.loops names)) (not_not (order_test stage names) ordered.0)) in
     subst (λ (s : Stage). IsStage is_update start s) new_is (record {
@@ -213,7 +226,8 @@ reorder_keeps is_update start stage names new e is =
 abbrev Keeps : Bool → List Loop → Stage → Result Stage ScheduleFault → Type 0
 Keeps is_update start stage given = (new : Stage) → given ≡ Ok new → IsStage is_update start stage → IsStage is_update start new
 
-split_by : (faulty : Option ScheduleFault) (is_update : Bool) (start : List Loop) (stage : Stage) (own : Loop) (line : SplitLine) → find line.of stage.loops ≡ Some own → split_fault is_update stage line ≡ faulty
+split_by : (faulty : Option ScheduleFault) (is_update : Bool) (start : List Loop) (stage : Stage) (own : Loop) (line : SplitLine)
+    → find line.of stage.loops ≡ Some own → split_fault is_update stage line ≡ faulty
     → Keeps is_update start stage (settled_split stage own line faulty)
 split_by (Some wrong) is_update start stage own line found faulty new e is = cc
 split_by None is_update start stage own line found faulty new e is =
@@ -230,24 +244,28 @@ split_found : (found : Option Loop) (is_update : Bool) (start : List Loop) (stag
 split_found None is_update start stage line found new e is = cc
 split_found (Some own) is_update start stage line found new e is = split_open (is_some own.marked) is_update start stage own line found new e is
 
-mark_by : (bad : Bool) (is_update : Bool) (start : List Loop) (stage : Stage) (own : Loop) (name : List ℕ) (marked : Marked) → find name stage.loops ≡ Some own → is_bad_unroll marked.mark own ≡ bad
+mark_by : (bad : Bool) (is_update : Bool) (start : List Loop) (stage : Stage) (own : Loop) (name : List ℕ) (marked : Marked) → find name stage.loops ≡ Some own
+    → is_bad_unroll marked.mark own ≡ bad
     → Keeps is_update start stage (cond bad (Err fault.UnrolledLoop) (Ok (mark_loop stage own name marked)))
 mark_by true is_update start stage own name marked found bad new e is = cc
 mark_by false is_update start stage own name marked found right new e is =
     let new_is : mark_loop stage own name marked ≡ new = cc in
     subst (λ (s : Stage). IsStage is_update start s) new_is (marked_keeps is_update start stage own name marked found right is)
 
-mark_open : (has_mark : Bool) (is_update : Bool) (start : List Loop) (stage : Stage) (own : Loop) (name : List ℕ) (marked : Marked) → find name stage.loops ≡ Some own
+mark_open : (has_mark : Bool) (is_update : Bool) (start : List Loop) (stage : Stage) (own : Loop) (name : List ℕ) (marked : Marked)
+    → find name stage.loops ≡ Some own
     → Keeps is_update start stage (mark_of stage name marked (cond has_mark None (Some own)))
 mark_open true is_update start stage own name marked found new e is = cc
-mark_open false is_update start stage own name marked found new e is = mark_by (is_bad_unroll marked.mark own) is_update start stage own name marked found refl new e is
+mark_open false is_update start stage own name marked found new e is = mark_by (is_bad_unroll marked.mark own) is_update start stage own name marked found refl
+    new e is
 
 mark_found : (found : Option Loop) (is_update : Bool) (start : List Loop) (stage : Stage) (name : List ℕ) (marked : Marked) → find name stage.loops ≡ found
     → Keeps is_update start stage (mark_of stage name marked (open_of found))
 mark_found None is_update start stage name marked found new e is = cc
 mark_found (Some own) is_update start stage name marked found new e is = mark_open (is_some own.marked) is_update start stage own name marked found new e is
 
-pub directed_keeps : (is_update : Bool) (start : List Loop) (stage : Stage) (line : ℕ) (directive : LoopDirective) → Keeps is_update start stage (directed is_update stage line directive)
+pub directed_keeps : (is_update : Bool) (start : List Loop) (stage : Stage) (line : ℕ) (directive : LoopDirective)
+    → Keeps is_update start stage (directed is_update stage line directive)
 unfolding directed
 directed_keeps is_update start stage line (on_loops.Split s) new e is = split_found (find s.of stage.loops) is_update start stage s refl new e is
 directed_keeps is_update start stage line (on_loops.Reorder names) new e is = reorder_keeps is_update start stage names new e is

@@ -1,6 +1,7 @@
 -- What a line does to the loops of its stage, and which faults it has. Loops stand innermost first.
 -- This project's own.
-use Rattle.std.specs.Prelude.{ℕ, Bool, true, false, not, ◌&&◌, ◌||◌, nat_le, nat_lt, if◌then◌else◌, List, [], ◌∷◌, ◌++◌, length, Option, Some, None, is_some, Result, Ok, Err, ◌==◌}
+use Rattle.std.specs.Prelude.{ℕ, Bool, true, false, not, ◌&&◌, ◌||◌, nat_le, nat_lt, if◌then◌else◌, List, [], ◌∷◌, ◌++◌, length, Option, Some, None, is_some}
+use Rattle.std.specs.Prelude.{Result, Ok, Err, ◌==◌}
 use Rattle.std.specs.Str.{bytes_eq}
 use Rattle.schedule_lines.specs.declared.faults.ScheduleFault.{ScheduleFault}
 use Rattle.schedule_lines.specs.declared.faults.ScheduleFault.TheVariants as fault
@@ -175,7 +176,15 @@ reorder stage names =
 -- ---- a loop is marked
 
 abbrev pub with_mark : Loop → Marked → Loop
-with_mark own marked = record { id = own.id; name = own.name; variable = own.variable; inner_of = own.inner_of; is_from_shift = own.is_from_shift; marked = Some marked }
+with_mark own marked = record {
+  id = own.id;
+  name = own.name;
+  variable = own.variable;
+  inner_of = own.inner_of;
+  is_from_shift = own.is_from_shift;
+  marked =
+      Some marked;
+}
 
 abbrev pub mark_loop : Stage → Loop → List ℕ → Marked → Stage
 mark_loop stage own name marked = record { loops = replaced name (with_mark own marked ∷ []) stage.loops; splits = stage.splits }

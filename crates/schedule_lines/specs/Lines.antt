@@ -9,7 +9,8 @@
 -- Funcs and loops are names: letters, digits and `_`, of which the first is no digit. A suffix is of these too, and may begin with
 -- a digit: one that names no update is no fault of syntax.
 -- This project's own.
-use Rattle.std.specs.Prelude.{ℕ, ◌+◌, min, Bool, true, false, ◌&&◌, ◌==◌, if◌then◌else◌, List, [], ◌∷◌, length, take, drop, codes, Option, Some, None, Result, Ok, Err, not}
+use Rattle.std.specs.Prelude.{ℕ, ◌+◌, min, Bool, true, false, ◌&&◌, ◌==◌, if◌then◌else◌, List, [], ◌∷◌, length, take, drop, codes, Option, Some, None, Result}
+use Rattle.std.specs.Prelude.{Ok, Err, not}
 use Rattle.std.specs.List.{prefix_len}
 use Rattle.std.specs.Str.{bytes_eq}
 use Rattle.line_text.specs.Lines.{begins_name, continues_name, is_digit, decimal_number, ◌>>=◌, joined as with_byte}

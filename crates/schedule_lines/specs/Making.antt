@@ -49,7 +49,8 @@ pub data IsMade (is_update : Bool) (start : List Loop) : List Loop → List Spli
   Parted : (before : List Loop) (own : Loop) (after : List Loop) (splits : List Split) (line : SplitLine)
       → IsMade is_update start (before ++ own ∷ after) splits
       → IsSplit is_update line
-      → IsMade is_update start (before ++ (parts own (length splits) line ++ after)) (splits ++ record { of = own.id; factor = line.factor; tail = line.tail } ∷ [])
+      → IsMade is_update start (before ++ (parts own (length splits) line ++ after)) (splits ++ record { of = own.id; factor = line.factor; tail = line.tail }
+      ∷ [])
   -- names and marks change
   Marked : (loops new : List Loop) (splits : List Split)
       → IsMade is_update start loops splits

@@ -14,7 +14,8 @@ use Rattle.schedule_loops.specs.Stages.{IsStageOf, KeepsRules}
 some_is : {A : Type 0} (x y : A) → Some x ≡ Some y → x ≡ y
 some_is x y e = cc
 
-pub pair_at : {A B : Type 0} (P : A → B → Type 0) (xs : List A) (ys : List B) (at : ℕ) (x : A) (y : B) → Pairwise P xs ys → slice_get xs at ≡ Some x → slice_get ys at ≡ Some y → P x y
+pub pair_at : {A B : Type 0} (P : A → B → Type 0) (xs : List A) (ys : List B) (at : ℕ) (x : A) (y : B) → Pairwise P xs ys → slice_get xs at ≡ Some x
+    → slice_get ys at ≡ Some y → P x y
 pair_at P [] ys zero x y all ex ey = cc
 pair_at P [] ys (suc at) x y all ex ey = cc
 pair_at P (a ∷ xs) [] at x y all ex ey = absurd all
@@ -29,7 +30,8 @@ each_at P (a ∷ xs) (suc at) x all e = each_at P xs at x all.1 e
 
 pub accepted : (func : Func) (plan : FuncPlan) (own : Standing) → IsPlan func plan → IsLegal plan own → own.is_reached ≡ true
     → (IsStageOf func None plan.pure × KeepsRules plan.pure)
-    × ((at : ℕ) (update : Update) (stage : Stage) → slice_get func.updates at ≡ Some update → slice_get plan.updates at ≡ Some stage → IsStageOf func (Some update) stage × KeepsRules stage)
+    × ((at : ℕ) (update : Update) (stage : Stage) → slice_get func.updates at ≡ Some update → slice_get plan.updates at ≡ Some stage
+    → IsStageOf func (Some update) stage × KeepsRules stage)
 accepted func plan own planned legal reached =
     let computed : IsComputed plan own = legal reached in (
       (planned.pure, (is_root own.place, computed.pure)),

@@ -1,5 +1,6 @@
 -- While loops outside have given turns, a variable lies between their base and what the loops inside can add.
-use Rattle.std.proofs.Common.{◌≡◌, ℕ, zero, suc, ◌+◌, ◌-◌, ◌*◌, ◌<◌, ◌≤◌, Bool, true, false, not, cond, List, [], ◌∷◌, ◌++◌, Option, refl, sym, ap, subst, ◌∙◌, arith, ◌⊎◌, inl, inr}
+use Rattle.std.proofs.Common.{◌≡◌, ℕ, zero, suc, ◌+◌, ◌-◌, ◌*◌, ◌<◌, ◌≤◌, Bool, true, false, not, cond, List, [], ◌∷◌, ◌++◌, Option, refl, sym, ap, subst, ◌∙◌}
+use Rattle.std.proofs.Common.{arith, ◌⊎◌, inl, inr}
 use Rattle.std.specs.Prelude.{◌&&◌, ◌||◌, nat_lt, is_some}
 use Rattle.std.specs.List.{AllByRecursion}
 use Rattle.std.proofs.lemmas.Bool.{lt-ltb, ltb-true}
@@ -44,7 +45,8 @@ abbrev pub Agrees : List Loop → Values → Values → Type 0
 Agrees loops values turns = (id : LoopId) → total (has_id id) loops ≡ 0 → values id ≡ turns id
 
 pub nest_all : {A : Type 0} (P : A → Type 0) (counts : Values) (loops : List Loop) (body : Values → List A) (turns : Values)
-    → ((values : Values) → InRange counts loops values → Agrees loops values turns → AllByRecursion P (body values)) → AllByRecursion P (nest counts loops body turns)
+    → ((values : Values) → InRange counts loops values → Agrees loops values turns → AllByRecursion P (body values))
+    → AllByRecursion P (nest counts loops body turns)
 nest_all P counts [] body turns all = all turns (λ id in_it. absurd (omega arith)) (λ id none. refl)
 nest_all P counts (own ∷ outside) body turns all =
     nest_all P counts outside (λ outer. upto (counts own.id) (λ turn. body (with own.id turn outer))) turns
@@ -110,32 +112,53 @@ module _ (extents : Extents) (splits : List Split) (v : Variable) where
   or_right true b e = cc
   or_right false b e = e
 
-  outer_exact : (values turns : Values) (outside : List Loop) → has_uneven splits v outside ≡ false → ((id : LoopId) → 1 ≤ total (has_id id) outside → values id ≡ turns id)
+  outer_exact : (values turns : Values) (outside : List Loop) → has_uneven splits v outside ≡ false → ((id : LoopId) → 1 ≤ total (has_id id) outside
+      → values id ≡ turns id)
       → total (exact v st un values) outside ≡ base splits v turns outside
   outer_exact values turns [] none same = refl
   outer_exact values turns (own ∷ others) none same =
       let n : (same_variable own.variable v && un own.id) ≡ false = or_left (same_variable own.variable v && un own.id) (has_uneven splits v others) none in
-      let later = outer_exact values turns others (or_right (same_variable own.variable v && un own.id) (has_uneven splits v others) none) (λ id l. same id (omega arith)) in
-      omega (arith, outer_one (same_variable own.variable v) (un own.id) (st own.id) (values own.id) (turns own.id) n (same own.id (omega (arith, has_same own))), later)
+      let later = outer_exact values turns others (or_right (same_variable own.variable v && un own.id) (has_uneven splits v others) none)
+      (λ id l. same id (omega arith)) in
+      omega (
+        arith,
+        outer_one (same_variable own.variable v) (un own.id) (st own.id) (values own.id) (turns own.id) n
+            (same own.id (omega (arith, has_same own))),
+        later,
+      )
 
   outer_slack : (outside : List Loop) → has_uneven splits v outside ≡ false → total (slack v st un cs) outside ≡ 0
   outer_slack [] none = refl
   outer_slack (own ∷ others) none =
       let n : (same_variable own.variable v && un own.id) ≡ false = or_left (same_variable own.variable v && un own.id) (has_uneven splits v others) none in
-      omega (arith, outer_none (same_variable own.variable v) (un own.id) (st own.id) (cs own.id - 1) n, outer_slack others (or_right (same_variable own.variable v && un own.id) (has_uneven splits v others) none))
+      omega (
+        arith,
+        outer_none (same_variable own.variable v) (un own.id) (st own.id) (cs own.id - 1) n,
+        outer_slack others
+            (or_right (same_variable own.variable v && un own.id) (has_uneven splits v others) none),
+      )
 
-  inner_one : (same odd : Bool) (s n c : ℕ) → n < c → cond {A = ℕ} (same && not odd) (s * n) 0 + cond {A = ℕ} (same && odd) (s * (c - 1)) 0 ≤ cond {A = ℕ} same (s * (c - 1)) 0
+  inner_one : (same odd : Bool) (s n c : ℕ) → n < c → cond {A = ℕ} (same && not odd) (s * n) 0 + cond {A = ℕ} (same && odd) (s * (c - 1)) 0 ≤ cond {A = ℕ} same
+      (s * (c - 1)) 0
   inner_one true true s n c l = omega arith
   inner_one true false s n c l = let k : n ≤ c - 1 = omega arith in omega (arith, mul-le-mul_left s k)
   inner_one false odd s n c l = omega arith
 
-  inner_sum : (values : Values) (inside : List Loop) → InRange cs inside values → total (exact v st un values) inside + total (slack v st un cs) inside ≤ reach extents splits v inside
+  inner_sum : (values : Values) (inside : List Loop) → InRange cs inside values → total (exact v st un values) inside + total (slack v st un cs) inside ≤ reach
+      extents splits v inside
   inner_sum values [] in_range = omega arith
   inner_sum values (own ∷ others) in_range =
-      omega (arith, inner_one (same_variable own.variable v) (un own.id) (st own.id) (values own.id) (cs own.id) (in_range own.id (omega (arith, has_same own))), inner_sum values others (λ id l. in_range id (omega arith)))
+      omega (
+        arith,
+        inner_one (same_variable own.variable v) (un own.id) (st own.id) (values own.id) (cs own.id)
+            (in_range own.id (omega (arith, has_same own))),
+        inner_sum values others (λ id l. in_range id (omega arith)),
+      )
 
-  reached_sum : (inside outside : List Loop) (turns values whole : Values) → has_uneven splits v outside ≡ false → InRange cs inside values → ((id : LoopId) → 1 ≤ total (has_id id) outside → values id ≡ turns id)
-      → IsSum (whole_counts extents) v (total (exact v st un values) (inside ++ outside)) (total (slack v st un cs) (inside ++ outside)) whole → IsReached extents splits v inside outside turns whole
+  reached_sum : (inside outside : List Loop) (turns values whole : Values) → has_uneven splits v outside ≡ false → InRange cs inside values
+      → ((id : LoopId) → 1 ≤ total (has_id id) outside → values id ≡ turns id)
+      → IsSum (whole_counts extents) v (total (exact v st un values) (inside ++ outside)) (total (slack v st un cs) (inside ++ outside)) whole
+      → IsReached extents splits v inside outside turns whole
   reached_sum inside outside turns values whole none in_range same s =
       let e = total-append (exact v st un values) inside outside in
       let k = total-append (slack v st un cs) inside outside in
@@ -144,14 +167,16 @@ module _ (extents : Extents) (splits : List Split) (v : Variable) where
       let c = inner_sum values inside in_range in
       record { low = omega (arith, s.sum, e, a); high = omega (arith, s.sum, s.few, e, k, a, b, c) }
 
-  all_listed : (P : Values → Type 0) (exactly most : ℕ) (xs : List Values) → ((whole : Values) → IsSum (whole_counts extents) v exactly most whole → P whole) → Listed (whole_counts extents) v exactly most xs → AllByRecursion P xs
+  all_listed : (P : Values → Type 0) (exactly most : ℕ) (xs : List Values) → ((whole : Values) → IsSum (whole_counts extents) v exactly most whole → P whole)
+      → Listed (whole_counts extents) v exactly most xs → AllByRecursion P xs
   all_listed P exactly most xs holds (Nothing e) = subst (AllByRecursion P) (sym e) tt
   all_listed P exactly most xs holds (One whole e s) = subst (AllByRecursion P) (sym e) (holds whole s, tt)
 
 -- ---- the loops of a stage
 
 module _ (func : Func) (update : Option Update) (extents : Extents) (stage : Stage) (inside outside : List Loop) (v : Variable) (turns : Values)
-    (is : IsStageOf func update stage) (loops_are : stage.loops ≡ inside ++ outside) (some : has_variable v (first_loops func update) ≡ true) (are : AreTurns (counts extents stage.splits) outside turns) where
+    (is : IsStageOf func update stage) (loops_are : stage.loops ≡ inside ++ outside) (some : has_variable v (first_loops func update) ≡ true)
+    (are : AreTurns (counts extents stage.splits) outside turns) where
   abbrev start : List Loop
   start = first_loops func update
 
@@ -161,16 +186,22 @@ module _ (func : Func) (update : Option Update) (extents : Extents) (stage : Sta
   linear : Linear (whole_counts extents) v (inside ++ outside) stage.splits
   linear = linear_in (whole_counts extents) v (plain func update) some made
 
-  all_in_range : (values : Values) → InRange (counts extents stage.splits) inside values → Agrees inside values turns → InRange (counts extents stage.splits) (inside ++ outside) values
-  all_in_range values in_range agrees = both_in_range (counts extents stage.splits) inside outside linear.sound.unique turns values in_range agrees (in_turns (counts extents stage.splits) outside turns are)
+  all_in_range : (values : Values) → InRange (counts extents stage.splits) inside values → Agrees inside values turns
+      → InRange (counts extents stage.splits) (inside ++ outside) values
+  all_in_range values in_range agrees = both_in_range (counts extents stage.splits) inside outside linear.sound.unique turns values in_range agrees
+      (in_turns (counts extents stage.splits) outside turns are)
 
-  pub reached : has_uneven stage.splits v outside ≡ false → AllByRecursion (IsReached extents stage.splits v inside outside turns) (wholes extents stage.splits inside turns)
+  pub reached : has_uneven stage.splits v outside ≡ false → AllByRecursion (IsReached extents stage.splits v inside outside turns) (wholes extents stage.splits
+      inside turns)
   reached none =
-      nest_all (IsReached extents stage.splits v inside outside turns) (counts extents stage.splits) inside (split_bodies (whole_counts extents) 0 stage.splits (λ whole. whole ∷ [])) turns (λ values in_range agrees.
+      nest_all (IsReached extents stage.splits v inside outside turns) (counts extents stage.splits) inside (split_bodies (whole_counts extents) 0 stage.splits
+      (λ whole. whole ∷ [])) turns (λ values in_range agrees.
       all_listed extents stage.splits v (IsReached extents stage.splits v inside outside turns)
-      (total (exact v (strides stage.splits) (is_uneven stage.splits) values) (inside ++ outside)) (total (slack v (strides stage.splits) (is_uneven stage.splits) (counts extents stage.splits)) (inside ++ outside))
+      (total (exact v (strides stage.splits) (is_uneven stage.splits) values) (inside ++ outside))
+      (total (slack v (strides stage.splits) (is_uneven stage.splits) (counts extents stage.splits)) (inside ++ outside))
       (split_bodies (whole_counts extents) 0 stage.splits (λ whole. whole ∷ []) values)
-      (λ whole s. reached_sum extents stage.splits v inside outside turns values whole none in_range (outer_turns (counts extents stage.splits) inside outside linear.sound.unique turns values agrees) s)
+      (λ whole s. reached_sum extents stage.splits v inside outside turns values whole none in_range (outer_turns (counts extents stage.splits) inside outside
+      linear.sound.unique turns values agrees) s)
       (linear.sum values (all_in_range values in_range agrees)))
 
   abbrev is_below : Values → Bool
@@ -182,7 +213,8 @@ module _ (func : Func) (update : Option Update) (extents : Extents) (stage : Sta
 
   pub within : AllByRecursion (λ whole. whole (ids.Whole v) < extent_of extents v) (wholes extents stage.splits inside turns)
   within =
-      nest_all (λ whole. whole (ids.Whole v) < extent_of extents v) (counts extents stage.splits) inside (split_bodies (whole_counts extents) 0 stage.splits (λ whole. whole ∷ [])) turns (λ values in_range agrees.
+      nest_all (λ whole. whole (ids.Whole v) < extent_of extents v) (counts extents stage.splits) inside (split_bodies (whole_counts extents) 0 stage.splits
+      (λ whole. whole ∷ [])) turns (λ values in_range agrees.
       all_pass (λ whole. whole (ids.Whole v) < extent_of extents v) is_below (λ whole e. ltb-true (whole (ids.Whole v)) (extent_of extents v) e)
       (split_bodies (whole_counts extents) 0 stage.splits (λ whole. whole ∷ []) values)
       (quiet.none values (all_in_range values in_range agrees)))

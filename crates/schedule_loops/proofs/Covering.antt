@@ -1,5 +1,6 @@
 -- Every nest of a pure definition visits all points, also where splits are shifted.
-use Rattle.std.proofs.Common.{◌≡◌, ℕ, zero, suc, ◌+◌, ◌-◌, ◌*◌, ◌/◌, ◌<◌, ◌≤◌, Bool, true, false, not, cond, List, [], ◌∷◌, ◌++◌, length, None, refl, sym, ap, subst, ◌∙◌, arith, inl, inr}
+use Rattle.std.proofs.Common.{◌≡◌, ℕ, zero, suc, ◌+◌, ◌-◌, ◌*◌, ◌/◌, ◌<◌, ◌≤◌, Bool, true, false, not, cond, List, [], ◌∷◌, ◌++◌, length, None, refl, sym, ap}
+use Rattle.std.proofs.Common.{subst, ◌∙◌, arith, inl, inr}
 use Rattle.std.specs.Prelude.{◌&&◌, ◌||◌, nat_lt, nat_le, Contains}
 use Rattle.std.proofs.lemmas.Bool.{lt-ltb, le-ltb, leb-true, cases_eq, and_parts}
 use Rattle.std.proofs.lemmas.List.Elements.{Contains-append_left, Contains-append_right}
@@ -19,13 +20,15 @@ use Rattle.schedule_lines.specs.declared.stages.Tail.TheVariants as tails
 use Rattle.schedule_lines.specs.Directives.{same_id, parts, is_shift}
 use Rattle.schedule_lines.specs.Making.{total, IsSplit, IsMade}
 use Rattle.schedule_loops.specs.declared.extents.Extents.{Extents}
-use Rattle.schedule_loops.specs.Visits.{Values, with, rounds, whole_counts, more_counts, counts_from, shift_fits, shifts_fit_from, shifts_fit, upto, nest, whole_of, begin_of, split_body, split_bodies, zeros, Visit, visit_of, visits}
+use Rattle.schedule_loops.specs.Visits.{Values, with, rounds, whole_counts, more_counts, counts_from, shift_fits, shifts_fit_from, shifts_fit, upto, nest}
+use Rattle.schedule_loops.specs.Visits.{whole_of, begin_of, split_body, split_bodies, zeros, Visit, visit_of, visits}
 use Rattle.schedule_loops.specs.Stages.{has_variable, first_loops, is_slice_of, IsStageOf}
 use Rattle.schedule_loops.proofs.Ids.{cases_id, is_old, old_apart, inner_new, outer_new, turned_id, with_same, with_other}
 use Rattle.schedule_loops.proofs.Nesting.{has_id, has_same, has_other, InRange}
 use Rattle.schedule_loops.proofs.Splitting.{OnOld}
 use Rattle.schedule_loops.proofs.Selecting.{OnValues, Unique, on_values_more}
-use Rattle.schedule_loops.proofs.Making.{Sound, Stays, by_making, sound_stays, split_by, IsInner, IsOuter, IsNeither, part_of, total-append, total_parts, parts_inner, parts_outer, parts_neither, counts-more, bodies-more, bodies_on_old, bare_total}
+use Rattle.schedule_loops.proofs.Making.{Sound, Stays, by_making, sound_stays, split_by, IsInner, IsOuter, IsNeither, part_of, total-append, total_parts}
+use Rattle.schedule_loops.proofs.Making.{parts_inner, parts_outer, parts_neither, counts-more, bodies-more, bodies_on_old, bare_total}
 use Rattle.schedule_loops.proofs.Order.{quotient_below}
 use Rattle.schedule_loops.proofs.FirstLoops.{plain, sound, there, absent, no_parts}
 use Rattle.schedule_loops.proofs.Starts.{IsSlice, slice_values}
@@ -54,7 +57,8 @@ pub nest_contains : {A : Type 0} (x : A) (counts : Values) (loops : List Loop) (
 nest_contains x counts [] body on unique found start in_range only there = subst (λ xs. Contains xs x) (on found start (λ id. only id refl)) there
 nest_contains {A} x counts (own ∷ loops) body on unique found start in_range only there =
     let none : total (has_id own.id) loops ≡ 0 = omega (arith, unique own.id, has_same own) in
-    nest_contains x counts loops (λ outer. upto (counts own.id) (λ turn. body (with own.id turn outer))) (on_values_more counts own.id body on) (λ id. omega (arith, unique id))
+    nest_contains x counts loops (λ outer. upto (counts own.id) (λ turn. body (with own.id turn outer))) (on_values_more counts own.id body on)
+    (λ id. omega (arith, unique id))
     (with own.id (start own.id) found) start
     (λ id l. elim (cases_id id own.id) [
       | inl e ↦ absurd (omega (arith, ap (λ (i : LoopId). total (has_id i) loops) e))
@@ -64,9 +68,11 @@ nest_contains {A} x counts (own ∷ loops) body on unique found start in_range o
       | inl e ↦ subst (λ (i : LoopId). with own.id (start own.id) found i ≡ start i) (sym e) (with_same own.id (start own.id) found)
       | inr d ↦ with_other own.id (start own.id) found id d ∙ only id (omega (arith, has_other id own (turned_id id own.id d)))
     ])
-    (contains_upto x (counts own.id) (found own.id) (λ turn. body (with own.id turn (with own.id (start own.id) found))) (in_range own.id (omega (arith, has_same own)))
+    (contains_upto x (counts own.id) (found own.id) (λ turn. body (with own.id turn (with own.id (start own.id) found)))
+    (in_range own.id (omega (arith, has_same own)))
     (subst (λ (xs : List A). Contains xs x) (on found (with own.id (found own.id) (with own.id (start own.id) found)) (λ id. elim (cases_id id own.id) [
-      | inl e ↦ subst (λ (i : LoopId). found i ≡ with own.id (found own.id) (with own.id (start own.id) found) i) (sym e) (sym (with_same own.id (found own.id) (with own.id (start own.id) found)))
+      | inl e ↦ subst (λ (i : LoopId). found i ≡ with own.id (found own.id) (with own.id (start own.id) found) i) (sym e)
+          (sym (with_same own.id (found own.id) (with own.id (start own.id) found)))
       | inr d ↦ sym (with_other own.id (found own.id) (with own.id (start own.id) found) id d ∙ with_other own.id (start own.id) found id d)
     ])) there))
 
@@ -85,13 +91,16 @@ unfolding inner_turn
 inner_below tails.Guard factor extent value some l long = omega (arith, div-add-mod' value factor, mod-lt value some)
 inner_below tails.Shift factor extent value some l long = omega (arith, div-add-mod' value factor, mod-lt value some)
 
-inner_sum : (tail : Tail) (factor extent value : ℕ) → 1 ≤ factor → value < extent → IsLong tail factor extent → begin_of tail factor extent (value / factor) + inner_turn tail factor extent value ≡ value
+inner_sum : (tail : Tail) (factor extent value : ℕ) → 1 ≤ factor → value < extent → IsLong tail factor extent
+    → begin_of tail factor extent (value / factor) + inner_turn tail factor extent value ≡ value
 unfolding inner_turn
 inner_sum tails.Guard factor extent value some l long = omega (arith, div-add-mod' value factor, mod-lt value some)
 inner_sum tails.Shift factor extent value some l long = omega (arith, div-add-mod' value factor, mod-lt value some)
 
-module _ {A : Type 0} (counts : Values) (body : Values → List A) (start : Values) (wanted : List A) (before : List Loop) (own : Loop) (after : List Loop) (splits : List Split) (line : SplitLine)
-    (is_update : Bool) (is : IsSplit is_update line) (sound : Sound (before ++ own ∷ after) splits) (long : IsLong line.tail line.factor (counts own.id)) (on_old : OnOld (length splits) body) where
+module _ {A : Type 0} (counts : Values) (body : Values → List A) (start : Values) (wanted : List A) (before : List Loop) (own : Loop) (after : List Loop)
+    (splits : List Split) (line : SplitLine)
+    (is_update : Bool) (is : IsSplit is_update line) (sound : Sound (before ++ own ∷ after) splits) (long : IsLong line.tail line.factor (counts own.id))
+    (on_old : OnOld (length splits) body) where
   abbrev place : ℕ
   place = length splits
 
@@ -112,35 +121,48 @@ module _ {A : Type 0} (counts : Values) (body : Values → List A) (start : Valu
 
   -- values of the new loops under which the body lists the same
   abbrev pub moved : Values → Values
-  moved found = with own.id (start own.id) (with (ids.Inner (length splits)) (inner_turn line.tail line.factor (counts own.id) (found own.id)) (with (ids.Outer (length splits)) (found own.id / line.factor) found))
+  moved found = with own.id (start own.id) (with (ids.Inner (length splits)) (inner_turn line.tail line.factor (counts own.id) (found own.id))
+      (with (ids.Outer (length splits)) (found own.id / line.factor) found))
 
   moved_outer : (found : Values) → moved found (ids.Outer (length splits)) ≡ found own.id / line.factor
   moved_outer found =
-      with_other own.id (start own.id) (with (ids.Inner (length splits)) (inner_turn line.tail line.factor (counts own.id) (found own.id)) (with (ids.Outer (length splits)) (found own.id / line.factor) found)) (ids.Outer (length splits)) (turned_id own.id (ids.Outer (length splits)) (old_apart (length splits) own.id (ids.Outer (length splits)) own_old (outer_new (length splits))))
+      with_other own.id (start own.id) (with (ids.Inner (length splits)) (inner_turn line.tail line.factor (counts own.id) (found own.id))
+      (with (ids.Outer (length splits)) (found own.id / line.factor) found)) (ids.Outer (length splits)) (turned_id own.id (ids.Outer (length splits))
+      (old_apart (length splits) own.id (ids.Outer (length splits)) own_old (outer_new (length splits))))
       ∙ with_same (ids.Outer (length splits)) (found own.id / line.factor) found
 
   moved_inner : (found : Values) → moved found (ids.Inner (length splits)) ≡ inner_turn line.tail line.factor (counts own.id) (found own.id)
   moved_inner found =
-      with_other own.id (start own.id) (with (ids.Inner (length splits)) (inner_turn line.tail line.factor (counts own.id) (found own.id)) (with (ids.Outer (length splits)) (found own.id / line.factor) found)) (ids.Inner (length splits)) (turned_id own.id (ids.Inner (length splits)) (old_apart (length splits) own.id (ids.Inner (length splits)) own_old (inner_new (length splits))))
-      ∙ with_same (ids.Inner (length splits)) (inner_turn line.tail line.factor (counts own.id) (found own.id)) (with (ids.Outer (length splits)) (found own.id / line.factor) found)
+      with_other own.id (start own.id) (with (ids.Inner (length splits)) (inner_turn line.tail line.factor (counts own.id) (found own.id))
+      (with (ids.Outer (length splits)) (found own.id / line.factor) found)) (ids.Inner (length splits)) (turned_id own.id (ids.Inner (length splits))
+      (old_apart (length splits) own.id (ids.Inner (length splits)) own_old (inner_new (length splits))))
+      ∙ with_same (ids.Inner (length splits)) (inner_turn line.tail line.factor (counts own.id) (found own.id)) (with (ids.Outer (length splits))
+      (found own.id / line.factor) found)
 
-  moved_other : (found : Values) (id : LoopId) → same_id id own.id ≡ false → same_id (ids.Inner (length splits)) id ≡ false → same_id (ids.Outer (length splits)) id ≡ false → moved found id ≡ found id
+  moved_other : (found : Values) (id : LoopId) → same_id id own.id ≡ false → same_id (ids.Inner (length splits)) id ≡ false
+      → same_id (ids.Outer (length splits)) id ≡ false → moved found id ≡ found id
   moved_other found id o d f =
-      with_other own.id (start own.id) (with (ids.Inner (length splits)) (inner_turn line.tail line.factor (counts own.id) (found own.id)) (with (ids.Outer (length splits)) (found own.id / line.factor) found)) id o
-      ∙ with_other (ids.Inner (length splits)) (inner_turn line.tail line.factor (counts own.id) (found own.id)) (with (ids.Outer (length splits)) (found own.id / line.factor) found) id (turned_id (ids.Inner (length splits)) id d)
+      with_other own.id (start own.id) (with (ids.Inner (length splits)) (inner_turn line.tail line.factor (counts own.id) (found own.id))
+      (with (ids.Outer (length splits)) (found own.id / line.factor) found)) id o
+      ∙ with_other (ids.Inner (length splits)) (inner_turn line.tail line.factor (counts own.id) (found own.id)) (with (ids.Outer (length splits))
+      (found own.id / line.factor) found) id (turned_id (ids.Inner (length splits)) id d)
       ∙ with_other (ids.Outer (length splits)) (found own.id / line.factor) found id (turned_id (ids.Outer (length splits)) id f)
 
   -- the split lists what the loop listed
-  pub split_lists : (found : Values) → found own.id < counts own.id → body found ≡ wanted → split_body counts (length splits) (split_by own line) body (moved found) ≡ wanted
+  pub split_lists : (found : Values) → found own.id < counts own.id → body found ≡ wanted
+      → split_body counts (length splits) (split_by own line) body (moved found) ≡ wanted
   split_lists found l e =
       let w : whole_of counts (length splits) (split_by own line) (moved found) ≡ found own.id =
       ap (λ (n : ℕ). begin_of line.tail line.factor (counts own.id) n + moved found (ids.Inner (length splits))) (moved_outer found)
       ∙ ap (λ (n : ℕ). begin_of line.tail line.factor (counts own.id) (found own.id / line.factor) + n) (moved_inner found)
       ∙ inner_sum line.tail line.factor (counts own.id) (found own.id) is.some l long in
-      let same : body (with own.id (found own.id) (moved found)) ≡ body found = on_old (with own.id (found own.id) (moved found)) found (λ id old. elim (cases_id id own.id) [
+      let same : body (with own.id (found own.id) (moved found)) ≡ body found = on_old (with own.id (found own.id) (moved found)) found
+      (λ id old. elim (cases_id id own.id) [
         | inl s ↦ subst (λ (i : LoopId). with own.id (found own.id) (moved found) i ≡ found i) (sym s) (with_same own.id (found own.id) (moved found))
         | inr o ↦ with_other own.id (found own.id) (moved found) id o
-            ∙ moved_other found id o (turned_id id (ids.Inner (length splits)) (old_apart (length splits) id (ids.Inner (length splits)) old (inner_new (length splits)))) (turned_id id (ids.Outer (length splits)) (old_apart (length splits) id (ids.Outer (length splits)) old (outer_new (length splits))))
+            ∙ moved_other found id o (turned_id id (ids.Inner (length splits)) (old_apart (length splits) id (ids.Inner (length splits)) old
+            (inner_new (length splits)))) (turned_id id (ids.Outer (length splits)) (old_apart (length splits) id (ids.Outer (length splits)) old
+            (outer_new (length splits))))
       ]) in
       ap (λ (n : ℕ). cond (nat_lt n (counts own.id)) (body (with own.id n (moved found))) []) w
       ∙ ap (λ (t : Bool). cond t (body (with own.id (found own.id) (moved found))) []) (lt-ltb (found own.id) (counts own.id) l) ∙ same ∙ e
@@ -150,11 +172,25 @@ module _ {A : Type 0} (counts : Values) (body : Values → List A) (start : Valu
       let l : found own.id < counts own.id = in_range own.id own_there in
       elim (part_of (length splits) id) [
         | IsInner e ↦ subst (λ (i : LoopId). moved found i < new_counts i) (sym e)
-            (omega (arith, moved_inner found, inner_below line.tail line.factor (counts own.id) (found own.id) is.some l long, with_same (ids.Inner (length splits)) line.factor (with (ids.Outer (length splits)) (rounds (counts own.id) line.factor) counts)))
+            (omega (
+              arith,
+              moved_inner found,
+              inner_below line.tail line.factor (counts own.id) (found own.id) is.some l long,
+              with_same
+                  (ids.Inner (length splits)) line.factor (with (ids.Outer (length splits)) (rounds (counts own.id) line.factor) counts),
+            ))
         | IsOuter e ↦ subst (λ (i : LoopId). moved found i < new_counts i) (sym e)
-            (omega (arith, moved_outer found, quotient_below (found own.id) (counts own.id) line.factor is.some l, with_same (ids.Outer (length splits)) (rounds (counts own.id) line.factor) counts))
+            (omega (
+              arith,
+              moved_outer found,
+              quotient_below (found own.id) (counts own.id) line.factor is.some l,
+              with_same (ids.Outer (length splits))
+                  (rounds (counts own.id) line.factor) counts,
+            ))
         | IsNeither d f ↦
-            let same_counts : new_counts id ≡ counts id = with_other (ids.Inner (length splits)) line.factor (with (ids.Outer (length splits)) (rounds (counts own.id) line.factor) counts) id (turned_id (ids.Inner (length splits)) id d) ∙ with_other (ids.Outer (length splits)) (rounds (counts own.id) line.factor) counts id (turned_id (ids.Outer (length splits)) id f) in
+            let same_counts : new_counts id ≡ counts id = with_other (ids.Inner (length splits)) line.factor (with (ids.Outer (length splits))
+            (rounds (counts own.id) line.factor) counts) id (turned_id (ids.Inner (length splits)) id d)
+            ∙ with_other (ids.Outer (length splits)) (rounds (counts own.id) line.factor) counts id (turned_id (ids.Outer (length splits)) id f) in
             let sum = total_parts (has_id id) before own after (length splits) line in
             let none = parts_neither own (length splits) line id d f in
             elim (cases_id id own.id) [
@@ -170,13 +206,26 @@ module _ {A : Type 0} (counts : Values) (body : Values → List A) (start : Valu
       let sum = total_parts (has_id id) before own after (length splits) line in
       elim (part_of (length splits) id) [
         | IsInner e ↦
-            let one : total (has_id id) (parts own (length splits) line) ≡ 1 = subst (λ (i : LoopId). total (has_id i) (parts own (length splits) line) ≡ 1) (sym e) (parts_inner own (length splits) line) in
-            absurd (omega (arith, total-append (has_id id) before (parts own (length splits) line ++ after), total-append (has_id id) (parts own (length splits) line) after))
+            let one : total (has_id id) (parts own (length splits) line) ≡ 1 = subst (λ (i : LoopId). total (has_id i) (parts own (length splits) line) ≡ 1)
+            (sym e) (parts_inner own (length splits) line) in
+            absurd (omega (
+              arith,
+              total-append (has_id id) before (parts own (length splits) line ++ after),
+              total-append (has_id id) (parts own (length splits)
+                  line) after,
+            ))
         | IsOuter e ↦
-            let one : total (has_id id) (parts own (length splits) line) ≡ 1 = subst (λ (i : LoopId). total (has_id i) (parts own (length splits) line) ≡ 1) (sym e) (parts_outer own (length splits) line) in
-            absurd (omega (arith, total-append (has_id id) before (parts own (length splits) line ++ after), total-append (has_id id) (parts own (length splits) line) after))
+            let one : total (has_id id) (parts own (length splits) line) ≡ 1 = subst (λ (i : LoopId). total (has_id i) (parts own (length splits) line) ≡ 1)
+            (sym e) (parts_outer own (length splits) line) in
+            absurd (omega (
+              arith,
+              total-append (has_id id) before (parts own (length splits) line ++ after),
+              total-append (has_id id) (parts own (length splits)
+                  line) after,
+            ))
         | IsNeither d f ↦ elim (cases_id id own.id) [
-          | inl s ↦ subst (λ (i : LoopId). moved found i ≡ start i) (sym s) (with_same own.id (start own.id) (with (ids.Inner (length splits)) (inner_turn line.tail line.factor (counts own.id) (found own.id)) (with (ids.Outer (length splits)) (found own.id / line.factor) found)))
+          | inl s ↦ subst (λ (i : LoopId). moved found i ≡ start i) (sym s) (with_same own.id (start own.id) (with (ids.Inner (length splits))
+              (inner_turn line.tail line.factor (counts own.id) (found own.id)) (with (ids.Outer (length splits)) (found own.id / line.factor) found)))
           | inr o ↦ moved_other found id o d f ∙ only id (omega (arith, sum, has_other id own (turned_id id own.id o)))
         ]
       ]
@@ -220,25 +269,40 @@ module _ (extents : Extents) (wanted : Visit) where
 
   leaf_on_old : OnOld 0 leaf
   leaf_on_old one other same =
-      rw (same (ids.Whole variables.FirstArgument) refl, same (ids.Whole variables.SecondArgument) refl, same (ids.Whole variables.FirstReduction) refl, same (ids.Whole variables.SecondReduction) refl) refl
+      rw (
+        same (ids.Whole variables.FirstArgument) refl,
+        same (ids.Whole variables.SecondArgument) refl,
+        same (ids.Whole variables.FirstReduction) refl,
+        same
+            (ids.Whole variables.SecondReduction) refl,
+      ) refl
 
   pub body_on : (splits : List Split) → OnOld (length splits) (body_of splits)
   body_on splits = bodies_on_old splits (whole_counts extents) 0 (length splits) leaf (omega arith) leaf_on_old
 
-  found_parted : (is_update : Bool) (before : List Loop) (own : Loop) (after : List Loop) (splits : List Split) (line : SplitLine) → IsSplit is_update line → Sound (before ++ own ∷ after) splits
-      → IsLong line.tail line.factor (counts_of splits own.id) → Found (before ++ own ∷ after) splits → Found (before ++ (parts own (length splits) line ++ after)) (splits ++ split_by own line ∷ [])
+  found_parted : (is_update : Bool) (before : List Loop) (own : Loop) (after : List Loop) (splits : List Split) (line : SplitLine) → IsSplit is_update line
+      → Sound (before ++ own ∷ after) splits
+      → IsLong line.tail line.factor (counts_of splits own.id) → Found (before ++ own ∷ after) splits
+      → Found (before ++ (parts own (length splits) line ++ after)) (splits ++ split_by own line ∷ [])
   found_parted is_update before own after splits line is sound long f =
-      let counts_are : counts_of (splits ++ split_by own line ∷ []) ≡ more_counts (counts_of splits) (length splits) (split_by own line) = counts-more splits (whole_counts extents) 0 (length splits) (split_by own line) (omega arith) in
-      let bodies_are : body_of (splits ++ split_by own line ∷ []) ≡ split_body (counts_of splits) (length splits) (split_by own line) (body_of splits) = bodies-more splits (whole_counts extents) 0 (length splits) (split_by own line) leaf (omega arith) in
+      let counts_are : counts_of (splits ++ split_by own line ∷ []) ≡ more_counts (counts_of splits) (length splits) (split_by own line) =
+      counts-more splits (whole_counts extents) 0 (length splits) (split_by own line) (omega arith) in
+      let bodies_are : body_of (splits ++ split_by own line ∷ []) ≡ split_body (counts_of splits) (length splits) (split_by own line) (body_of splits) =
+      bodies-more splits (whole_counts extents) 0 (length splits) (split_by own line) leaf (omega arith) in
       let l : f.found own.id < counts_of splits own.id = f.in_range own.id (omega (arith, total-append (has_id own.id) before (own ∷ after), has_same own)) in
-      let new : Values = with own.id (zeros own.id) (with (ids.Inner (length splits)) (inner_turn line.tail line.factor (counts_of splits own.id) (f.found own.id)) (with (ids.Outer (length splits)) (f.found own.id / line.factor) f.found)) in
+      let new : Values = with own.id (zeros own.id) (with (ids.Inner (length splits)) (inner_turn line.tail line.factor (counts_of splits own.id)
+      (f.found own.id)) (with (ids.Outer (length splits)) (f.found own.id / line.factor) f.found)) in
       record {
-        found = with own.id (zeros own.id) (with (ids.Inner (length splits)) (inner_turn line.tail line.factor (counts_of splits own.id) (f.found own.id)) (with (ids.Outer (length splits)) (f.found own.id / line.factor) f.found));
+        found = with own.id (zeros own.id) (with (ids.Inner (length splits)) (inner_turn line.tail line.factor (counts_of splits own.id) (f.found own.id))
+            (with (ids.Outer (length splits)) (f.found own.id / line.factor) f.found));
         in_range = subst (λ (c : Values). InRange c (before ++ (parts own (length splits) line ++ after)) new) (sym counts_are)
-            (split_in_range (counts_of splits) (body_of splits) zeros (wanted ∷ []) before own after splits line is_update is sound long (body_on splits) f.found f.in_range);
-        only = split_only (counts_of splits) (body_of splits) zeros (wanted ∷ []) before own after splits line is_update is sound long (body_on splits) f.found f.only;
+            (split_in_range (counts_of splits) (body_of splits) zeros (wanted ∷ []) before own after splits line is_update is sound long (body_on splits)
+            f.found f.in_range);
+        only = split_only (counts_of splits) (body_of splits) zeros (wanted ∷ []) before own after splits line is_update is sound long (body_on splits) f.found
+            f.only;
         lists = ap (λ (b : Values → List Visit). b new) bodies_are
-            ∙ split_lists (counts_of splits) (body_of splits) zeros (wanted ∷ []) before own after splits line is_update is sound long (body_on splits) f.found l f.lists;
+            ∙ split_lists (counts_of splits) (body_of splits) zeros (wanted ∷ []) before own after splits line is_update is sound long (body_on splits) f.found
+            l f.lists;
       }
 
   covers_stays : (is_update : Bool) (start : List Loop) → Covers start [] → Stays is_update start Covers
@@ -265,16 +329,24 @@ module _ (extents : Extents) (wanted : Visit) where
       sound = (sound_stays is_update start begun.sound).moved loops new splits same order c.sound;
       covers = λ e.
           let f = c.covers e in
-          record { found = f.found; in_range = λ id l. f.in_range id (omega (arith, same (has_id id))); only = λ id z. f.only id (omega (arith, same (has_id id))); lists = f.lists };
+          record {
+            found = f.found;
+            in_range = λ id l. f.in_range id (omega (arith, same (has_id id)));
+            only =
+                λ id z. f.only id (omega (arith, same (has_id id)));
+            lists = f.lists;
+          };
     };
   }
 
-  pub covered : {is_update : Bool} {start loops : List Loop} {splits : List Split} → Covers start [] → IsMade is_update start loops splits → shifts_fit_from (whole_counts extents) 0 splits ≡ true
+  pub covered : {is_update : Bool} {start loops : List Loop} {splits : List Split} → Covers start [] → IsMade is_update start loops splits
+      → shifts_fit_from (whole_counts extents) 0 splits ≡ true
       → Contains (nest (counts_of splits) loops (body_of splits) zeros) wanted
   covered {is_update} {start} {loops} {splits} begun made e =
       let c : Covers loops splits = by_making Covers (covers_stays is_update start begun) made in
       let f = c.covers e in
-      nest_contains wanted (counts_of splits) loops (body_of splits) (λ one other same. body_on splits one other (λ id old. same id)) c.sound.unique f.found zeros f.in_range f.only
+      nest_contains wanted (counts_of splits) loops (body_of splits) (λ one other same. body_on splits one other (λ id old. same id)) c.sound.unique f.found
+      zeros f.in_range f.only
       (subst (λ (xs : List Visit). Contains xs wanted) (sym f.lists) (contains_one wanted))
 
 -- ---- a pure definition, before any line
@@ -286,7 +358,8 @@ module _ (func : Func) (extents : Extents) (x y : ℕ) (there_is : is_slice_of f
   slice_is : IsSlice start (whole_counts extents) x y
   slice_is = slice_from func None extents x y there_is
 
-  rests : (v : Variable) (value : ℕ) → (has_variable v start ≡ false → value ≡ 0) → (test : Bool) → has_variable v start ≡ test → total (has_id (ids.Whole v)) start ≡ 0 → value ≡ 0
+  rests : (v : Variable) (value : ℕ) → (has_variable v start ≡ false → value ≡ 0) → (test : Bool) → has_variable v start ≡ test
+      → total (has_id (ids.Whole v)) start ≡ 0 → value ≡ 0
   rests v value none true e z = absurd (omega (arith, there v start (plain func None) e))
   rests v value none false e z = none e
 
@@ -308,8 +381,10 @@ module _ (func : Func) (extents : Extents) (x y : ℕ) (there_is : is_slice_of f
   found_in_range : InRange (whole_counts extents) start (slice_values x y)
   found_in_range (ids.Whole variables.FirstArgument) l = slice_is.x_below (has variables.FirstArgument l)
   found_in_range (ids.Whole variables.SecondArgument) l = slice_is.y_below (has variables.SecondArgument l)
-  found_in_range (ids.Whole variables.FirstReduction) l = let e : has_variable variables.FirstReduction start ≡ false = no_first_reduction func in let h = has variables.FirstReduction l in absurd cc
-  found_in_range (ids.Whole variables.SecondReduction) l = let e : has_variable variables.SecondReduction start ≡ false = no_second_reduction func in let h = has variables.SecondReduction l in absurd cc
+  found_in_range (ids.Whole variables.FirstReduction) l = let e : has_variable variables.FirstReduction start ≡ false = no_first_reduction func in let h =
+      has variables.FirstReduction l in absurd cc
+  found_in_range (ids.Whole variables.SecondReduction) l = let e : has_variable variables.SecondReduction start ≡ false = no_second_reduction func in let h =
+      has variables.SecondReduction l in absurd cc
   found_in_range (ids.Outer n) l = absurd (omega (arith, no_parts (ids.Outer n) start (plain func None) (le-ltb n 0 (omega arith))))
   found_in_range (ids.Inner n) l = absurd (omega (arith, no_parts (ids.Inner n) start (plain func None) (le-ltb n 0 (omega arith))))
 
@@ -328,5 +403,6 @@ module _ (func : Func) (extents : Extents) (x y : ℕ) (there_is : is_slice_of f
   }
 
   -- Each point is visited.
-  pub visited : (stage : Stage) → IsStageOf func None stage → shifts_fit extents stage.splits ≡ true → Contains (visits extents stage) (record { x = x; y = y; number = 0 })
+  pub visited : (stage : Stage) → IsStageOf func None stage → shifts_fit extents stage.splits ≡ true
+      → Contains (visits extents stage) (record { x = x; y = y; number = 0 })
   visited stage is e = covered extents wanted_visit begun is.made e

@@ -16,9 +16,11 @@ use Rattle.schedule.specs.declared.plans.FuncPlan.{FuncPlan}
 use Rattle.schedule.specs.declared.standings.Place.{Place}
 use Rattle.schedule.specs.declared.standings.Place.TheVariants as places
 use Rattle.schedule.specs.declared.standings.Standing.{Standing}
-use Rattle.schedule.specs.Legal.{breaks, compute_line, earlier, is_empty, is_nowhere, is_root, line_of, loops_line, nowhere_line, plan_line, rule_line, stages_line}
+use Rattle.schedule.specs.Legal.{breaks, compute_line, earlier, is_empty, is_nowhere, is_root, line_of, loops_line, nowhere_line, plan_line, rule_line}
+use Rattle.schedule.specs.Legal.{stages_line}
 use Rattle.schedule.specs.Legal.{has_lost, last_verdict, or_next, verdict}
-use Rattle.schedule_loops.specs.FaultLines.{BreaksRule, ComputesNowhere, IsFaultLine, IsLeast, IsUnbroken, NowhereLinesAreLeast, RuleLinesAreLeast, VerdictsNameLeastLines, rules_before}
+use Rattle.schedule_loops.specs.FaultLines.{BreaksRule, ComputesNowhere, IsFaultLine, IsLeast, IsUnbroken, NowhereLinesAreLeast, RuleLinesAreLeast}
+use Rattle.schedule_loops.specs.FaultLines.{VerdictsNameLeastLines, rules_before}
 
 -- ---- least lines
 
@@ -83,12 +85,20 @@ module _ (rule : LoopRule) (at_root : Bool) where
   first_loop is_innermost first outside line is =
       record { at = 0; loop = first; loop_is = refl; breaks_it = rw (at_first is_innermost, at_last outside) is }
 
-  other_loop : (is_innermost : Bool) (first : Loop) (outside : List Loop) (line : ℕ) → AmongLoops false outside line → AmongLoops is_innermost (first ∷ outside) line
+  other_loop : (is_innermost : Bool) (first : Loop) (outside : List Loop) (line : ℕ) → AmongLoops false outside line
+      → AmongLoops is_innermost (first ∷ outside) line
   other_loop is_innermost first outside line is =
-      record { at = suc is.at; loop = is.loop; loop_is = is.loop_is; breaks_it = rw (past_first is_innermost is.at, eqb-suc-suc (suc is.at) (length outside)) is.breaks_it }
+      record {
+        at = suc is.at;
+        loop = is.loop;
+        loop_is = is.loop_is;
+        breaks_it = rw (past_first is_innermost is.at, eqb-suc-suc (suc is.at) (length outside))
+            is.breaks_it;
+      }
 
   either_loop : (is_innermost : Bool) (first : Loop) (outside : List Loop) (line at : ℕ) (loop : Loop) → slice_get (first ∷ outside) at ≡ Some loop
-      → Breaks (is_innermost && at == 0) (suc at == length (first ∷ outside)) loop line → Breaks is_innermost (is_empty outside) first line ⊎ AmongLoops false outside line
+      → Breaks (is_innermost && at == 0) (suc at == length (first ∷ outside)) loop line → Breaks is_innermost (is_empty outside) first line
+      ⊎ AmongLoops false outside line
   either_loop is_innermost first outside line zero loop loop_is is =
       let same : loop ≡ first = cc in
       inl (subst (λ (l : Loop). Breaks is_innermost (is_empty outside) l line) same (rw (at_first is_innermost, at_last outside) at is))
@@ -157,7 +167,8 @@ module _ (Own : Standing → FuncPlan → ℕ → Type 0) where
     own : Own standing plan line
 
   either_func : (standing : Standing) (standings : List Standing) (plan : FuncPlan) (plans : List FuncPlan) (line place : ℕ) (s : Standing) (p : FuncPlan)
-      → slice_get (standing ∷ standings) place ≡ Some s → slice_get (plan ∷ plans) place ≡ Some p → Own s p line → Own standing plan line ⊎ AmongFuncs standings plans line
+      → slice_get (standing ∷ standings) place ≡ Some s → slice_get (plan ∷ plans) place ≡ Some p → Own s p line
+      → Own standing plan line ⊎ AmongFuncs standings plans line
   either_func standing standings plan plans line zero s p standing_is plan_is is =
       let same : s ≡ standing = cc in
       let alike : p ≡ plan = cc in
@@ -166,7 +177,8 @@ module _ (Own : Standing → FuncPlan → ℕ → Type 0) where
       inr (record { place = place; standing = s; standing_is = standing_is; plan = p; plan_is = plan_is; own = is })
 
   -- the least line of all Funcs, by that of each
-  module _ (own_line : Standing → FuncPlan → Option ℕ) (own_least : (standing : Standing) (plan : FuncPlan) → IsLeast (Own standing plan) (own_line standing plan)) where
+  module _ (own_line : Standing → FuncPlan → Option ℕ) (own_least : (standing : Standing) (plan : FuncPlan)
+      → IsLeast (Own standing plan) (own_line standing plan)) where
     abbrev funcs_line : List Standing → List FuncPlan → Option ℕ
     funcs_line [] plans = None
     funcs_line (standing ∷ standings) [] = None
@@ -251,7 +263,8 @@ abbrev lost_line : Standing → FuncPlan → Option ℕ
 lost_line standing plan = if standing.is_reached && is_nowhere standing.place then compute_line plan.compute else None
 
 lost_least : (standing : Standing) (plan : FuncPlan) → IsLeast (IsLost standing plan) (lost_line standing plan)
-lost_least standing plan = least_if (IsComputedAt plan.compute) (standing.is_reached && is_nowhere standing.place) (compute_line plan.compute) (compute_least plan.compute)
+lost_least standing plan = least_if (IsComputedAt plan.compute) (standing.is_reached && is_nowhere standing.place) (compute_line plan.compute)
+    (compute_least plan.compute)
 
 pub nowhere_lines_are_least : NowhereLinesAreLeast
 nowhere_lines_are_least standings plans =
@@ -271,7 +284,14 @@ nowhere_lines_are_least standings plans =
       standing_is = is.is_planned.standing_is;
       plan = is.plan;
       plan_is = is.is_planned.plan_is;
-      own = (and_from is.standing.is_reached (is_nowhere is.standing.place) is.is_planned.is_reached (ap is_nowhere is.is_nowhere), (is.compute, is.compute_is, is.line_is));
+      own = (
+        and_from is.standing.is_reached (is_nowhere is.standing.place) is.is_planned.is_reached (ap is_nowhere is.is_nowhere),
+        (
+          is.compute,
+          is.compute_is,
+          is.line_is,
+        ),
+      );
     })
     (nowhere_line standings plans) (funcs_least IsLost lost_line lost_least standings plans)
 
@@ -290,7 +310,8 @@ module _ (standings : List Standing) (plans : List FuncPlan) where
     judged IsSo (Some line) wrong next least here later is = let same : (line, wrong) ≡ named = cc in subst IsNamed same (here line least)
 
     rule_judged : (rule : LoopRule) (wrong : ScheduleFault) (next : Option (ℕ × ScheduleFault))
-        → ((line : ℕ) → IsLeast (BreaksRule standings plans rule) (Some line) → IsNamed (line, wrong)) → (IsUnbroken standings plans rule → next ≡ Some named → IsNamed named)
+        → ((line : ℕ) → IsLeast (BreaksRule standings plans rule) (Some line) → IsNamed (line, wrong)) → (IsUnbroken standings plans rule → next ≡ Some named
+        → IsNamed named)
         → or_next (rule_line rule standings plans) wrong next ≡ Some named → IsNamed named
     rule_judged rule wrong next here later is =
         judged (BreaksRule standings plans rule) (rule_line rule standings plans) wrong next (rule_lines_are_least rule standings plans) here later is

@@ -53,19 +53,23 @@ has_few : (id : LoopId) (loops : List Loop) → total (has_id id) loops ≤ tota
 has_few id [] = omega arith
 has_few id (own ∷ loops) = omega (arith, has_one (same_id own.id id), has_few id loops)
 
-first_there : (first : List ℕ) (second : Option (List ℕ)) → has_variable variables.FirstArgument (with_second (with_loop [] first variables.FirstArgument) second variables.SecondArgument) ≡ true
+first_there : (first : List ℕ) (second : Option (List ℕ)) → has_variable variables.FirstArgument (with_second (with_loop [] first variables.FirstArgument)
+    second variables.SecondArgument) ≡ true
 first_there first None = refl
 first_there first (Some name) = refl
 
 some_loop : (func : Func) (update : Option Update) → 1 ≤ total one (first_loops func update)
 some_loop func None =
-    let l : 1 ≤ total (has_id (ids.Whole variables.FirstArgument)) (first_loops func None) = there variables.FirstArgument (first_loops func None) (plain func None) (first_there func.first_argument func.second_argument) in
+    let l : 1 ≤ total (has_id (ids.Whole variables.FirstArgument)) (first_loops func None) = there variables.FirstArgument (first_loops func None)
+    (plain func None) (first_there func.first_argument func.second_argument) in
     omega (arith, has_few (ids.Whole variables.FirstArgument) (first_loops func None))
 some_loop func (Some update) =
-    let l : 1 ≤ total (has_id (ids.Whole variables.FirstReduction)) (first_loops func (Some update)) = there variables.FirstReduction (first_loops func (Some update)) (plain func (Some update)) (update_start func update).one in
+    let l : 1 ≤ total (has_id (ids.Whole variables.FirstReduction)) (first_loops func (Some update)) = there variables.FirstReduction
+    (first_loops func (Some update)) (plain func (Some update)) (update_start func update).one in
     omega (arith, has_few (ids.Whole variables.FirstReduction) (first_loops func (Some update)))
 
 pub few_splits : (func : Func) (update : Option Update) (stage : Stage) → IsStageOf func update stage → AreSplits stage.splits
 few_splits func update stage is =
-    let few : Few (first_loops func update) stage.loops stage.splits = by_making (Few (first_loops func update)) (few_stays (is_some update) (first_loops func update)) is.made in
+    let few : Few (first_loops func update) stage.loops stage.splits = by_making (Few (first_loops func update)) (few_stays (is_some update)
+    (first_loops func update)) is.made in
     record { few = omega (arith, few.count, length_total stage.loops, is.few, some_loop func update); factors = few.factors }

@@ -28,11 +28,13 @@ Plain (own ∷ others) = ((own.id ≡ ids.Whole own.variable) × (has_variable o
 
 -- ---- what follows of them
 
-id_of : (own : Loop) (v : Variable) → own.id ≡ ids.Whole own.variable → (test : Bool) → same_variable own.variable v ≡ test → has_id (ids.Whole v) own ≡ cond test 1 0
+id_of : (own : Loop) (v : Variable) → own.id ≡ ids.Whole own.variable → (test : Bool) → same_variable own.variable v ≡ test
+    → has_id (ids.Whole v) own ≡ cond test 1 0
 id_of own v e test f = ap (λ (i : LoopId). cond {A = ℕ} (same_id i (ids.Whole v)) 1 0) e ∙ ap (λ (b : Bool). cond {A = ℕ} b 1 0) f
 
 absent_at : (own : Loop) (others : List Loop) (v : Variable) (test : Bool) → same_variable own.variable v ≡ test → own.id ≡ ids.Whole own.variable
-    → (has_variable v others ≡ false → total (has_id (ids.Whole v)) others ≡ 0) → (test || has_variable v others) ≡ false → total (has_id (ids.Whole v)) (own ∷ others) ≡ 0
+    → (has_variable v others ≡ false → total (has_id (ids.Whole v)) others ≡ 0) → (test || has_variable v others) ≡ false
+    → total (has_id (ids.Whole v)) (own ∷ others) ≡ 0
 absent_at own others v true e plain later none = cc
 absent_at own others v false e plain later none = omega (arith, id_of own v plain false e, later none)
 
@@ -43,7 +45,8 @@ absent v (own ∷ others) plain none =
     absent_at own others v (same_variable own.variable v) refl plain.0.0 (absent v others plain.1) none
 
 there_at : (own : Loop) (others : List Loop) (v : Variable) (test : Bool) → same_variable own.variable v ≡ test → own.id ≡ ids.Whole own.variable
-    → (has_variable v others ≡ true → 1 ≤ total (has_id (ids.Whole v)) others) → (test || has_variable v others) ≡ true → 1 ≤ total (has_id (ids.Whole v)) (own ∷ others)
+    → (has_variable v others ≡ true → 1 ≤ total (has_id (ids.Whole v)) others) → (test || has_variable v others) ≡ true
+    → 1 ≤ total (has_id (ids.Whole v)) (own ∷ others)
 there_at own others v true e plain later some = omega (arith, id_of own v plain true e)
 there_at own others v false e plain later some = omega (arith, later some)
 
@@ -67,7 +70,8 @@ old_at id start plain false e there = absurd (omega (arith, no_parts id start pl
 few_has : (id : LoopId) (own : Loop) (test : Bool) → same_id own.id id ≡ test → has_id id own ≡ cond test 1 0
 few_has id own test e = ap (λ (b : Bool). cond {A = ℕ} b 1 0) e
 
-unique_at : (id : LoopId) (own : Loop) (others : List Loop) (test : Bool) → same_id own.id id ≡ test → own.id ≡ ids.Whole own.variable → total (has_id (ids.Whole own.variable)) others ≡ 0
+unique_at : (id : LoopId) (own : Loop) (others : List Loop) (test : Bool) → same_id own.id id ≡ test → own.id ≡ ids.Whole own.variable
+    → total (has_id (ids.Whole own.variable)) others ≡ 0
     → total (has_id id) others ≤ 1 → total (has_id id) (own ∷ others) ≤ 1
 unique_at id own others true e plain none few =
     let same : ids.Whole own.variable ≡ id = sym plain ∙ same_id-true own.id id e in
@@ -77,7 +81,8 @@ unique_at id own others false e plain none few = omega (arith, few_has id own fa
 
 unique : (start : List Loop) → Plain start → Unique start
 unique [] plain id = omega arith
-unique (own ∷ others) plain id = unique_at id own others (same_id own.id id) refl plain.0.0 (absent own.variable others plain.1 plain.0.1) (unique others plain.1 id)
+unique (own ∷ others) plain id = unique_at id own others (same_id own.id id) refl plain.0.0 (absent own.variable others plain.1 plain.0.1)
+    (unique others plain.1 id)
 
 pub sound : (start : List Loop) → Plain start → Sound start []
 sound start plain = record { unique = unique start plain; old = λ id there. old_at id start plain (is_old 0 id) refl there }
@@ -87,7 +92,8 @@ sound_made {is_update} {start} plain made = by_making Sound (sound_stays is_upda
 
 -- ---- loops over arguments
 
-free_one : (id : LoopId) (own : Loop) (same free : Bool) → same_id own.id id ≡ same → is_free own ≡ free → is_one is_free id own ≡ cond {A = ℕ} (same && free) 1 0
+free_one : (id : LoopId) (own : Loop) (same free : Bool) → same_id own.id id ≡ same → is_free own ≡ free
+    → is_one is_free id own ≡ cond {A = ℕ} (same && free) 1 0
 free_one id own same free e f = ap (λ (b : Bool). cond {A = ℕ} (b && is_free own) 1 0) e ∙ ap (λ (b : Bool). cond {A = ℕ} (same && b) 1 0) f
 
 argument_of : (v : Variable) → not (is_reduction v) ≡ true → (v ≡ variables.FirstArgument) ⊎ (v ≡ variables.SecondArgument)
@@ -99,9 +105,11 @@ argument_of variables.SecondReduction e = cc
 -- which argument a loop is over that is no reduction
 abbrev pub IsArgument : List Loop → LoopId → Type 0
 IsArgument start id =
-    ((id ≡ ids.Whole variables.FirstArgument) × (has_variable variables.FirstArgument start ≡ true)) ⊎ ((id ≡ ids.Whole variables.SecondArgument) × (has_variable variables.SecondArgument start ≡ true))
+    ((id ≡ ids.Whole variables.FirstArgument) × (has_variable variables.FirstArgument start ≡ true)) ⊎ ((id ≡ ids.Whole variables.SecondArgument)
+    × (has_variable variables.SecondArgument start ≡ true))
 
-has_later : (v : Variable) (own : Loop) (others : List Loop) (test : Bool) → same_variable own.variable v ≡ test → has_variable v others ≡ true → (test || has_variable v others) ≡ true
+has_later : (v : Variable) (own : Loop) (others : List Loop) (test : Bool) → same_variable own.variable v ≡ test → has_variable v others ≡ true
+    → (test || has_variable v others) ≡ true
 has_later v own others true e some = refl
 has_later v own others false e some = some
 
@@ -131,8 +139,10 @@ free id [] plain there = absurd (omega arith)
 free id (own ∷ others) plain there = free_at id own others (same_id own.id id) (is_free own) refl refl plain.0.0 (free id others plain.1) there
 
 -- an argument that a loop is over
-among_at : (v : Variable) (own : Loop) (others : List Loop) (test : Bool) → same_variable own.variable v ≡ test → own.id ≡ ids.Whole own.variable → not (is_reduction v) ≡ true
-    → (has_variable v others ≡ true → IsAmong is_free others (ids.Whole v)) → (test || has_variable v others) ≡ true → IsAmong is_free (own ∷ others) (ids.Whole v)
+among_at : (v : Variable) (own : Loop) (others : List Loop) (test : Bool) → same_variable own.variable v ≡ test → own.id ≡ ids.Whole own.variable
+    → not (is_reduction v) ≡ true
+    → (has_variable v others ≡ true → IsAmong is_free others (ids.Whole v)) → (test || has_variable v others) ≡ true
+    → IsAmong is_free (own ∷ others) (ids.Whole v)
 among_at v own others true e plain argument later some =
     let u : own.variable ≡ v = same_variable-true own.variable v e in
     let same : same_id own.id (ids.Whole v) ≡ true = ap (λ (i : LoopId). same_id i (ids.Whole v)) plain ∙ e in
@@ -160,7 +170,8 @@ pub none_sum : (v : Variable) (f : Loop → ℕ) (n : ℕ) → IsOf v f n → (s
 none_sum v f n is [] none = refl
 none_sum v f n is (own ∷ others) none = none_at v f n is own others (same_variable own.variable v) refl (none_sum v f n is others) none
 
-once_at : (v : Variable) (f : Loop → ℕ) (n : ℕ) → IsOf v f n → (own : Loop) (others : List Loop) (test : Bool) → same_variable own.variable v ≡ test → own.id ≡ ids.Whole own.variable → has_variable own.variable others ≡ false
+once_at : (v : Variable) (f : Loop → ℕ) (n : ℕ) → IsOf v f n → (own : Loop) (others : List Loop) (test : Bool) → same_variable own.variable v ≡ test
+    → own.id ≡ ids.Whole own.variable → has_variable own.variable others ≡ false
     → (has_variable v others ≡ true → total f others ≡ n) → (test || has_variable v others) ≡ true → total f (own ∷ others) ≡ n
 once_at v f n is own others true e plain apart later some =
     let u : own.variable ≡ v = same_variable-true own.variable v e in
@@ -196,7 +207,8 @@ start_of r two first x second y =
     let placed = if first then with_loop reduced x variables.FirstArgument else reduced in
     if second then with_second placed y variables.SecondArgument else placed
 
-update_start_at : (r : List ℕ) (two : Option Reduction) (first : Bool) (x : List ℕ) (second : Bool) (y : Option (List ℕ)) → IsUpdateStart (start_of r two first x second y)
+update_start_at : (r : List ℕ) (two : Option Reduction) (first : Bool) (x : List ℕ) (second : Bool) (y : Option (List ℕ))
+    → IsUpdateStart (start_of r two first x second y)
 update_start_at r None false x false y = record { plain = ((refl, refl), tt); one = refl; two = refl }
 update_start_at r None false x true None = record { plain = ((refl, refl), tt); one = refl; two = refl }
 update_start_at r None false x true (Some y) = record { plain = ((refl, refl), ((refl, refl), tt)); one = refl; two = refl }
@@ -211,7 +223,8 @@ update_start_at r (Some s) true x true None = record { plain = ((refl, refl), ((
 update_start_at r (Some s) true x true (Some y) = record { plain = ((refl, refl), ((refl, refl), ((refl, refl), ((refl, refl), tt)))); one = refl; two = refl }
 
 pub update_start : (func : Func) (update : Update) → IsUpdateStart (update_loops func update)
-update_start func update = update_start_at update.first.name update.second (is_first_in_place update) func.first_argument (is_second_in_place update) func.second_argument
+update_start func update = update_start_at update.first.name update.second (is_first_in_place update) func.first_argument (is_second_in_place update)
+    func.second_argument
 
 pub plain : (func : Func) (update : Option Update) → Plain (first_loops func update)
 plain func None = pure_plain func

@@ -1,5 +1,6 @@
 -- What holds of all loops and splits that lines make.
-use Rattle.std.proofs.Common.{◌≡◌, ℕ, zero, suc, ◌+◌, ◌≤◌, Bool, true, false, cond, List, [], ◌∷◌, ◌++◌, length, map, refl, sym, ap, subst, ◌∙◌, arith, inl, inr, length-append}
+use Rattle.std.proofs.Common.{◌≡◌, ℕ, zero, suc, ◌+◌, ◌≤◌, Bool, true, false, cond, List, [], ◌∷◌, ◌++◌, length, map, refl, sym, ap, subst, ◌∙◌, arith, inl}
+use Rattle.std.proofs.Common.{inr, length-append}
 use Rattle.std.specs.Prelude.{nat_lt}
 use Rattle.std.proofs.lemmas.Bool.{lt-ltb}
 use Rattle.schedule_lines.specs.declared.lines.SplitLine.{SplitLine}
@@ -32,7 +33,8 @@ pub record Stays (is_update : Bool) (start : List Loop) (P : List Loop → List 
   pub marked : (loops new : List Loop) (splits : List Split) → map bare new ≡ map bare loops → P loops splits → P new splits
   pub moved : (loops new : List Loop) (splits : List Split) → SameLoops new loops → reductions new ≡ reductions loops → P loops splits → P new splits
 
-pub by_making : {is_update : Bool} {start : List Loop} (P : List Loop → List Split → Type 0) → Stays is_update start P → {loops : List Loop} {splits : List Split} → IsMade is_update start loops splits → P loops splits
+pub by_making : {is_update : Bool} {start : List Loop} (P : List Loop → List Split → Type 0) → Stays is_update start P
+    → {loops : List Loop} {splits : List Split} → IsMade is_update start loops splits → P loops splits
 by_making P stays Begun = stays.begun
 by_making P stays (Parted before own after splits line made is) = stays.parted before own after splits line is (by_making P stays made)
 by_making P stays (Remarked loops new splits made same) = stays.marked loops new splits same (by_making P stays made)
@@ -40,16 +42,19 @@ by_making P stays (Moved loops new splits made same order) = stays.moved loops n
 
 -- ---- one more split at the end
 
-pub counts-more : (splits : List Split) (counts : Values) (place end : ℕ) (split : Split) → end ≡ place + length splits → counts_from counts place (splits ++ split ∷ []) ≡ more_counts (counts_from counts place splits) end split
+pub counts-more : (splits : List Split) (counts : Values) (place end : ℕ) (split : Split) → end ≡ place + length splits
+    → counts_from counts place (splits ++ split ∷ []) ≡ more_counts (counts_from counts place splits) end split
 counts-more [] counts place end split e = let same : place ≡ end = omega arith in ap (λ (n : ℕ). more_counts counts n split) same
 counts-more (first ∷ splits) counts place end split e = counts-more splits (more_counts counts place first) (suc place) end split (omega arith)
 
 pub bodies-more : {A : Type 0} (splits : List Split) (counts : Values) (place end : ℕ) (split : Split) (body : Values → List A) → end ≡ place + length splits
     → split_bodies counts place (splits ++ split ∷ []) body ≡ split_body (counts_from counts place splits) end split (split_bodies counts place splits body)
 bodies-more [] counts place end split body e = let same : place ≡ end = omega arith in ap (λ (n : ℕ). split_body counts n split body) same
-bodies-more (first ∷ splits) counts place end split body e = bodies-more splits (more_counts counts place first) (suc place) end split (split_body counts place first body) (omega arith)
+bodies-more (first ∷ splits) counts place end split body e = bodies-more splits (more_counts counts place first) (suc place) end split (split_body counts place
+    first body) (omega arith)
 
-split_on_old : {A : Type 0} (counts : Values) (place : ℕ) (split : Split) (body : Values → List A) → OnOld place body → OnOld (suc place) (split_body counts place split body)
+split_on_old : {A : Type 0} (counts : Values) (place : ℕ) (split : Split) (body : Values → List A) → OnOld place body
+    → OnOld (suc place) (split_body counts place split body)
 split_on_old {A} counts place split body on one other same =
     let here : nat_lt place (suc place) ≡ true = lt-ltb place (suc place) (omega arith) in
     let o : one (ids.Outer place) ≡ other (ids.Outer place) = same (ids.Outer place) here in
@@ -61,9 +66,11 @@ split_on_old {A} counts place split body on one other same =
     ap (λ (n : ℕ). cond (nat_lt n (counts split.of)) (body (with split.of n one)) []) w
     ∙ ap (λ (xs : List A). cond (nat_lt (whole_of counts place split other) (counts split.of)) xs []) b
 
-pub bodies_on_old : {A : Type 0} (splits : List Split) (counts : Values) (place end : ℕ) (body : Values → List A) → end ≡ place + length splits → OnOld place body → OnOld end (split_bodies counts place splits body)
+pub bodies_on_old : {A : Type 0} (splits : List Split) (counts : Values) (place end : ℕ) (body : Values → List A) → end ≡ place + length splits
+    → OnOld place body → OnOld end (split_bodies counts place splits body)
 bodies_on_old [] counts place end body e on = let same : place ≡ end = omega arith in subst (λ (n : ℕ). OnOld n body) same on
-bodies_on_old (first ∷ splits) counts place end body e on = bodies_on_old splits (more_counts counts place first) (suc place) end (split_body counts place first body) (omega arith) (split_on_old counts place first body on)
+bodies_on_old (first ∷ splits) counts place end body e on = bodies_on_old splits (more_counts counts place first) (suc place) end (split_body counts place first
+    body) (omega arith) (split_on_old counts place first body on)
 
 -- ---- loops differ, and are whole or of splits that were made
 
@@ -71,7 +78,8 @@ pub record Sound (loops : List Loop) (splits : List Split) : Type 0 where
   pub unique : Unique loops
   pub old : (id : LoopId) → 1 ≤ total (has_id id) loops → is_old (length splits) id ≡ true
 
-pub bare_total : (value : Loop → ℕ) → ((own : Loop) → value own ≡ value (bare own)) → (new loops : List Loop) → map bare new ≡ map bare loops → total value new ≡ total value loops
+pub bare_total : (value : Loop → ℕ) → ((own : Loop) → value own ≡ value (bare own)) → (new loops : List Loop) → map bare new ≡ map bare loops
+    → total value new ≡ total value loops
 bare_total value kept [] [] e = refl
 bare_total value kept [] (y ∷ ys) e = cc
 bare_total value kept (x ∷ xs) [] e = cc
@@ -81,7 +89,8 @@ bare_total value kept (x ∷ xs) (y ∷ ys) e =
     let v : value x ≡ value y = kept x ∙ ap value one ∙ sym (kept y) in
     omega (arith, v, bare_total value kept xs ys rest)
 
-pub is_old_has : (place : ℕ) (loops : List Loop) (id : LoopId) → ((i : LoopId) → 1 ≤ total (has_id i) loops → is_old place i ≡ true) → is_old place id ≡ false → total (has_id id) loops ≡ 0
+pub is_old_has : (place : ℕ) (loops : List Loop) (id : LoopId) → ((i : LoopId) → 1 ≤ total (has_id i) loops → is_old place i ≡ true) → is_old place id ≡ false
+    → total (has_id id) loops ≡ 0
 is_old_has place loops id old new = at (total (has_id id) loops) refl
   where
     at : (n : ℕ) → total (has_id id) loops ≡ n → total (has_id id) loops ≡ 0
@@ -95,7 +104,13 @@ inner_has place own line id = cond (same_id (ids.Inner place) id) 1 0
 pub total_parts : (value : Loop → ℕ) (before : List Loop) (own : Loop) (after : List Loop) (place : ℕ) (line : SplitLine)
     → total value (before ++ (parts own place line ++ after)) + value own ≡ total value (before ++ own ∷ after) + total value (parts own place line)
 total_parts value before own after place line =
-    omega (arith, total-append value before (parts own place line ++ after), total-append value before (own ∷ after), total-append value (parts own place line) after)
+    omega (
+      arith,
+      total-append value before (parts own place line ++ after),
+      total-append value before (own ∷ after),
+      total-append value (parts own place line)
+          after,
+    )
 
 -- which of the parts a loop is
 pub data Part (place : ℕ) (id : LoopId) : Type 0 where
@@ -116,7 +131,8 @@ parts_inner own place line = rw (same_id-self (ids.Inner place)) refl
 pub parts_outer : (own : Loop) (place : ℕ) (line : SplitLine) → total (has_id (ids.Outer place)) (parts own place line) ≡ 1
 parts_outer own place line = rw (same_id-self (ids.Outer place)) refl
 
-pub parts_neither : (own : Loop) (place : ℕ) (line : SplitLine) (id : LoopId) → same_id (ids.Inner place) id ≡ false → same_id (ids.Outer place) id ≡ false → total (has_id id) (parts own place line) ≡ 0
+pub parts_neither : (own : Loop) (place : ℕ) (line : SplitLine) (id : LoopId) → same_id (ids.Inner place) id ≡ false → same_id (ids.Outer place) id ≡ false
+    → total (has_id id) (parts own place line) ≡ 0
 parts_neither own place line id d f = rw (d, f) refl
 
 sound_parted : (before : List Loop) (own : Loop) (after : List Loop) (splits : List Split) (line : SplitLine)
@@ -127,15 +143,35 @@ sound_parted before own after splits line sound =
     record {
       unique = λ id. elim (part_of (length splits) id) [
         | IsInner e ↦ subst (λ (i : LoopId). total (has_id i) (before ++ (parts own (length splits) line ++ after)) ≤ 1) (sym e)
-            (omega (arith, total_parts (has_id (ids.Inner (length splits))) before own after (length splits) line, parts_inner own (length splits) line, is_old_has (length splits) (before ++ own ∷ after) (ids.Inner (length splits)) sound.old (inner_new (length splits))))
+            (omega (
+              arith,
+              total_parts (has_id (ids.Inner (length splits))) before own after (length splits) line,
+              parts_inner own (length splits) line,
+              is_old_has (length splits) (before ++ own ∷ after) (ids.Inner (length splits)) sound.old (inner_new (length splits)),
+            ))
         | IsOuter e ↦ subst (λ (i : LoopId). total (has_id i) (before ++ (parts own (length splits) line ++ after)) ≤ 1) (sym e)
-            (omega (arith, total_parts (has_id (ids.Outer (length splits))) before own after (length splits) line, parts_outer own (length splits) line, is_old_has (length splits) (before ++ own ∷ after) (ids.Outer (length splits)) sound.old (outer_new (length splits))))
-        | IsNeither d f ↦ omega (arith, total_parts (has_id id) before own after (length splits) line, parts_neither own (length splits) line id d f, sound.unique id)
+            (omega (
+              arith,
+              total_parts (has_id (ids.Outer (length splits))) before own after (length splits) line,
+              parts_outer own (length splits) line,
+              is_old_has (length splits) (before ++ own ∷ after) (ids.Outer (length splits)) sound.old (outer_new (length splits)),
+            ))
+        | IsNeither d f ↦ omega (
+          arith,
+          total_parts (has_id id) before own after (length splits) line,
+          parts_neither own (length splits) line id d f,
+          sound.unique id,
+        )
       ];
       old = λ id there. rw more (elim (part_of (length splits) id) [
         | IsInner e ↦ subst (λ (i : LoopId). is_old (suc (length splits)) i ≡ true) (sym e) (lt-ltb (length splits) (suc (length splits)) (omega arith))
         | IsOuter e ↦ subst (λ (i : LoopId). is_old (suc (length splits)) i ≡ true) (sym e) (lt-ltb (length splits) (suc (length splits)) (omega arith))
-        | IsNeither d f ↦ older (length splits) id (sound.old id (omega (arith, there, total_parts (has_id id) before own after (length splits) line, parts_neither own (length splits) line id d f)))
+        | IsNeither d f ↦ older (length splits) id (sound.old id (omega (
+          arith,
+          there,
+          total_parts (has_id id) before own after (length splits) line,
+          parts_neither own (length splits) line id d f,
+        )))
       ]);
     }
 
@@ -154,11 +190,13 @@ sound_stays is_update start sound = record {
 }
 
 -- the loop that is split is no other
-pub own_apart : (before : List Loop) (own : Loop) (after : List Loop) → Unique (before ++ own ∷ after) → total (has_id own.id) before + total (has_id own.id) after ≡ 0
+pub own_apart : (before : List Loop) (own : Loop) (after : List Loop) → Unique (before ++ own ∷ after)
+    → total (has_id own.id) before + total (has_id own.id) after ≡ 0
 own_apart before own after unique = omega (arith, unique own.id, total-append (has_id own.id) before (own ∷ after), has_same own)
 
 -- loops that are old and none of which is one
-pub apart_from : (place : ℕ) (of : LoopId) (loops : List Loop) → ((id : LoopId) → 1 ≤ total (has_id id) loops → is_old place id ≡ true) → total (has_id of) loops ≡ 0 → Apart place of loops
+pub apart_from : (place : ℕ) (of : LoopId) (loops : List Loop) → ((id : LoopId) → 1 ≤ total (has_id id) loops → is_old place id ≡ true)
+    → total (has_id of) loops ≡ 0 → Apart place of loops
 apart_from place of [] old none = tt
 apart_from place of (own ∷ others) old none = (
   (

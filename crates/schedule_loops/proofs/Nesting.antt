@@ -23,7 +23,8 @@ has_other id own d = rw d refl
 pub has_same : (own : Loop) → has_id own.id own ≡ 1
 has_same own = rw (same_id-self own.id) refl
 
-pub in_range_more : (counts : Values) (own : Loop) (outside : List Loop) (values : Values) (n : ℕ) → InRange counts outside values → n < counts own.id → InRange counts (own ∷ outside) (with own.id n values)
+pub in_range_more : (counts : Values) (own : Loop) (outside : List Loop) (values : Values) (n : ℕ) → InRange counts outside values → n < counts own.id
+    → InRange counts (own ∷ outside) (with own.id n values)
 in_range_more counts own outside values n in_range l id there = elim (cases_id own.id id) [
   | inl e ↦ subst (λ (i : LoopId). with own.id n values i < counts i) e (omega (arith, with_same own.id n values, l))
   | inr d ↦
@@ -32,24 +33,31 @@ in_range_more counts own outside values n in_range l id there = elim (cases_id o
 ]
 
 -- bodies that list the same under all turns do so in a nest
-pub nest_same : {A : Type 0} (counts : Values) (loops : List Loop) (f g : Values → List A) → ((values : Values) → InRange counts loops values → f values ≡ g values)
+pub nest_same : {A : Type 0} (counts : Values) (loops : List Loop) (f g : Values → List A) → ((values : Values) → InRange counts loops values
+    → f values ≡ g values)
     → (values : Values) → nest counts loops f values ≡ nest counts loops g values
 nest_same counts [] f g same values = same values (λ id there. absurd (omega arith))
 nest_same counts (own ∷ outside) f g same values =
-    nest_same counts outside (λ outer. upto (counts own.id) (λ turn. f (with own.id turn outer))) (λ outer. upto (counts own.id) (λ turn. g (with own.id turn outer)))
-    (λ outer in_range. upto_same (counts own.id) (λ turn. f (with own.id turn outer)) (λ turn. g (with own.id turn outer)) (λ turn l. same (with own.id turn outer) (in_range_more counts own outside outer turn in_range l)))
+    nest_same counts outside (λ outer. upto (counts own.id) (λ turn. f (with own.id turn outer))) (λ outer. upto (counts own.id)
+    (λ turn. g (with own.id turn outer)))
+    (λ outer in_range. upto_same (counts own.id) (λ turn. f (with own.id turn outer)) (λ turn. g (with own.id turn outer))
+    (λ turn l. same (with own.id turn outer) (in_range_more counts own outside outer turn in_range l)))
     values
 
-pub nest-append : {A : Type 0} (counts : Values) (inside outside : List Loop) (body : Values → List A) (values : Values) → nest counts (inside ++ outside) body values ≡ nest counts outside (nest counts inside body) values
+pub nest-append : {A : Type 0} (counts : Values) (inside outside : List Loop) (body : Values → List A) (values : Values)
+    → nest counts (inside ++ outside) body values ≡ nest counts outside (nest counts inside body) values
 nest-append counts [] outside body values = refl
-nest-append counts (own ∷ inside) outside body values = nest-append counts inside outside (λ outer. upto (counts own.id) (λ turn. body (with own.id turn outer))) values
+nest-append counts (own ∷ inside) outside body values = nest-append counts inside outside (λ outer. upto (counts own.id)
+    (λ turn. body (with own.id turn outer))) values
 
 -- what passes a test in a nest
-pub filter-nest : {A : Type 0} (test : A → Bool) (counts : Values) (loops : List Loop) (body : Values → List A) (values : Values) → filter test (nest counts loops body values) ≡ nest counts loops (λ v. filter test (body v)) values
+pub filter-nest : {A : Type 0} (test : A → Bool) (counts : Values) (loops : List Loop) (body : Values → List A) (values : Values)
+    → filter test (nest counts loops body values) ≡ nest counts loops (λ v. filter test (body v)) values
 filter-nest test counts [] body values = refl
 filter-nest test counts (own ∷ outside) body values =
     filter-nest test counts outside (λ outer. upto (counts own.id) (λ turn. body (with own.id turn outer))) values
-    ∙ nest_same counts outside (λ outer. filter test (upto (counts own.id) (λ turn. body (with own.id turn outer)))) (λ outer. upto (counts own.id) (λ turn. filter test (body (with own.id turn outer))))
+    ∙ nest_same counts outside (λ outer. filter test (upto (counts own.id) (λ turn. body (with own.id turn outer)))) (λ outer. upto (counts own.id)
+    (λ turn. filter test (body (with own.id turn outer))))
     (λ outer in_range. filter-upto test (counts own.id) (λ turn. body (with own.id turn outer))) values
 
 -- Each of the loops has as many turns by one count as by another.
@@ -57,7 +65,8 @@ abbrev pub SameCounts : Values → Values → List Loop → Type 0
 SameCounts one other [] = Unit {0}
 SameCounts one other (own ∷ outside) = (one own.id ≡ other own.id) × SameCounts one other outside
 
-pub nest_counts : {A : Type 0} (one other : Values) (loops : List Loop) (body : Values → List A) → SameCounts one other loops → (values : Values) → nest one loops body values ≡ nest other loops body values
+pub nest_counts : {A : Type 0} (one other : Values) (loops : List Loop) (body : Values → List A) → SameCounts one other loops → (values : Values)
+    → nest one loops body values ≡ nest other loops body values
 nest_counts one other [] body same values = refl
 nest_counts {A} one other (own ∷ outside) body same values =
     nest_counts one other outside (λ outer. upto (one own.id) (λ turn. body (with own.id turn outer))) same.1 values

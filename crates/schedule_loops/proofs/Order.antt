@@ -1,5 +1,6 @@
 -- Every nest that lines make of the loops of an update visits the reduction points of each slice in their order.
-use Rattle.std.proofs.Common.{◌≡◌, ℕ, ◌+◌, ◌*◌, ◌/◌, ◌%◌, ◌<◌, ◌≤◌, Bool, true, false, cond, List, [], ◌∷◌, ◌++◌, length, map, Some, None, refl, sym, ap, subst, ◌∙◌, arith, inl, inr}
+use Rattle.std.proofs.Common.{◌≡◌, ℕ, ◌+◌, ◌*◌, ◌/◌, ◌%◌, ◌<◌, ◌≤◌, Bool, true, false, cond, List, [], ◌∷◌, ◌++◌, length, map, Some, None, refl, sym, ap, subst}
+use Rattle.std.proofs.Common.{◌∙◌, arith, inl, inr}
 use Rattle.std.specs.Prelude.{◌&&◌, ◌||◌, nat_lt, filter}
 use Rattle.std.proofs.lemmas.Bool.{ltb-true}
 use Rattle.std.proofs.lemmas.Nat.{div-mul-add, mod-mul-add}
@@ -18,26 +19,45 @@ use Rattle.schedule_loops.proofs.Ids.{cases_id, same_id-self, is_old, outer_new,
 use Rattle.schedule_loops.proofs.Nesting.{has_id, has_other, has_same, InRange, filter-nest}
 use Rattle.schedule_loops.proofs.Splitting.{OnOld, counts_old, rounds_reach, parted_nest}
 use Rattle.schedule_loops.proofs.Selecting.{is_one, IsAmong, is_free, Only, among_has, moved_nest, only_moved}
-use Rattle.schedule_loops.proofs.Making.{Stays, by_making, Sound, sound_stays, split_by, IsInner, IsOuter, IsNeither, part_of, total-append, total_parts, parts_inner, parts_neither, counts-more, bodies-more, bodies_on_old, is_old_has, bare_total, own_apart, apart_from}
+use Rattle.schedule_loops.proofs.Making.{Stays, by_making, Sound, sound_stays, split_by, IsInner, IsOuter, IsNeither, part_of, total-append, total_parts}
+use Rattle.schedule_loops.proofs.Making.{parts_inner, parts_neither, counts-more, bodies-more, bodies_on_old, is_old_has, bare_total, own_apart, apart_from}
 
 pub guard_from : (tail : Tail) → is_shift tail ≡ false → tail ≡ tails.Guard
 guard_from tails.Guard e = refl
 guard_from tails.Shift e = cc
 
 pub quotient_below : (n extent factor : ℕ) → 1 ≤ factor → n < extent → n / factor < rounds extent factor
-quotient_below n extent factor some l = (div-lt_iff_lt-mul {k = factor} {x = n} {y = rounds extent factor} some).1 (omega (arith, rounds_reach extent factor some))
+quotient_below n extent factor some l = (div-lt_iff_lt-mul {k = factor} {x = n} {y = rounds extent factor} some).1
+    (omega (arith, rounds_reach extent factor some))
 
 -- the loops of a split
 abbrev pub inner_part : Loop → ℕ → SplitLine → Loop
-inner_part own place line = record { id = ids.Inner place; name = line.inner; variable = own.variable; inner_of = Some line.factor; is_from_shift = own.is_from_shift || is_shift line.tail; marked = None }
+inner_part own place line = record {
+  id = ids.Inner place;
+  name = line.inner;
+  variable = own.variable;
+  inner_of = Some line.factor;
+  is_from_shift =
+      own.is_from_shift || is_shift line.tail;
+  marked = None;
+}
 
 abbrev pub outer_part : Loop → ℕ → SplitLine → Loop
-outer_part own place line = record { id = ids.Outer place; name = line.outer; variable = own.variable; inner_of = None; is_from_shift = own.is_from_shift || is_shift line.tail; marked = None }
+outer_part own place line = record {
+  id = ids.Outer place;
+  name = line.outer;
+  variable = own.variable;
+  inner_of = None;
+  is_from_shift = own.is_from_shift
+      || is_shift line.tail;
+  marked = None;
+}
 
 -- A test of loops that parts pass only if what is split passes it, and is not shifted.
 pub record IsPassedOn (is_update : Bool) (test : Loop → Bool) : Type 0 where
   pub bare_is : (own : Loop) → test own ≡ test (bare own)
-  pub inner : (own : Loop) (place : ℕ) (line : SplitLine) (id : LoopId) → IsSplit is_update line → IsAmong test (parts own place line) id → (test own ≡ true) × (line.tail ≡ tails.Guard)
+  pub inner : (own : Loop) (place : ℕ) (line : SplitLine) (id : LoopId) → IsSplit is_update line → IsAmong test (parts own place line) id
+      → (test own ≡ true) × (line.tail ≡ tails.Guard)
 
 module _ (A : Type 0) (extents : Values) (seen : Values → A) (keep : A → Bool) where
   abbrev body_of : List Split → Values → List A
@@ -62,9 +82,11 @@ module _ (A : Type 0) (extents : Values) (seen : Values → A) (keep : A → Boo
   given_outer : (given : Values) (place : ℕ) (split : Split) → parted_given given place split (ids.Outer place) ≡ given split.of / split.factor
   given_outer given place split = with_same (ids.Outer place) (given split.of / split.factor) given
 
-  given_old : (given : Values) (place : ℕ) (split : Split) (id : LoopId) → same_id (ids.Inner place) id ≡ false → same_id (ids.Outer place) id ≡ false → parted_given given place split id ≡ given id
+  given_old : (given : Values) (place : ℕ) (split : Split) (id : LoopId) → same_id (ids.Inner place) id ≡ false → same_id (ids.Outer place) id ≡ false
+      → parted_given given place split id ≡ given id
   given_old given place split id d f =
-      with_other (ids.Inner place) (given split.of % split.factor) (with (ids.Outer place) (given split.of / split.factor) given) id (turned_id (ids.Inner place) id d)
+      with_other (ids.Inner place) (given split.of % split.factor) (with (ids.Outer place) (given split.of / split.factor) given) id
+      (turned_id (ids.Inner place) id d)
       ∙ with_other (ids.Outer place) (given split.of / split.factor) given id (turned_id (ids.Outer place) id f)
 
   module _ (is_update : Bool) (test : Loop → Bool) (passed_on : IsPassedOn is_update test)
@@ -116,29 +138,44 @@ module _ (A : Type 0) (extents : Values) (seen : Values → A) (keep : A → Boo
         omega (arith, total_parts (is_one test id) before own after place line, among_has test id old_loops, is_old_has place old_loops id sound.old new)
 
     -- one that is no part was there, and is not the one that is split
-    old_among : (id : LoopId) → same_id (ids.Inner place) id ≡ false → same_id (ids.Outer place) id ≡ false → IsAmong test new_loops id → IsAmong test old_loops id
+    old_among : (id : LoopId) → same_id (ids.Inner place) id ≡ false → same_id (ids.Outer place) id ≡ false → IsAmong test new_loops id
+        → IsAmong test old_loops id
     old_among id d f there =
         omega (arith, total_parts (is_one test id) before own after place line, among_has test id (parts own place line), parts_neither own place line id d f)
 
-    not_own : (id : LoopId) → same_id (ids.Inner place) id ≡ false → same_id (ids.Outer place) id ≡ false → IsAmong test new_loops id → same_id id own.id ≡ false
+    not_own : (id : LoopId) → same_id (ids.Inner place) id ≡ false → same_id (ids.Outer place) id ≡ false → IsAmong test new_loops id
+        → same_id id own.id ≡ false
     not_own id d f there = elim (cases_id id own.id) [
       | inl e ↦
-          let none : total (has_id id) before + total (has_id id) after ≡ 0 = subst (λ (i : LoopId). total (has_id i) before + total (has_id i) after ≡ 0) (sym e) (own_apart before own after sound.unique) in
-          absurd (omega (arith, total-append (is_one test id) before (parts own place line ++ after), total-append (is_one test id) (parts own place line) after, among_has test id (parts own place line), among_has test id before, among_has test id after, parts_neither own place line id d f))
+          let none : total (has_id id) before + total (has_id id) after ≡ 0 = subst (λ (i : LoopId). total (has_id i) before + total (has_id i) after ≡ 0)
+          (sym e) (own_apart before own after sound.unique) in
+          absurd (omega (
+            arith,
+            total-append (is_one test id) before (parts own place line ++ after),
+            total-append (is_one test id) (parts own place line)
+                after,
+            among_has test id (parts own place line),
+            among_has test id before,
+            among_has test id after,
+            parts_neither own place line id d f,
+          ))
       | inr o ↦ o
     ]
 
     -- the values of the parts put together are those of loops that were there
-    pub whole_in_range : (values : Values) → InRange new_counts new_loops values → whole_of counts place split values < counts own.id → InRange counts old_loops (with own.id (whole_of counts place split values) values)
+    pub whole_in_range : (values : Values) → InRange new_counts new_loops values → whole_of counts place split values < counts own.id
+        → InRange counts old_loops (with own.id (whole_of counts place split values) values)
     whole_in_range values in_range l id there = elim (cases_id id own.id) [
-      | inl e ↦ subst (λ (i : LoopId). with own.id (whole_of counts place split values) values i < counts i) (sym e) (omega (arith, with_same own.id (whole_of counts place split values) values))
+      | inl e ↦ subst (λ (i : LoopId). with own.id (whole_of counts place split values) values i < counts i) (sym e)
+          (omega (arith, with_same own.id (whole_of counts place split values) values))
       | inr d ↦
           let none : has_id id own ≡ 0 = has_other id own (turned_id id own.id d) in
           let r : values id < new_counts id = in_range id (omega (arith, total_parts (has_id id) before own after place line)) in
           omega (arith, with_other own.id (whole_of counts place split values) values id d, counts_old A counts place split id (sound.old id there))
     ]
 
-    whole_guard : (values : Values) → line.tail ≡ tails.Guard → values (ids.Outer place) * line.factor + values (ids.Inner place) ≡ whole_of counts place split values
+    whole_guard : (values : Values) → line.tail ≡ tails.Guard → values (ids.Outer place) * line.factor + values (ids.Inner place) ≡ whole_of counts place split
+        values
     whole_guard values guard = rw guard refl
 
     kept_cond : (test : Bool) (xs : List A) → (test ≡ true → filter keep xs ≡ []) → filter keep (cond test xs []) ≡ []
@@ -148,44 +185,88 @@ module _ (A : Type 0) (extents : Values) (seen : Values → A) (keep : A → Boo
     selects_parted : Selects test old_loops splits → Selects test new_loops (splits ++ split_by own line ∷ [])
     selects_parted sel =
         let counts_are : counts_of (splits ++ split_by own line ∷ []) ≡ new_counts = counts-more splits extents 0 (length splits) split (omega arith) in
-        let bodies_are : body_of (splits ++ split_by own line ∷ []) ≡ split_body counts place split (body_of splits) = bodies-more splits extents 0 (length splits) split (λ values. seen values ∷ []) (omega arith) in
+        let bodies_are : body_of (splits ++ split_by own line ∷ []) ≡ split_body counts place split (body_of splits) = bodies-more splits extents 0
+        (length splits) split (λ values. seen values ∷ []) (omega arith) in
         let given = parted_given sel.given place split in
         let range : (id : LoopId) → IsAmong test new_loops id → given id < new_counts id = λ id there. elim (part_of place id) [
-          | IsInner e ↦ subst (λ (i : LoopId). given i < new_counts i) (sym e) (omega (arith, given_inner sel.given place split, count_inner, mod-lt (sel.given own.id) is.some))
+          | IsInner e ↦ subst (λ (i : LoopId). given i < new_counts i) (sym e) (omega (
+            arith,
+            given_inner sel.given place split,
+            count_inner,
+            mod-lt
+                (sel.given own.id) is.some,
+          ))
           | IsOuter e ↦
-              let g : sel.given own.id < counts own.id = sel.range own.id (own_among (ids.Outer place) (new_among (ids.Outer place) (outer_new place) (subst (IsAmong test new_loops) e there))) in
-              subst (λ (i : LoopId). given i < new_counts i) (sym e) (omega (arith, given_outer sel.given place split, count_outer, quotient_below (sel.given own.id) (counts own.id) line.factor is.some g))
+              let g : sel.given own.id < counts own.id = sel.range own.id (own_among (ids.Outer place) (new_among (ids.Outer place) (outer_new place)
+              (subst (IsAmong test new_loops) e there))) in
+              subst (λ (i : LoopId). given i < new_counts i) (sym e) (omega (
+                arith,
+                given_outer sel.given place split,
+                count_outer,
+                quotient_below
+                    (sel.given own.id) (counts own.id) line.factor is.some g,
+              ))
           | IsNeither d f ↦
-              omega (arith, given_old sel.given place split id d f, sel.range id (old_among id d f there), counts_old A counts place split id (sound.old id (omega (arith, among_has test id old_loops, old_among id d f there))))
+              omega (
+                arith,
+                given_old sel.given place split id d f,
+                sel.range id (old_among id d f there),
+                counts_old A counts place split id
+                    (sound.old id (omega (arith, among_has test id old_loops, old_among id d f there))),
+              )
         ] in
-        let only : Only test new_counts new_loops given (λ values. filter keep (split_body counts place split (body_of splits) values)) = λ values in_range id there differs.
-        kept_cond (nat_lt (whole_of counts place split values) (counts own.id)) (body_of splits (with own.id (whole_of counts place split values) values)) (λ below.
+        let only : Only test new_counts new_loops given (λ values. filter keep (split_body counts place split (body_of splits) values)) =
+        λ values in_range id there differs.
+        kept_cond (nat_lt (whole_of counts place split values) (counts own.id)) (body_of splits (with own.id (whole_of counts place split values) values))
+        (λ below.
         let l : whole_of counts place split values < counts own.id = ltb-true (whole_of counts place split values) (counts own.id) below in
         let whole_values : Values = with own.id (whole_of counts place split values) values in
         let r : InRange counts old_loops whole_values = whole_in_range values in_range l in
         elim (part_of place id) [
           | IsInner e ↦
               let among = new_among (ids.Inner place) (inner_new place) (subst (IsAmong test new_loops) e there) in
-              let li : values (ids.Inner place) < line.factor = omega (arith, count_inner, in_range (ids.Inner place) (omega (arith, among_has test (ids.Inner place) new_loops, subst (IsAmong test new_loops) e there))) in
+              let li : values (ids.Inner place) < line.factor = omega (
+                arith,
+                count_inner,
+                in_range (ids.Inner place)
+                    (omega (arith, among_has test (ids.Inner place) new_loops, subst (IsAmong test new_loops) e there)),
+              ) in
               sel.only whole_values r own.id (own_among (ids.Inner place) among) (λ same.
-              let w : values (ids.Outer place) * line.factor + values (ids.Inner place) ≡ sel.given own.id = whole_guard values (passed_on.inner own place line (ids.Inner place) is among).1 ∙ sym (with_same own.id (whole_of counts place split values) values) ∙ same in
+              let w : values (ids.Outer place) * line.factor + values (ids.Inner place) ≡ sel.given own.id = whole_guard values (passed_on.inner own place line
+              (ids.Inner place) is among).1 ∙ sym (with_same own.id (whole_of counts place split values) values) ∙ same in
               differs (subst (λ (i : LoopId). values i ≡ given i) (sym e)
-              (sym (mod-mul-add (values (ids.Outer place)) line.factor (values (ids.Inner place)) li) ∙ ap (λ (n : ℕ). n % line.factor) w ∙ sym (given_inner sel.given place split))))
+              (sym (mod-mul-add (values (ids.Outer place)) line.factor (values (ids.Inner place)) li) ∙ ap (λ (n : ℕ). n % line.factor) w
+              ∙ sym (given_inner sel.given place split))))
           | IsOuter e ↦
               let among = new_among (ids.Outer place) (outer_new place) (subst (IsAmong test new_loops) e there) in
-              let li : values (ids.Inner place) < line.factor = omega (arith, count_inner, in_range (ids.Inner place) (omega (arith, total-append (has_id (ids.Inner place)) before (parts own place line ++ after), total-append (has_id (ids.Inner place)) (parts own place line) after, parts_inner own place line))) in
+              let li : values (ids.Inner place) < line.factor = omega (
+                arith,
+                count_inner,
+                in_range (ids.Inner place)
+                    (omega (
+                      arith,
+                      total-append (has_id (ids.Inner place)) before (parts own place line ++ after),
+                      total-append (has_id (ids.Inner place))
+                          (parts own place line) after,
+                      parts_inner own place line,
+                    )),
+              ) in
               sel.only whole_values r own.id (own_among (ids.Outer place) among) (λ same.
-              let w : values (ids.Outer place) * line.factor + values (ids.Inner place) ≡ sel.given own.id = whole_guard values (passed_on.inner own place line (ids.Outer place) is among).1 ∙ sym (with_same own.id (whole_of counts place split values) values) ∙ same in
+              let w : values (ids.Outer place) * line.factor + values (ids.Inner place) ≡ sel.given own.id = whole_guard values (passed_on.inner own place line
+              (ids.Outer place) is among).1 ∙ sym (with_same own.id (whole_of counts place split values) values) ∙ same in
               differs (subst (λ (i : LoopId). values i ≡ given i) (sym e)
-              (sym (div-mul-add (values (ids.Outer place)) line.factor (values (ids.Inner place)) li) ∙ ap (λ (n : ℕ). n / line.factor) w ∙ sym (given_outer sel.given place split))))
+              (sym (div-mul-add (values (ids.Outer place)) line.factor (values (ids.Inner place)) li) ∙ ap (λ (n : ℕ). n / line.factor) w
+              ∙ sym (given_outer sel.given place split))))
           | IsNeither d f ↦
               sel.only whole_values r id (old_among id d f there) (λ same.
-              differs (sym (with_other own.id (whole_of counts place split values) values id (not_own id d f there)) ∙ same ∙ sym (given_old sel.given place split id d f)))
+              differs (sym (with_other own.id (whole_of counts place split values) values id (not_own id d f there)) ∙ same
+              ∙ sym (given_old sel.given place split id d f)))
         ]) in
         record {
           given = given;
           range = subst (λ (c : Values). (id : LoopId) → IsAmong test new_loops id → given id < c id) (sym counts_are) range;
-          only = subst (λ (c : Values). Only test c new_loops given (λ values. filter keep (body_of (splits ++ split_by own line ∷ []) values))) (sym counts_are)
+          only = subst (λ (c : Values). Only test c new_loops given (λ values. filter keep (body_of (splits ++ split_by own line ∷ []) values)))
+              (sym counts_are)
               (subst (λ (b : Values → List A). Only test new_counts new_loops given (λ values. filter keep (b values))) (sym bodies_are) only);
         }
 
@@ -201,7 +282,8 @@ module _ (A : Type 0) (extents : Values) (seen : Values → A) (keep : A → Boo
     pub sound : Sound loops splits
     pub selects : Selects test loops splits
 
-  pub settled_stays : (is_update : Bool) (test : Loop → Bool) (start : List Loop) (given : Values) → IsPassedOn is_update test → Begins test start given → Stays is_update start (Settled test)
+  pub settled_stays : (is_update : Bool) (test : Loop → Bool) (start : List Loop) (given : Values) → IsPassedOn is_update test → Begins test start given
+      → Stays is_update start (Settled test)
   settled_stays is_update test start given passed_on begins = record {
     begun = record { sound = begins.sound; selects = record { given = given; range = begins.range; only = begins.only } };
     parted = λ before own after splits line is settled. record {
@@ -209,14 +291,16 @@ module _ (A : Type 0) (extents : Values) (seen : Values → A) (keep : A → Boo
       selects = selects_parted is_update test passed_on before own after splits line is settled.sound settled.selects;
     };
     marked = λ loops new splits same settled.
-        let ones : (id : LoopId) → total (is_one test id) new ≡ total (is_one test id) loops = λ id. bare_total (is_one test id) (λ own. ap (λ (b : Bool). cond (same_id own.id id && b) 1 0) (passed_on.bare_is own)) new loops same in
+        let ones : (id : LoopId) → total (is_one test id) new ≡ total (is_one test id) loops = λ id. bare_total (is_one test id)
+        (λ own. ap (λ (b : Bool). cond (same_id own.id id && b) 1 0) (passed_on.bare_is own)) new loops same in
         record {
           sound = (sound_stays is_update start begins.sound).marked loops new splits same settled.sound;
           selects = record {
             given = settled.selects.given;
             range = λ id there. settled.selects.range id (omega (arith, ones id));
             only = λ values in_range id there d.
-                settled.selects.only values (λ i l. in_range i (omega (arith, bare_total (has_id i) (λ own. refl) new loops same))) id (omega (arith, ones id)) d;
+                settled.selects.only values (λ i l. in_range i (omega (arith, bare_total (has_id i) (λ own. refl) new loops same))) id (omega (arith, ones id))
+                d;
           };
         };
     moved = λ loops new splits same order settled. record {
@@ -235,9 +319,11 @@ module _ (A : Type 0) (extents : Values) (seen : Values → A) (keep : A → Boo
   -- What is filter of the visits is what is filter of those of the first loops.
   pub record Ordered (start : List Loop) (loops : List Loop) (splits : List Split) : Type 0 where
     pub settled : Settled is_free loops splits
-    pub same : (values : Values) → filter keep (nest (counts_of splits) loops (body_of splits) values) ≡ filter keep (nest extents start (λ v. seen v ∷ []) values)
+    pub same : (values : Values) → filter keep (nest (counts_of splits) loops (body_of splits) values)
+        ≡ filter keep (nest extents start (λ v. seen v ∷ []) values)
 
-  nest_bare : (counts : Values) (new loops : List Loop) (body : Values → List A) → map bare new ≡ map bare loops → (values : Values) → nest counts new body values ≡ nest counts loops body values
+  nest_bare : (counts : Values) (new loops : List Loop) (body : Values → List A) → map bare new ≡ map bare loops → (values : Values)
+      → nest counts new body values ≡ nest counts loops body values
   nest_bare counts [] [] body e values = refl
   nest_bare counts [] (y ∷ ys) body e values = cc
   nest_bare counts (x ∷ xs) [] body e values = cc
@@ -252,7 +338,8 @@ module _ (A : Type 0) (extents : Values) (seen : Values → A) (keep : A → Boo
       → ((one other : Values) → ((id : LoopId) → is_old 0 id ≡ true → one id ≡ other id) → seen one ≡ seen other) → Stays true start (Ordered start)
   ordered_stays start given passed_on begins whole =
       let settled : Stays true start (Settled is_free) = settled_stays true is_free start given passed_on begins in
-      let on : (splits : List Split) → OnOld (length splits) (body_of splits) = λ splits. bodies_on_old splits extents 0 (length splits) (λ values. seen values ∷ []) (omega arith) (leaf_on_old whole) in
+      let on : (splits : List Split) → OnOld (length splits) (body_of splits) = λ splits. bodies_on_old splits extents 0 (length splits) (λ values. seen values
+      ∷ []) (omega arith) (leaf_on_old whole) in
       record {
         begun = record { settled = settled.begun; same = λ values. refl };
         parted = λ before own after splits line is ordered. record {
@@ -262,14 +349,20 @@ module _ (A : Type 0) (extents : Values) (seen : Values → A) (keep : A → Boo
               let sound : Sound (before ++ own ∷ after) splits = ordered.settled.sound in
               let none = own_apart before own after sound.unique in
               let new_loops = before ++ (parts own (length splits) line ++ after) in
-              let counts_are : counts_of (splits ++ split_by own line ∷ []) ≡ more_counts (counts_of splits) (length splits) (split_by own line) = counts-more splits extents 0 (length splits) (split_by own line) (omega arith) in
-              let bodies_are : body_of (splits ++ split_by own line ∷ []) ≡ split_body (counts_of splits) (length splits) (split_by own line) (body_of splits) = bodies-more splits extents 0 (length splits) (split_by own line) (λ values. seen values ∷ []) (omega arith) in
+              let counts_are : counts_of (splits ++ split_by own line ∷ []) ≡ more_counts (counts_of splits) (length splits) (split_by own line) =
+              counts-more splits extents 0 (length splits) (split_by own line) (omega arith) in
+              let bodies_are : body_of (splits ++ split_by own line ∷ []) ≡ split_body (counts_of splits) (length splits) (split_by own line) (body_of splits) =
+              bodies-more splits extents 0 (length splits) (split_by own line) (λ values. seen values ∷ []) (omega arith) in
               ap (λ (c : Values). filter keep (nest c new_loops (body_of (splits ++ split_by own line ∷ [])) values)) counts_are
-              ∙ ap (λ (b : Values → List A). filter keep (nest (more_counts (counts_of splits) (length splits) (split_by own line)) new_loops b values)) bodies_are
-              ∙ ap (filter keep) (parted_nest A (counts_of splits) (length splits) (split_by own line) before after (inner_part own (length splits) line) (outer_part own (length splits) line) own (body_of splits)
+              ∙ ap (λ (b : Values → List A). filter keep (nest (more_counts (counts_of splits) (length splits) (split_by own line)) new_loops b values))
+              bodies_are
+              ∙ ap (filter keep) (parted_nest A (counts_of splits) (length splits) (split_by own line) before after (inner_part own (length splits) line)
+              (outer_part own (length splits) line) own (body_of splits)
               (record { inner_is = refl; outer_is = refl; own_is = refl })
-              (apart_from (length splits) own.id before (λ id there. sound.old id (omega (arith, total-append (has_id id) before (own ∷ after)))) (omega (arith, none)))
-              (apart_from (length splits) own.id after (λ id there. sound.old id (omega (arith, total-append (has_id id) before (own ∷ after)))) (omega (arith, none)))
+              (apart_from (length splits) own.id before (λ id there. sound.old id (omega (arith, total-append (has_id id) before (own ∷ after))))
+              (omega (arith, none)))
+              (apart_from (length splits) own.id after (λ id there. sound.old id (omega (arith, total-append (has_id id) before (own ∷ after))))
+              (omega (arith, none)))
               (guard_from line.tail is.unshifted) is.some (on splits) values)
               ∙ ordered.same values;
         };
@@ -292,7 +385,8 @@ module _ (A : Type 0) (extents : Values) (seen : Values → A) (keep : A → Boo
   -- Every nest that lines make keeps what the first nest keeps, in the same order.
   pub same_order : {start loops : List Loop} {splits : List Split} (given : Values) → IsPassedOn true is_free → Begins is_free start given
       → ((one other : Values) → ((id : LoopId) → is_old 0 id ≡ true → one id ≡ other id) → seen one ≡ seen other)
-      → IsMade true start loops splits → (values : Values) → filter keep (nest (counts_of splits) loops (body_of splits) values) ≡ filter keep (nest extents start (λ v. seen v ∷ []) values)
+      → IsMade true start loops splits → (values : Values) → filter keep (nest (counts_of splits) loops (body_of splits) values)
+      ≡ filter keep (nest extents start (λ v. seen v ∷ []) values)
   same_order {start} given passed_on begins whole made values = (by_making (Ordered start) (ordered_stays start given passed_on begins whole) made).same values
 
   -- ---- what is never filter
@@ -311,16 +405,23 @@ module _ (A : Type 0) (extents : Values) (seen : Values → A) (keep : A → Boo
     parted = λ before own after splits line is quiet. record {
       sound = (sound_stays is_update start begun.sound).parted before own after splits line is quiet.sound;
       none =
-          let counts_are : counts_of (splits ++ split_by own line ∷ []) ≡ more_counts (counts_of splits) (length splits) (split_by own line) = counts-more splits extents 0 (length splits) (split_by own line) (omega arith) in
-          let bodies_are : body_of (splits ++ split_by own line ∷ []) ≡ split_body (counts_of splits) (length splits) (split_by own line) (body_of splits) = bodies-more splits extents 0 (length splits) (split_by own line) (λ values. seen values ∷ []) (omega arith) in
-          let none : (values : Values) → InRange (more_counts (counts_of splits) (length splits) (split_by own line)) (before ++ (parts own (length splits) line ++ after)) values → filter keep (split_body (counts_of splits) (length splits) (split_by own line) (body_of splits) values) ≡ [] =
+          let counts_are : counts_of (splits ++ split_by own line ∷ []) ≡ more_counts (counts_of splits) (length splits) (split_by own line) =
+          counts-more splits extents 0 (length splits) (split_by own line) (omega arith) in
+          let bodies_are : body_of (splits ++ split_by own line ∷ []) ≡ split_body (counts_of splits) (length splits) (split_by own line) (body_of splits) =
+          bodies-more splits extents 0 (length splits) (split_by own line) (λ values. seen values ∷ []) (omega arith) in
+          let none : (values : Values) → InRange (more_counts (counts_of splits) (length splits) (split_by own line)) (before ++ (parts own (length splits) line
+          ++ after)) values → filter keep (split_body (counts_of splits) (length splits) (split_by own line) (body_of splits) values) ≡ [] =
           λ values in_range.
           let w = whole_of (counts_of splits) (length splits) (split_by own line) values in
-          quiet_cond (nat_lt (whole_of (counts_of splits) (length splits) (split_by own line) values) (counts_of splits own.id)) (body_of splits (with own.id (whole_of (counts_of splits) (length splits) (split_by own line) values) values)) (λ below.
+          quiet_cond (nat_lt (whole_of (counts_of splits) (length splits) (split_by own line) values) (counts_of splits own.id))
+          (body_of splits (with own.id (whole_of (counts_of splits) (length splits) (split_by own line) values) values)) (λ below.
           quiet.none (with own.id (whole_of (counts_of splits) (length splits) (split_by own line) values) values)
-          (whole_in_range is_update test passed_on before own after splits line is quiet.sound values in_range (ltb-true (whole_of (counts_of splits) (length splits) (split_by own line) values) (counts_of splits own.id) below))) in
-          subst (λ (c : Values). (values : Values) → InRange c (before ++ (parts own (length splits) line ++ after)) values → filter keep (body_of (splits ++ split_by own line ∷ []) values) ≡ []) (sym counts_are)
-          (subst (λ (b : Values → List A). (values : Values) → InRange (more_counts (counts_of splits) (length splits) (split_by own line)) (before ++ (parts own (length splits) line ++ after)) values → filter keep (b values) ≡ []) (sym bodies_are) none);
+          (whole_in_range is_update test passed_on before own after splits line is quiet.sound values in_range
+          (ltb-true (whole_of (counts_of splits) (length splits) (split_by own line) values) (counts_of splits own.id) below))) in
+          subst (λ (c : Values). (values : Values) → InRange c (before ++ (parts own (length splits) line ++ after)) values
+          → filter keep (body_of (splits ++ split_by own line ∷ []) values) ≡ []) (sym counts_are)
+          (subst (λ (b : Values → List A). (values : Values) → InRange (more_counts (counts_of splits) (length splits) (split_by own line)) (before
+          ++ (parts own (length splits) line ++ after)) values → filter keep (b values) ≡ []) (sym bodies_are) none);
     };
     marked = λ loops new splits same quiet. record {
       sound = (sound_stays is_update start begun.sound).marked loops new splits same quiet.sound;

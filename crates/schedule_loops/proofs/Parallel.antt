@@ -1,5 +1,6 @@
 -- Iterations of the parallel loop are turns of the outermost one.
-use Rattle.std.proofs.Common.{◌≡◌, ◌≢◌, ℕ, ◌<◌, Bool, true, false, not, cond, List, [], ◌∷◌, ◌++◌, ◌==◌, Option, Some, None, refl, sym, ap, subst, ◌∙◌, arith, inl, inr}
+use Rattle.std.proofs.Common.{◌≡◌, ◌≢◌, ℕ, ◌<◌, Bool, true, false, not, cond, List, [], ◌∷◌, ◌++◌, ◌==◌, Option, Some, None, refl, sym, ap, subst, ◌∙◌, arith}
+use Rattle.std.proofs.Common.{inl, inr}
 use Rattle.std.specs.Prelude.{◌&&◌, ◌||◌, is_some}
 use Rattle.std.proofs.lemmas.Bool.{eq-eqb, ne_eqb, and_parts}
 use Rattle.halide_pipeline.specs.declared.definitions.Func.{Func}
@@ -15,7 +16,8 @@ use Rattle.schedule.specs.declared.legality.LoopRule.TheVariants as rules_of
 use Rattle.schedule.specs.Accepted.{keeps}
 use Rattle.schedule.specs.Legal.{breaks, is_empty}
 use Rattle.schedule_loops.specs.declared.extents.Extents.{Extents}
-use Rattle.schedule_loops.specs.Visits.{Values, with, whole_counts, counts, upto, nest, split_bodies, over_loops, zeros, Visit, is_slice, slice, visit_of, visits, parallel, count_of, iteration_count, is_turn, iteration, in_turn, IsOrder, HasOwner}
+use Rattle.schedule_loops.specs.Visits.{Values, with, whole_counts, counts, upto, nest, split_bodies, over_loops, zeros, Visit, is_slice, slice, visit_of}
+use Rattle.schedule_loops.specs.Visits.{visits, parallel, count_of, iteration_count, is_turn, iteration, in_turn, IsOrder, HasOwner}
 use Rattle.schedule_loops.specs.Stages.{first_loops, is_slice_of, IsStageOf, KeepsRules}
 use Rattle.schedule_loops.proofs.Turns.{upto_same, upto_one, upto_nil, first_turn, filter-upto}
 use Rattle.schedule_loops.proofs.Ids.{cases_id, with_same, with_other, turned_id}
@@ -54,31 +56,43 @@ last_at : (at_root inner : Bool) (first : Loop) (outside : List Loop) (own : Loo
 last_at at_root inner first outside own true e kept found later =
     let same : first ≡ own = some_is first own found in
     let none : outside ≡ [] = empty_from outside (unbroken (is_empty outside) at_root kept) in
-    record { inside = []; loops_are = ap (λ (l : Loop). l ∷ outside) same ∙ ap (λ (ls : List Loop). own ∷ ls) none; marked = ap (is_marked marks.Parallel) (sym same) ∙ e }
+    record {
+      inside = [];
+      loops_are = ap (λ (l : Loop). l ∷ outside) same ∙ ap (λ (ls : List Loop). own ∷ ls) none;
+      marked = ap (is_marked marks.Parallel)
+          (sym same) ∙ e;
+    }
 last_at at_root inner first outside own false e kept found later =
     let l = later found in
     record { inside = first ∷ l.inside; loops_are = ap (λ (ls : List Loop). first ∷ ls) l.loops_are; marked = l.marked }
 
-pub parallel_last : (at_root inner : Bool) (loops : List Loop) (own : Loop) → keeps rules_of.ParallelOutermost at_root inner loops ≡ true → find_marked marks.Parallel loops ≡ Some own → Last own loops
+pub parallel_last : (at_root inner : Bool) (loops : List Loop) (own : Loop) → keeps rules_of.ParallelOutermost at_root inner loops ≡ true
+    → find_marked marks.Parallel loops ≡ Some own → Last own loops
 parallel_last at_root inner [] own kept found = cc
 parallel_last at_root inner (first ∷ outside) own kept found =
-    let p = and_parts (not (breaks rules_of.ParallelOutermost at_root inner (is_empty outside) first)) (keeps rules_of.ParallelOutermost at_root false outside) kept in
+    let p = and_parts (not (breaks rules_of.ParallelOutermost at_root inner (is_empty outside) first)) (keeps rules_of.ParallelOutermost at_root false outside)
+    kept in
     last_at at_root inner first outside own (is_marked marks.Parallel first) refl p.0 found (parallel_last at_root false outside own p.1)
 
 -- the last loop keeps a rule that doesn't ask where it stands
-kept_last : (rule : LoopRule) (at_root inner : Bool) (inside : List Loop) (own : Loop) (broken : Bool) → ((innermost outermost : Bool) → breaks rule at_root innermost outermost own ≡ broken)
+kept_last : (rule : LoopRule) (at_root inner : Bool) (inside : List Loop) (own : Loop) (broken : Bool) → ((innermost outermost : Bool)
+    → breaks rule at_root innermost outermost own ≡ broken)
     → keeps rule at_root inner (inside ++ own ∷ []) ≡ true → not broken ≡ true
 kept_last rule at_root inner [] own broken same kept =
     ap not (sym (same inner true)) ∙ (and_parts (not (breaks rule at_root inner true own)) true kept).0
 kept_last rule at_root inner (first ∷ inside) own broken same kept =
-    kept_last rule at_root false inside own broken same (and_parts (not (breaks rule at_root inner (is_empty (inside ++ own ∷ [])) first)) (keeps rule at_root false (inside ++ own ∷ [])) kept).1
+    kept_last rule at_root false inside own broken same (and_parts (not (breaks rule at_root inner (is_empty (inside ++ own ∷ [])) first))
+    (keeps rule at_root false (inside ++ own ∷ [])) kept).1
 
-over_argument : (at_root : Bool) (inside : List Loop) (own : Loop) → is_marked marks.Parallel own ≡ true → keeps rules_of.ParallelOverArgument at_root true (inside ++ own ∷ []) ≡ true → is_free own ≡ true
+over_argument : (at_root : Bool) (inside : List Loop) (own : Loop) → is_marked marks.Parallel own ≡ true
+    → keeps rules_of.ParallelOverArgument at_root true (inside ++ own ∷ []) ≡ true → is_free own ≡ true
 over_argument at_root inside own marked kept =
     ap (λ (b : Bool). not (b && is_reduction own.variable)) (sym marked)
-    ∙ kept_last rules_of.ParallelOverArgument at_root true inside own (is_marked marks.Parallel own && is_reduction own.variable) (λ innermost outermost. refl) kept
+    ∙ kept_last rules_of.ParallelOverArgument at_root true inside own (is_marked marks.Parallel own && is_reduction own.variable) (λ innermost outermost. refl)
+    kept
 
-unshifted : (at_root : Bool) (inside : List Loop) (own : Loop) → is_marked marks.Parallel own ≡ true → keeps rules_of.ParallelUnshifted at_root true (inside ++ own ∷ []) ≡ true → not own.is_from_shift ≡ true
+unshifted : (at_root : Bool) (inside : List Loop) (own : Loop) → is_marked marks.Parallel own ≡ true
+    → keeps rules_of.ParallelUnshifted at_root true (inside ++ own ∷ []) ≡ true → not own.is_from_shift ≡ true
 unshifted at_root inside own marked kept =
     ap (λ (b : Bool). not (b && own.is_from_shift)) (sym marked)
     ∙ kept_last rules_of.ParallelUnshifted at_root true inside own (is_marked marks.Parallel own && own.is_from_shift) (λ innermost outermost. refl) kept
@@ -91,7 +105,8 @@ pub record Outermost (stage : Stage) (own : Loop) : Type 0 where
 pub outermost : (stage : Stage) (own : Loop) → KeepsRules stage → parallel stage ≡ Some own → Outermost stage own
 outermost stage own legal found =
     let l : Last own stage.loops = parallel_last legal.0 true stage.loops own (legal.1 rules_of.ParallelOutermost) found in
-    let kept : (rule : LoopRule) → keeps rule legal.0 true (l.inside ++ own ∷ []) ≡ true = λ rule. ap (keeps rule legal.0 true) (sym l.loops_are) ∙ legal.1 rule in
+    let kept : (rule : LoopRule) → keeps rule legal.0 true (l.inside ++ own ∷ []) ≡ true = λ rule. ap (keeps rule legal.0 true) (sym l.loops_are)
+    ∙ legal.1 rule in
     let f : is_free own ≡ true = over_argument legal.0 l.inside own l.marked (kept rules_of.ParallelOverArgument) in
     let u : not own.is_from_shift ≡ true = unshifted legal.0 l.inside own l.marked (kept rules_of.ParallelUnshifted) in
     record { last = l; steady = ap (λ (b : Bool). b && not own.is_from_shift) f ∙ u }
@@ -103,7 +118,8 @@ nest_same_at : {A : Type 0} (counts : Values) (loops : List Loop) (f g : Values 
     → ((values : Values) → values id ≡ n → f values ≡ g values) → (values : Values) → values id ≡ n → nest counts loops f values ≡ nest counts loops g values
 nest_same_at counts [] f g id n outside same values is = same values is
 nest_same_at counts (own ∷ loops) f g id n outside same values is =
-    nest_same_at counts loops (λ outer. upto (counts own.id) (λ turn. f (with own.id turn outer))) (λ outer. upto (counts own.id) (λ turn. g (with own.id turn outer))) id n (omega arith)
+    nest_same_at counts loops (λ outer. upto (counts own.id) (λ turn. f (with own.id turn outer))) (λ outer. upto (counts own.id)
+    (λ turn. g (with own.id turn outer))) id n (omega arith)
     (λ outer here. upto_same (counts own.id) (λ turn. f (with own.id turn outer)) (λ turn. g (with own.id turn outer)) (λ turn l.
     same (with own.id turn outer) (elim (cases_id own.id id) [
       | inl e ↦ let one : has_id id own ≡ 1 = ap (λ (i : LoopId). has_id i own) (sym e) ∙ has_same own in absurd (omega arith)
@@ -128,7 +144,8 @@ module _ {A : Type 0} (counts : Values) (inside : List Loop) (own : Loop) (body 
   turn_is n l =
       tasks_are counts inside own (only_in n) zeros
       ∙ upto_one (counts own.id) n (task counts inside own.id (only_in n) zeros) l
-      (λ turn lt d. nest_none counts inside (only_in n) own.id turn outside_all (λ values in_range here. turn_away n turn d values here) (with own.id turn zeros) (with_same own.id turn zeros))
+      (λ turn lt d. nest_none counts inside (only_in n) own.id turn outside_all (λ values in_range here. turn_away n turn d values here)
+      (with own.id turn zeros) (with_same own.id turn zeros))
       ∙ nest_same_at counts inside (only_in n) body own.id n outside_all (turn_here n) (with own.id n zeros) (with_same own.id n zeros)
 
   pub turns_are_all : nest counts (inside ++ own ∷ []) body zeros ≡ upto (counts own.id) (λ n. nest counts (inside ++ own ∷ []) (only_in n) zeros)
@@ -152,13 +169,16 @@ module _ (func : Func) (update : Option Update) (extents : Extents) (stage : Sta
   seen_body values = split_bodies (whole_counts extents) 0 stage.splits (λ v. seen (first_loops func update) extents.first_reduction v ∷ []) values
 
   bodies_same : SameAtRest start whole_body seen_body
-  bodies_same = bodies_rest start stage.splits (whole_counts extents) 0 (λ values. visit_of extents values ∷ []) (λ v. seen start extents.first_reduction v ∷ []) (leaves (plain func update) is.made).splits_apart (leaf_rests extents start)
+  bodies_same = bodies_rest start stage.splits (whole_counts extents) 0 (λ values. visit_of extents values ∷ []) (λ v. seen start extents.first_reduction v
+      ∷ []) (leaves (plain func update) is.made).splits_apart (leaf_rests extents start)
 
   -- an iteration in the words of the first loops, for a loop that is the parallel one
-  iteration_seen : (own : Loop) → parallel stage ≡ Some own → (n : ℕ) → iteration extents stage n ≡ nest cs stage.loops (λ v. cond (v own.id == n) (seen_body v) []) zeros
+  iteration_seen : (own : Loop) → parallel stage ≡ Some own → (n : ℕ)
+      → iteration extents stage n ≡ nest cs stage.loops (λ v. cond (v own.id == n) (seen_body v) []) zeros
   iteration_seen own found n =
       ap (λ (p : Option Loop). nest cs stage.loops (λ v. cond (is_turn p n v) (whole_body v) []) zeros) found
-      ∙ nest_rests start cs stage.loops (λ v. cond (v own.id == n) (whole_body v) []) (λ v. cond (v own.id == n) (seen_body v) []) (leaves (plain func update) is.made).loops_apart
+      ∙ nest_rests start cs stage.loops (λ v. cond (v own.id == n) (whole_body v) []) (λ v. cond (v own.id == n) (seen_body v) []) (leaves (plain func update)
+      is.made).loops_apart
       (λ values rests. ap (λ (xs : List Visit). cond (values own.id == n) xs []) (bodies_same values rests)) zeros (zeros_rest start)
 
   module _ (own : Loop) (found : parallel stage ≡ Some own) (out : Outermost stage own) where
@@ -168,10 +188,12 @@ module _ (func : Func) (update : Option Update) (extents : Extents) (stage : Sta
     made : IsMade (is_some update) start (inside ++ own ∷ []) stage.splits
     made = subst (λ (ls : List Loop). IsMade (is_some update) start ls stage.splits) out.last.loops_are is.made
 
-    settled : (x y : ℕ) → is_slice_of func update extents x y ≡ true → Settled Visit (whole_counts extents) (seen start extents.first_reduction) (is_slice x y) is_steady (inside ++ own ∷ []) stage.splits
+    settled : (x y : ℕ) → is_slice_of func update extents x y ≡ true → Settled Visit (whole_counts extents) (seen start extents.first_reduction) (is_slice x y)
+        is_steady (inside ++ own ∷ []) stage.splits
     settled x y there =
         by_making (Settled Visit (whole_counts extents) (seen start extents.first_reduction) (is_slice x y) is_steady)
-        (settled_stays Visit (whole_counts extents) (seen start extents.first_reduction) (is_slice x y) (is_some update) is_steady start (slice_values x y) (steady_passed_on (is_some update))
+        (settled_stays Visit (whole_counts extents) (seen start extents.first_reduction) (is_slice x y) (is_some update) is_steady start (slice_values x y)
+        (steady_passed_on (is_some update))
         (begins is_steady steady_free extents.first_reduction (whole_counts extents) start x y (plain func update) (slice_from func update extents x y there)))
         made
 
@@ -214,41 +236,50 @@ module _ (func : Func) (update : Option Update) (extents : Extents) (stage : Sta
   pub all_iterations : KeepsRules stage → visits extents stage ≡ upto (iteration_count extents stage) (iteration extents stage)
   all_iterations legal = visits_at legal (parallel stage) refl
 
-  owner_at : KeepsRules stage → (x y : ℕ) → is_slice_of func update extents x y ≡ true → (par : Option Loop) → parallel stage ≡ par → HasOwner (count_of cs par) (iteration extents stage) x y
+  owner_at : KeepsRules stage → (x y : ℕ) → is_slice_of func update extents x y ≡ true → (par : Option Loop) → parallel stage ≡ par
+      → HasOwner (count_of cs par) (iteration extents stage) x y
   owner_at legal x y there None e = record { owner = 0; is_iteration = omega arith; no_other = λ n l d. absurd (omega (arith, l, d)) }
   owner_at legal x y there (Some own) e = owner own e (outermost stage own legal e) x y there
 
   -- each slice belongs to one iteration
-  pub slice_owner : KeepsRules stage → (x y : ℕ) → is_slice_of func update extents x y ≡ true → HasOwner (iteration_count extents stage) (iteration extents stage) x y
+  pub slice_owner : KeepsRules stage → (x y : ℕ) → is_slice_of func update extents x y ≡ true
+      → HasOwner (iteration_count extents stage) (iteration extents stage) x y
   slice_owner legal x y there = owner_at legal x y there (parallel stage) refl
 
-  slices_of_all : KeepsRules stage → (x y : ℕ) → slice x y (visits extents stage) ≡ upto (iteration_count extents stage) (λ n. slice x y (iteration extents stage n))
+  slices_of_all : KeepsRules stage → (x y : ℕ) → slice x y (visits extents stage) ≡ upto (iteration_count extents stage)
+      (λ n. slice x y (iteration extents stage n))
   slices_of_all legal x y = ap (slice x y) (all_iterations legal) ∙ filter-upto (is_slice x y) (iteration_count extents stage) (iteration extents stage)
 
-  ordered_at : KeepsRules stage → (order : List ℕ) → IsOrder (iteration_count extents stage) order → (x y : ℕ) → (there : Bool) → is_slice_of func update extents x y ≡ there
+  ordered_at : KeepsRules stage → (order : List ℕ) → IsOrder (iteration_count extents stage) order → (x y : ℕ) → (there : Bool)
+      → is_slice_of func update extents x y ≡ there
       → slice x y (in_turn (iteration extents stage) order) ≡ slice x y (visits extents stage)
   ordered_at legal order is_order x y true e =
       let o = slice_owner legal x y e in
       any_order (is_slice x y) (iteration extents stage) (iteration_count extents stage) o.owner order is_order o.is_iteration o.no_other
       ∙ ap (slice x y) (sym (all_iterations legal))
   ordered_at legal order is_order x y false e =
-      let none : slice x y (visits extents stage) ≡ [] = slice_away func update extents x y e (visits extents stage) (visits_within func update extents stage is) in
+      let none : slice x y (visits extents stage) ≡ [] = slice_away func update extents x y e (visits extents stage) (visits_within func update extents stage
+      is) in
       any_order_none (is_slice x y) (iteration extents stage) (iteration_count extents stage) order is_order
       (upto_nil (iteration_count extents stage) (λ n. slice x y (iteration extents stage n)) (sym (slices_of_all legal x y) ∙ none))
       ∙ sym none
 
   -- in any order they visit each slice as the stage does
-  pub in_any_order : KeepsRules stage → (order : List ℕ) → IsOrder (iteration_count extents stage) order → (x y : ℕ) → slice x y (in_turn (iteration extents stage) order) ≡ slice x y (visits extents stage)
+  pub in_any_order : KeepsRules stage → (order : List ℕ) → IsOrder (iteration_count extents stage) order → (x y : ℕ)
+      → slice x y (in_turn (iteration extents stage) order) ≡ slice x y (visits extents stage)
   in_any_order legal order is_order x y = ordered_at legal order is_order x y (is_slice_of func update extents x y) refl
 
 -- An iteration is the nest inside the parallel loop.
-pub iteration_turn : (func : Func) (update : Option Update) (extents : Extents) (stage : Stage) (inside : List Loop) (own : Loop) → IsStageOf func update stage → stage.loops ≡ inside ++ own ∷ [] → parallel stage ≡ Some own
+pub iteration_turn : (func : Func) (update : Option Update) (extents : Extents) (stage : Stage) (inside : List Loop) (own : Loop) → IsStageOf func update stage
+    → stage.loops ≡ inside ++ own ∷ [] → parallel stage ≡ Some own
     → (number : ℕ) → number < counts extents stage.splits own.id
-    → iteration extents stage number ≡ nest (counts extents stage.splits) inside (over_loops extents stage.splits (λ whole. visit_of extents whole ∷ [])) (with own.id number zeros)
+    → iteration extents stage number ≡ nest (counts extents stage.splits) inside (over_loops extents stage.splits (λ whole. visit_of extents whole ∷ []))
+    (with own.id number zeros)
 iteration_turn func update extents stage inside own is loops_are found number l =
     let cs : Values = counts extents stage.splits in
     let body : Values → List Visit = over_loops extents stage.splits (λ whole. visit_of extents whole ∷ []) in
-    let made : IsMade (is_some update) (first_loops func update) (inside ++ own ∷ []) stage.splits = subst (λ (ls : List Loop). IsMade (is_some update) (first_loops func update) ls stage.splits) loops_are is.made in
+    let made : IsMade (is_some update) (first_loops func update) (inside ++ own ∷ []) stage.splits = subst (λ (ls : List Loop). IsMade (is_some update)
+    (first_loops func update) ls stage.splits) loops_are is.made in
     ap (λ (p : Option Loop). nest cs stage.loops (λ v. cond (is_turn p number v) (body v) []) zeros) found
     ∙ ap (λ (ls : List Loop). nest cs ls (λ v. cond (v own.id == number) (body v) []) zeros) loops_are
     ∙ turn_is cs inside own body (sound_made (plain func update) made).unique number l

@@ -38,9 +38,11 @@ in_place_rests : (placed : Bool) (value : ℕ) → (placed ≡ false → value �
 in_place_rests true value rests = refl
 in_place_rests false value rests = rests refl
 
-pub visit_seen : (extents : Extents) (start : List Loop) (values : Values) → Rests start values → visit_of extents values ≡ seen start extents.first_reduction values
+pub visit_seen : (extents : Extents) (start : List Loop) (values : Values) → Rests start values
+    → visit_of extents values ≡ seen start extents.first_reduction values
 visit_seen extents start values rests =
-    let at : (v : Variable) → values (ids.Whole v) ≡ in_place (has_variable v start) (values (ids.Whole v)) = λ v. in_place_rests (has_variable v start) (values (ids.Whole v)) (rests v) in
+    let at : (v : Variable) → values (ids.Whole v) ≡ in_place (has_variable v start) (values (ids.Whole v)) = λ v. in_place_rests (has_variable v start)
+    (values (ids.Whole v)) (rests v) in
     let x = values (ids.Whole variables.FirstArgument) in
     let y = values (ids.Whole variables.SecondArgument) in
     let i = values (ids.Whole variables.FirstReduction) in
@@ -48,8 +50,16 @@ visit_seen extents start values rests =
     let c = extents.first_reduction in
     ap (λ (n : ℕ). record { x = n; y = y; number = j * c + i }) (at variables.FirstArgument)
     ∙ ap (λ (n : ℕ). record { x = in_place (has_variable variables.FirstArgument start) x; y = n; number = j * c + i }) (at variables.SecondArgument)
-    ∙ ap (λ (n : ℕ). record { x = in_place (has_variable variables.FirstArgument start) x; y = in_place (has_variable variables.SecondArgument start) y; number = n * c + i }) (at variables.SecondReduction)
-    ∙ ap (λ (n : ℕ). record { x = in_place (has_variable variables.FirstArgument start) x; y = in_place (has_variable variables.SecondArgument start) y; number = in_place (has_variable variables.SecondReduction start) j * c + n }) (at variables.FirstReduction)
+    ∙ ap (λ (n : ℕ). record {
+      x = in_place (has_variable variables.FirstArgument start) x;
+      y = in_place (has_variable variables.SecondArgument start) y;
+      number = n * c + i;
+    }) (at variables.SecondReduction)
+    ∙ ap (λ (n : ℕ). record {
+      x = in_place (has_variable variables.FirstArgument start) x;
+      y = in_place (has_variable variables.SecondArgument start) y;
+      number = in_place (has_variable variables.SecondReduction start) j * c + n;
+    }) (at variables.FirstReduction)
 
 -- ---- no loop and no split is of such a variable
 
@@ -72,7 +82,8 @@ not_among id own count none = elim (cases_id own.id id) [
   | inr d ↦ turned_id own.id id d
 ]
 
-parted_apart : (v : Variable) (before : List Loop) (own : Loop) (after : List Loop) → total (has_id (ids.Whole v)) (before ++ own ∷ after) ≡ 0 → same_id (ids.Whole v) own.id ≡ false
+parted_apart : (v : Variable) (before : List Loop) (own : Loop) (after : List Loop) → total (has_id (ids.Whole v)) (before ++ own ∷ after) ≡ 0
+    → same_id (ids.Whole v) own.id ≡ false
 parted_apart v before own after none = not_among (ids.Whole v) own 0 (omega (arith, total-append (has_id (ids.Whole v)) before (own ∷ after)))
 
 leaves_stays : (is_update : Bool) (start : List Loop) → Plain start → Stays is_update start (Leaves start)
@@ -80,7 +91,8 @@ leaves_stays is_update start plain = record {
   begun = record { loops_apart = λ v none. absent v start plain none; splits_apart = λ v none. tt };
   parted = λ before own after splits line is leaves. record {
     loops_apart = λ v none. omega (arith, total_parts (has_id (ids.Whole v)) before own after (length splits) line, leaves.loops_apart v none);
-    splits_apart = λ v none. splits_more (ids.Whole v) splits (split_by own line) (leaves.splits_apart v none) (parted_apart v before own after (leaves.loops_apart v none));
+    splits_apart = λ v none. splits_more (ids.Whole v) splits (split_by own line) (leaves.splits_apart v none) (parted_apart v before own after
+        (leaves.loops_apart v none));
   };
   marked = λ loops new splits same leaves. record {
     loops_apart = λ v none. omega (arith, bare_total (has_id (ids.Whole v)) (λ own. refl) new loops same, leaves.loops_apart v none);
@@ -100,27 +112,34 @@ leaves {is_update} {start} plain made = by_making (Leaves start) (leaves_stays i
 abbrev pub SameAtRest : {A : Type 0} → List Loop → (Values → List A) → (Values → List A) → Type 0
 SameAtRest start f g = (values : Values) → Rests start values → f values ≡ g values
 
-rests_with : (start : List Loop) (id : LoopId) (n : ℕ) (values : Values) → ((v : Variable) → has_variable v start ≡ false → same_id (ids.Whole v) id ≡ false) → Rests start values → Rests start (with id n values)
+rests_with : (start : List Loop) (id : LoopId) (n : ℕ) (values : Values) → ((v : Variable) → has_variable v start ≡ false → same_id (ids.Whole v) id ≡ false)
+    → Rests start values → Rests start (with id n values)
 rests_with start id n values apart rests v none = with_other id n values (ids.Whole v) (apart v none) ∙ rests v none
 
-split_rests : {A : Type 0} (start : List Loop) (counts : Values) (place : ℕ) (split : Split) (f g : Values → List A) → ((v : Variable) → has_variable v start ≡ false → same_id (ids.Whole v) split.of ≡ false)
+split_rests : {A : Type 0} (start : List Loop) (counts : Values) (place : ℕ) (split : Split) (f g : Values → List A)
+    → ((v : Variable) → has_variable v start ≡ false → same_id (ids.Whole v) split.of ≡ false)
     → SameAtRest start f g → SameAtRest start (split_body counts place split f) (split_body counts place split g)
 split_rests {A} start counts place split f g apart same values rests =
     ap (λ (xs : List A). cond (nat_lt (whole_of counts place split values) (counts split.of)) xs [])
     (same (with split.of (whole_of counts place split values) values) (rests_with start split.of (whole_of counts place split values) values apart rests))
 
-pub bodies_rest : {A : Type 0} (start : List Loop) (splits : List Split) (counts : Values) (place : ℕ) (f g : Values → List A) → ((v : Variable) → has_variable v start ≡ false → SplitsApart (ids.Whole v) splits)
+pub bodies_rest : {A : Type 0} (start : List Loop) (splits : List Split) (counts : Values) (place : ℕ) (f g : Values → List A)
+    → ((v : Variable) → has_variable v start ≡ false → SplitsApart (ids.Whole v) splits)
     → SameAtRest start f g → SameAtRest start (split_bodies counts place splits f) (split_bodies counts place splits g)
 bodies_rest start [] counts place f g apart same = same
 bodies_rest start (split ∷ splits) counts place f g apart same =
-    bodies_rest start splits (more_counts counts place split) (suc place) (split_body counts place split f) (split_body counts place split g) (λ v none. (apart v none).1)
+    bodies_rest start splits (more_counts counts place split) (suc place) (split_body counts place split f) (split_body counts place split g)
+    (λ v none. (apart v none).1)
     (split_rests start counts place split f g (λ v none. (apart v none).0) same)
 
-pub nest_rests : {A : Type 0} (start : List Loop) (counts : Values) (loops : List Loop) (f g : Values → List A) → ((v : Variable) → has_variable v start ≡ false → total (has_id (ids.Whole v)) loops ≡ 0)
+pub nest_rests : {A : Type 0} (start : List Loop) (counts : Values) (loops : List Loop) (f g : Values → List A) → ((v : Variable) → has_variable v start ≡ false
+    → total (has_id (ids.Whole v)) loops ≡ 0)
     → SameAtRest start f g → SameAtRest start (nest counts loops f) (nest counts loops g)
 nest_rests start counts [] f g apart same = same
 nest_rests start counts (own ∷ outside) f g apart same =
-    nest_rests start counts outside (λ outer. upto (counts own.id) (λ turn. f (with own.id turn outer))) (λ outer. upto (counts own.id) (λ turn. g (with own.id turn outer)))
+    nest_rests start counts outside (λ outer. upto (counts own.id) (λ turn. f (with own.id turn outer))) (λ outer. upto (counts own.id)
+    (λ turn. g (with own.id turn outer)))
     (λ v none. omega (arith, apart v none))
     (λ outer rests. upto_same (counts own.id) (λ turn. f (with own.id turn outer)) (λ turn. g (with own.id turn outer))
-    (λ turn l. same (with own.id turn outer) (rests_with start own.id turn outer (λ v none. not_among (ids.Whole v) own (total (has_id (ids.Whole v)) outside) (apart v none)) rests)))
+    (λ turn l. same (with own.id turn outer) (rests_with start own.id turn outer (λ v none. not_among (ids.Whole v) own (total (has_id (ids.Whole v)) outside)
+    (apart v none)) rests)))

@@ -20,9 +20,16 @@ use Rattle.schedule_loops.proofs.Resting.{seen}
 use Rattle.schedule_loops.proofs.Starts.{free_passed_on, free_free, begins, slice_rises, slice_values, points}
 use Rattle.schedule_loops.proofs.Slices.{extent_if, slice_from, visits_seen, visits_within}
 
-pub seen_whole : (start : List Loop) (count : ℕ) (one other : Values) → ((id : LoopId) → is_old 0 id ≡ true → one id ≡ other id) → seen start count one ≡ seen start count other
+pub seen_whole : (start : List Loop) (count : ℕ) (one other : Values) → ((id : LoopId) → is_old 0 id ≡ true → one id ≡ other id)
+    → seen start count one ≡ seen start count other
 seen_whole start count one other same =
-    rw (same (ids.Whole variables.FirstArgument) refl, same (ids.Whole variables.SecondArgument) refl, same (ids.Whole variables.FirstReduction) refl, same (ids.Whole variables.SecondReduction) refl) refl
+    rw (
+      same (ids.Whole variables.FirstArgument) refl,
+      same (ids.Whole variables.SecondArgument) refl,
+      same (ids.Whole variables.FirstReduction) refl,
+      same
+          (ids.Whole variables.SecondReduction) refl,
+    ) refl
 
 points_are : (one two : Bool) (extents : Values) → one ≡ true
     → points two extents ≡ extent_if two (extents (ids.Whole variables.SecondReduction)) * extent_if one (extents (ids.Whole variables.FirstReduction))
@@ -38,10 +45,12 @@ is_slice-parts x y visit e =
     (eqb-true visit.x x p.0, eqb-true visit.y y p.1)
 
 module _ (func : Func) (update : Option Update) (extents : Extents) (x y : ℕ) (away : is_slice_of func update extents x y ≡ false) where
-  away_at : (visit : Visit) (visits : List Visit) (test : Bool) → is_slice x y visit ≡ test → IsVisitOf func update extents visit → slice x y visits ≡ [] → cond test (visit ∷ slice x y visits) (slice x y visits) ≡ []
+  away_at : (visit : Visit) (visits : List Visit) (test : Bool) → is_slice x y visit ≡ test → IsVisitOf func update extents visit → slice x y visits ≡ []
+      → cond test (visit ∷ slice x y visits) (slice x y visits) ≡ []
   away_at visit visits true e is none =
       let p = is_slice-parts x y visit e in
-      let s : is_slice_of func update extents x y ≡ true = subst (λ (n : ℕ). is_slice_of func update extents n y ≡ true) p.0 (subst (λ (n : ℕ). is_slice_of func update extents visit.x n ≡ true) p.1 is.slice) in
+      let s : is_slice_of func update extents x y ≡ true = subst (λ (n : ℕ). is_slice_of func update extents n y ≡ true) p.0
+      (subst (λ (n : ℕ). is_slice_of func update extents visit.x n ≡ true) p.1 is.slice) in
       absurd cc
   away_at visit visits false e is none = none
 
@@ -63,8 +72,10 @@ module _ (func : Func) (update : Update) (extents : Extents) (stage : Stage) (is
       ∙ same_order Visit (whole_counts extents) (seen start extents.first_reduction) (is_slice x y) (slice_values x y) free_passed_on
       (begins is_free free_free extents.first_reduction (whole_counts extents) start x y u.plain s) (seen_whole start extents.first_reduction) is.made zeros
       ∙ slice_rises (whole_counts extents) start u x y s
-      ∙ ap (λ (n : ℕ). rising x y 0 n) (points_are (has_variable variables.FirstReduction start) (has_variable variables.SecondReduction start) (whole_counts extents) u.one)
+      ∙ ap (λ (n : ℕ). rising x y 0 n) (points_are (has_variable variables.FirstReduction start) (has_variable variables.SecondReduction start)
+      (whole_counts extents) u.one)
 
-  pub slice_is : (there : Bool) → is_slice_of func (Some update) extents x y ≡ there → slice x y (visits extents stage) ≡ rising x y 0 (cond there (points_of func (Some update) extents) 0)
+  pub slice_is : (there : Bool) → is_slice_of func (Some update) extents x y ≡ there
+      → slice x y (visits extents stage) ≡ rising x y 0 (cond there (points_of func (Some update) extents) 0)
   slice_is true e = slice_there e
   slice_is false e = slice_away func (Some update) extents x y e (visits extents stage) (visits_within func (Some update) extents stage is)

@@ -47,9 +47,11 @@ OnValues body = (one other : Values) → ((id : LoopId) → one id ≡ other id)
 with_same_values : (id : LoopId) (n : ℕ) (one other : Values) → ((i : LoopId) → one i ≡ other i) → (i : LoopId) → with id n one i ≡ with id n other i
 with_same_values id n one other same i = ap (λ (m : ℕ). cond (same_id i id) n m) (same i)
 
-pub on_values_more : {A : Type 0} (counts : Values) (id : LoopId) (body : Values → List A) → OnValues body → OnValues (λ outer. upto (counts id) (λ turn. body (with id turn outer)))
+pub on_values_more : {A : Type 0} (counts : Values) (id : LoopId) (body : Values → List A) → OnValues body
+    → OnValues (λ outer. upto (counts id) (λ turn. body (with id turn outer)))
 on_values_more counts id body on one other same =
-    upto_same (counts id) (λ turn. body (with id turn one)) (λ turn. body (with id turn other)) (λ turn l. on (with id turn one) (with id turn other) (with_same_values id turn one other same))
+    upto_same (counts id) (λ turn. body (with id turn one)) (λ turn. body (with id turn other)) (λ turn l. on (with id turn one) (with id turn other)
+    (with_same_values id turn one other same))
 
 on_values_with : {A : Type 0} (id : LoopId) (n : ℕ) (body : Values → List A) → OnValues body → OnValues (λ v. body (with id n v))
 on_values_with id n body on one other same = on (with id n one) (with id n other) (with_same_values id n one other same)
@@ -58,7 +60,8 @@ pub ids_values : {A : Type 0} (counts : Values) (ids : List LoopId) (body : Valu
 ids_values counts [] body on = on
 ids_values counts (id ∷ ids) body on = ids_values counts ids (λ outer. upto (counts id) (λ turn. body (with id turn outer))) (on_values_more counts id body on)
 
-ids_same : {A : Type 0} (counts : Values) (ids : List LoopId) (f g : Values → List A) → ((v : Values) → f v ≡ g v) → (v : Values) → nest_ids counts ids f v ≡ nest_ids counts ids g v
+ids_same : {A : Type 0} (counts : Values) (ids : List LoopId) (f g : Values → List A) → ((v : Values) → f v ≡ g v) → (v : Values)
+    → nest_ids counts ids f v ≡ nest_ids counts ids g v
 ids_same counts [] f g same v = same v
 ids_same counts (id ∷ ids) f g same v =
     ids_same counts ids (λ outer. upto (counts id) (λ turn. f (with id turn outer))) (λ outer. upto (counts id) (λ turn. g (with id turn outer)))
@@ -71,7 +74,8 @@ Without id (first ∷ others) = (same_id first id ≡ false) × Without id other
 -- two loops are given values in either order
 with_swapped : (a b : LoopId) (m n : ℕ) (values : Values) → same_id a b ≡ false → (id : LoopId) → with a m (with b n values) id ≡ with b n (with a m values) id
 with_swapped a b m n values d id = elim (cases_id id a) [
-  | inl e ↦ subst (λ (i : LoopId). with a m (with b n values) i ≡ with b n (with a m values) i) (sym e) (with_same a m (with b n values) ∙ sym (with_other b n (with a m values) a d ∙ with_same a m values))
+  | inl e ↦ subst (λ (i : LoopId). with a m (with b n values) i ≡ with b n (with a m values) i) (sym e) (with_same a m (with b n values)
+      ∙ sym (with_other b n (with a m values) a d ∙ with_same a m values))
   | inr o ↦ with_other a m (with b n values) id o ∙ ap (λ (k : ℕ). cond (same_id id b) n k) (sym (with_other a m values id o))
 ]
 
@@ -80,9 +84,11 @@ given_outside : {A : Type 0} (counts : Values) (ids : List LoopId) (id : LoopId)
     → (values : Values) → nest_ids counts ids (λ v. body (with id n v)) values ≡ nest_ids counts ids body (with id n values)
 given_outside counts [] id n body on without values = refl
 given_outside counts (first ∷ ids) id n body on without values =
-    ids_same counts ids (λ outer. upto (counts first) (λ turn. body (with id n (with first turn outer)))) (λ outer. upto (counts first) (λ turn. body (with first turn (with id n outer))))
+    ids_same counts ids (λ outer. upto (counts first) (λ turn. body (with id n (with first turn outer)))) (λ outer. upto (counts first)
+    (λ turn. body (with first turn (with id n outer))))
     (λ outer. upto_same (counts first) (λ turn. body (with id n (with first turn outer))) (λ turn. body (with first turn (with id n outer)))
-    (λ turn l. on (with id n (with first turn outer)) (with first turn (with id n outer)) (with_swapped id first n turn outer (turned_id first id without.0)))) values
+    (λ turn l. on (with id n (with first turn outer)) (with first turn (with id n outer)) (with_swapped id first n turn outer (turned_id first id without.0))))
+    values
     ∙ given_outside counts ids id n (λ outer. upto (counts first) (λ turn. body (with first turn outer))) (on_values_more counts first body on) without.1 values
 
 -- ---- loops outside reductions have given values
@@ -94,7 +100,8 @@ abbrev pub filled : Values → List Loop → Values → Values
 filled given [] values = values
 filled given (own ∷ others) values = if is_reduction own.variable then filled given others values else with own.id (given own.id) (filled given others values)
 
-without_at : (test : Bool) (id : LoopId) (own : Loop) (others : List LoopId) → same_id own.id id ≡ false → Without id others → Without id (cond test (own.id ∷ others) others)
+without_at : (test : Bool) (id : LoopId) (own : Loop) (others : List LoopId) → same_id own.id id ≡ false → Without id others
+    → Without id (cond test (own.id ∷ others) others)
 without_at true id own others d w = (d, w)
 without_at false id own others d w = w
 
@@ -125,7 +132,8 @@ among_more test own others id there = omega arith
 unique_less : (own : Loop) (others : List Loop) → Unique (own ∷ others) → Unique others
 unique_less own others unique id = omega (arith, unique id)
 
-only_given : {A : Type 0} (counts : Values) (own : Loop) (others : List Loop) (given : Values) (body : Values → List A) (n : ℕ) → n < counts own.id → Unique (own ∷ others) → Only is_free counts (own ∷ others) given body
+only_given : {A : Type 0} (counts : Values) (own : Loop) (others : List Loop) (given : Values) (body : Values → List A) (n : ℕ) → n < counts own.id
+    → Unique (own ∷ others) → Only is_free counts (own ∷ others) given body
     → Only is_free counts others given (λ v. body (with own.id n v))
 only_given counts own others given body n l unique only values in_range id there d =
     only (with own.id n values) (in_range_more counts own others values n in_range l) id (among_more is_free own others id there)
@@ -135,7 +143,8 @@ only_given counts own others given body n l unique only values in_range id there
 module _ (A : Type 0) (counts given : Values) where
   abbrev Selected : List Loop → Type 0
   Selected loops =
-      (body : Values → List A) → Unique loops → OnValues body → ((id : LoopId) → IsAmong is_free loops id → given id < counts id) → Only is_free counts loops given body
+      (body : Values → List A) → Unique loops → OnValues body → ((id : LoopId) → IsAmong is_free loops id → given id < counts id)
+      → Only is_free counts loops given body
       → (values : Values) → nest counts loops body values ≡ nest_ids counts (reductions loops) body (filled given loops values)
 
   selected_at : (test : Bool) (own : Loop) (others : List Loop) → is_reduction own.variable ≡ test → Selected others → Selected (own ∷ others)
@@ -143,7 +152,8 @@ module _ (A : Type 0) (counts given : Values) where
       rw is
       (later (λ outer. upto (counts own.id) (λ turn. body (with own.id turn outer))) (unique_less own others unique) (on_values_more counts own.id body on)
       (λ id there. range id (among_more is_free own others id there))
-      (λ v in_range id there d. upto_none (counts own.id) (λ turn. body (with own.id turn v)) (λ turn l. only_given counts own others given body turn l unique only v in_range id there d))
+      (λ v in_range id there d. upto_none (counts own.id) (λ turn. body (with own.id turn v)) (λ turn l. only_given counts own others given body turn l unique
+      only v in_range id there d))
       values)
   selected_at false own others is later body unique on range only values =
       let one : is_one is_free own.id own ≡ 1 = rw (same_id-self own.id, is) refl in
@@ -153,7 +163,8 @@ module _ (A : Type 0) (counts given : Values) where
       rw is
       (nest_same counts others (λ outer. upto (counts own.id) (λ turn. body (with own.id turn outer))) (λ v. body (with own.id (given own.id) v))
       (λ v in_range. upto_one (counts own.id) (given own.id) (λ turn. body (with own.id turn v)) l
-      (λ turn lt d. only (with own.id turn v) (in_range_more counts own others v turn in_range lt) own.id here (λ e. d (sym (with_same own.id turn v) ∙ e)))) values
+      (λ turn lt d. only (with own.id turn v) (in_range_more counts own others v turn in_range lt) own.id here (λ e. d (sym (with_same own.id turn v) ∙ e))))
+      values
       ∙ later (λ v. body (with own.id (given own.id) v)) (unique_less own others unique) (on_values_with own.id (given own.id) body on)
       (λ id there. range id (among_more is_free own others id there))
       (only_given counts own others given body (given own.id) l unique only) values
@@ -192,11 +203,13 @@ fills_at false given own others values id is later = elim (cases_id own.id id) [
   | inl e ↦
       let one : is_one is_free id own ≡ 1 = one_free id own e is in
       let here : with own.id (given own.id) (filled given others values) id ≡ given id =
-      subst (λ (i : LoopId). with own.id (given own.id) (filled given others values) i ≡ given i) e (with_same own.id (given own.id) (filled given others values)) in
+      subst (λ (i : LoopId). with own.id (given own.id) (filled given others values) i ≡ given i) e (with_same own.id (given own.id)
+      (filled given others values)) in
       (λ there. rw is here, λ there. absurd (omega arith))
   | inr d ↦
       let none : is_one is_free id own ≡ 0 = one_other is_free id own d in
-      let here : with own.id (given own.id) (filled given others values) id ≡ filled given others values id = with_other own.id (given own.id) (filled given others values) id (turned_id own.id id d) in
+      let here : with own.id (given own.id) (filled given others values) id ≡ filled given others values id = with_other own.id (given own.id)
+      (filled given others values) id (turned_id own.id id d) in
       (λ there. rw is (here ∙ later.0 (omega arith)), λ there. rw is (here ∙ later.1 (omega arith)))
 ]
 
@@ -204,22 +217,26 @@ pub fills : (given : Values) (loops : List Loop) (values : Values) (id : LoopId)
 fills given [] values id = (λ there. absurd (omega arith), λ there. refl)
 fills given (own ∷ others) values id = fills_at (is_reduction own.variable) given own others values id refl (fills given others values id)
 
-filled_same : (given : Values) (loops new : List Loop) (values : Values) → SameLoops new loops → (id : LoopId) → filled given new values id ≡ filled given loops values id
+filled_same : (given : Values) (loops new : List Loop) (values : Values) → SameLoops new loops → (id : LoopId)
+    → filled given new values id ≡ filled given loops values id
 filled_same given loops new values same id = elim (cases_eq (total (is_one is_free id) loops) 0) [
   | inl e ↦ (fills given new values id).1 (same (is_one is_free id) ∙ e) ∙ sym ((fills given loops values id).1 e)
   | inr d ↦ (fills given new values id).0 (omega (arith, same (is_one is_free id), d)) ∙ sym ((fills given loops values id).0 (omega (arith, d)))
 ]
 
-pub only_moved : {A : Type 0} (test : Loop → Bool) (counts given : Values) (loops new : List Loop) (body : Values → List A) → SameLoops new loops → Only test counts loops given body → Only test counts new given body
+pub only_moved : {A : Type 0} (test : Loop → Bool) (counts given : Values) (loops new : List Loop) (body : Values → List A) → SameLoops new loops
+    → Only test counts loops given body → Only test counts new given body
 only_moved test counts given loops new body same only values in_range id there d =
     only values (λ i l. in_range i (omega (arith, same (has_id i)))) id (omega (arith, same (is_one test id))) d
 
 -- Loops in another order that keeps that of reductions list the same.
-pub moved_nest : {A : Type 0} (counts given : Values) (loops new : List Loop) (body : Values → List A) → SameLoops new loops → reductions new ≡ reductions loops → Unique loops → OnValues body
+pub moved_nest : {A : Type 0} (counts given : Values) (loops new : List Loop) (body : Values → List A) → SameLoops new loops → reductions new ≡ reductions loops
+    → Unique loops → OnValues body
     → ((id : LoopId) → IsAmong is_free loops id → given id < counts id) → Only is_free counts loops given body
     → (values : Values) → nest counts new body values ≡ nest counts loops body values
 moved_nest {A} counts given loops new body same order unique on range only values =
-    selected A counts given new body (λ id. omega (arith, same (has_id id), unique id)) on (λ id there. range id (omega (arith, same (is_one is_free id)))) (only_moved is_free counts given loops new body same only) values
+    selected A counts given new body (λ id. omega (arith, same (has_id id), unique id)) on (λ id there. range id (omega (arith, same (is_one is_free id))))
+    (only_moved is_free counts given loops new body same only) values
     ∙ ap (λ (ids : List LoopId). nest_ids counts ids body (filled given new values)) order
     ∙ ids_values counts (reductions loops) body on (filled given new values) (filled given loops values) (filled_same given loops new values same)
     ∙ sym (selected A counts given loops body unique on range only values)

@@ -1,5 +1,6 @@
 -- Slices and reduction points of a stage, and that nothing else is visited.
-use Rattle.std.proofs.Common.{◌≡◌, ℕ, suc, ◌+◌, ◌*◌, ◌<◌, ◌≤◌, Bool, true, false, not, cond, List, [], ◌∷◌, Option, Some, None, refl, ap, ◌∙◌, arith, ◌⊎◌, inl, inr}
+use Rattle.std.proofs.Common.{◌≡◌, ℕ, suc, ◌+◌, ◌*◌, ◌<◌, ◌≤◌, Bool, true, false, not, cond, List, [], ◌∷◌, Option, Some, None, refl, ap, ◌∙◌, arith, ◌⊎◌, inl}
+use Rattle.std.proofs.Common.{inr}
 use Rattle.std.specs.Prelude.{◌&&◌, nat_lt, filter}
 use Rattle.std.specs.List.{AllByRecursion}
 use Rattle.std.proofs.lemmas.Bool.{lt-ltb, ltb-true, and_parts}
@@ -75,28 +76,34 @@ module _ (func : Func) (update : Option Update) (extents : Extents) where
       let s : suc j * e ≡ j * e + e = omega arith in
       omega arith
 
-  numbered : (one two : Bool) (i j : ℕ) → (one ≡ true) ⊎ (two ≡ false) → (one ≡ true → i < extents.first_reduction) → (two ≡ true → j < extents.second_reduction)
+  numbered : (one two : Bool) (i j : ℕ) → (one ≡ true) ⊎ (two ≡ false) → (one ≡ true → i < extents.first_reduction)
+      → (two ≡ true → j < extents.second_reduction)
       → in_place two j * extents.first_reduction + in_place one i < extent_if two extents.second_reduction * extent_if one extents.first_reduction
   numbered true true i j has li lj = number_below j extents.second_reduction i extents.first_reduction (lj refl) (li refl)
   numbered true false i j has li lj = number_below 0 1 i extents.first_reduction (omega arith) (li refl)
   numbered false true i j has li lj = elim has [ inl e ↦ absurd cc | inr e ↦ absurd cc ]
   numbered false false i j has li lj = let z : 0 * extents.first_reduction ≡ 0 = omega arith in omega arith
 
-  pub is_visit : Plain start → HasFirst → (values : Values) → InRange (whole_counts extents) start values → IsVisitOf func update extents (seen start extents.first_reduction values)
+  pub is_visit : Plain start → HasFirst → (values : Values) → InRange (whole_counts extents) start values
+      → IsVisitOf func update extents (seen start extents.first_reduction values)
   is_visit plain has values in_range =
-      let below : (v : Variable) → has_variable v start ≡ true → values (ids.Whole v) < whole_counts extents (ids.Whole v) = λ v e. in_range (ids.Whole v) (there v start plain e) in
+      let below : (v : Variable) → has_variable v start ≡ true → values (ids.Whole v) < whole_counts extents (ids.Whole v) = λ v e. in_range (ids.Whole v)
+      (there v start plain e) in
       let first = has_variable variables.FirstArgument start in
       let second = has_variable variables.SecondArgument start in
       let lx : in_place (has_variable variables.FirstArgument start) (values (ids.Whole variables.FirstArgument)) < takes variables.FirstArgument =
-      in_place_below (has_variable variables.FirstArgument start) extents.first_argument (values (ids.Whole variables.FirstArgument)) (below variables.FirstArgument) in
+      in_place_below (has_variable variables.FirstArgument start) extents.first_argument (values (ids.Whole variables.FirstArgument))
+      (below variables.FirstArgument) in
       let ly : in_place (has_variable variables.SecondArgument start) (values (ids.Whole variables.SecondArgument)) < takes variables.SecondArgument =
-      in_place_below (has_variable variables.SecondArgument start) extents.second_argument (values (ids.Whole variables.SecondArgument)) (below variables.SecondArgument) in
+      in_place_below (has_variable variables.SecondArgument start) extents.second_argument (values (ids.Whole variables.SecondArgument))
+      (below variables.SecondArgument) in
       record {
         slice = rw (
           lt-ltb (in_place (has_variable variables.FirstArgument start) (values (ids.Whole variables.FirstArgument))) (takes variables.FirstArgument) lx,
           lt-ltb (in_place (has_variable variables.SecondArgument start) (values (ids.Whole variables.SecondArgument))) (takes variables.SecondArgument) ly,
         ) refl;
-        number = numbered (has_variable variables.FirstReduction start) (has_variable variables.SecondReduction start) (values (ids.Whole variables.FirstReduction)) (values (ids.Whole variables.SecondReduction)) has
+        number = numbered (has_variable variables.FirstReduction start) (has_variable variables.SecondReduction start)
+            (values (ids.Whole variables.FirstReduction)) (values (ids.Whole variables.SecondReduction)) has
             (below variables.FirstReduction) (below variables.SecondReduction);
       }
 
@@ -113,7 +120,8 @@ module _ (func : Func) (update : Option Update) (extents : Extents) where
       record { slice = p.0; number = ltb-true visit.number (points_of func update extents) p.1 }
 
 -- a pure definition has no loop over a reduction variable
-no_reduction_at : (first : List ℕ) (second : Option (List ℕ)) → (has_variable variables.FirstReduction (with_second (with_loop [] first variables.FirstArgument) second variables.SecondArgument) ≡ false)
+no_reduction_at : (first : List ℕ) (second : Option (List ℕ))
+    → (has_variable variables.FirstReduction (with_second (with_loop [] first variables.FirstArgument) second variables.SecondArgument) ≡ false)
     × (has_variable variables.SecondReduction (with_second (with_loop [] first variables.FirstArgument) second variables.SecondArgument) ≡ false)
 no_reduction_at first None = (refl, refl)
 no_reduction_at first (Some name) = (refl, refl)
@@ -124,7 +132,8 @@ no_first_reduction func = (no_reduction_at func.first_argument func.second_argum
 pub no_second_reduction : (func : Func) → has_variable variables.SecondReduction (first_loops func None) ≡ false
 no_second_reduction func = (no_reduction_at func.first_argument func.second_argument).1
 
-pub reductions_there : (func : Func) (update : Option Update) → (has_variable variables.FirstReduction (first_loops func update) ≡ true) ⊎ (has_variable variables.SecondReduction (first_loops func update) ≡ false)
+pub reductions_there : (func : Func) (update : Option Update) → (has_variable variables.FirstReduction (first_loops func update) ≡ true)
+    ⊎ (has_variable variables.SecondReduction (first_loops func update) ≡ false)
 reductions_there func None = inr (no_second_reduction func)
 reductions_there func (Some update) = inl (update_start func update).one
 
@@ -136,10 +145,12 @@ nothing values = []
 nest_empty : {A : Type 0} (counts : Values) (loops : List Loop) (values : Values) → nest {A = A} counts loops nothing values ≡ []
 nest_empty counts [] values = refl
 nest_empty {A} counts (own ∷ outside) values =
-    nest_same counts outside (λ outer. upto (counts own.id) (λ turn. nothing {A = A} (with own.id turn outer))) (nothing {A = A}) (λ outer in_range. upto_none (counts own.id) (λ turn. nothing {A = A} (with own.id turn outer)) (λ turn l. refl)) values
+    nest_same counts outside (λ outer. upto (counts own.id) (λ turn. nothing {A = A} (with own.id turn outer))) (nothing {A = A}) (λ outer in_range. upto_none
+    (counts own.id) (λ turn. nothing {A = A} (with own.id turn outer)) (λ turn l. refl)) values
     ∙ nest_empty {A = A} counts outside values
 
-pub nest_quiet : {A : Type 0} (extents : Values) (seen : Values → A) (keep : A → Bool) (loops : List Loop) (splits : List Split) → Quiet A extents seen keep loops splits → (values : Values)
+pub nest_quiet : {A : Type 0} (extents : Values) (seen : Values → A) (keep : A → Bool) (loops : List Loop) (splits : List Split)
+    → Quiet A extents seen keep loops splits → (values : Values)
     → filter keep (nest (counts_from extents 0 splits) loops (split_bodies extents 0 splits (λ v. seen v ∷ [])) values) ≡ []
 nest_quiet {A} extents seen keep loops splits quiet values =
     filter-nest keep (counts_from extents 0 splits) loops (split_bodies extents 0 splits (λ v. seen v ∷ [])) values
@@ -147,12 +158,14 @@ nest_quiet {A} extents seen keep loops splits quiet values =
     ∙ nest_empty {A = A} (counts_from extents 0 splits) loops values
 
 all_at : {A : Type 0} (P : A → Type 0) (passes : A → Bool) → ((x : A) → passes x ≡ true → P x) → (x : A) (xs : List A) (test : Bool) → passes x ≡ test
-    → (filter (λ y. not (passes y)) xs ≡ [] → AllByRecursion P xs) → cond (not test) (x ∷ filter (λ y. not (passes y)) xs) (filter (λ y. not (passes y)) xs) ≡ [] → AllByRecursion P (x ∷ xs)
+    → (filter (λ y. not (passes y)) xs ≡ [] → AllByRecursion P xs) → cond (not test) (x ∷ filter (λ y. not (passes y)) xs) (filter (λ y. not (passes y)) xs)
+    ≡ [] → AllByRecursion P (x ∷ xs)
 all_at P passes holds x xs true e later none = (holds x e, later none)
 all_at P passes holds x xs false e later none = cc
 
 -- where nothing is filter that fails a test, all pass it
-pub all_pass : {A : Type 0} (P : A → Type 0) (passes : A → Bool) → ((x : A) → passes x ≡ true → P x) → (xs : List A) → filter (λ y. not (passes y)) xs ≡ [] → AllByRecursion P xs
+pub all_pass : {A : Type 0} (P : A → Type 0) (passes : A → Bool) → ((x : A) → passes x ≡ true → P x) → (xs : List A) → filter (λ y. not (passes y)) xs ≡ []
+    → AllByRecursion P xs
 all_pass P passes holds [] none = tt
 all_pass P passes holds (x ∷ xs) none = all_at P passes holds x xs (passes x) refl (all_pass P passes holds xs) none
 
@@ -160,8 +173,10 @@ fails_not : {A : Type 0} (passes : A → Bool) (x : A) → passes x ≡ true →
 fails_not passes x e = rw e refl
 
 -- what holds of each visit of the first loops holds of those of a stage
-pub quiet_from : {A : Type 0} (extents : Values) (seen : Values → A) (passes : A → Bool) (start : List Loop) → Plain start → ((values : Values) → InRange extents start values → passes (seen values) ≡ true)
-    → {is_update : Bool} {loops : List Loop} {splits : List Split} → IsMade is_update start loops splits → Quiet A extents seen (λ y. not (passes y)) loops splits
+pub quiet_from : {A : Type 0} (extents : Values) (seen : Values → A) (passes : A → Bool) (start : List Loop) → Plain start
+    → ((values : Values) → InRange extents start values → passes (seen values) ≡ true)
+    → {is_update : Bool} {loops : List Loop} {splits : List Split} → IsMade is_update start loops splits
+    → Quiet A extents seen (λ y. not (passes y)) loops splits
 quiet_from {A} extents seen passes start plain holds {is_update} made =
     by_making (Quiet A extents seen (λ y. not (passes y)))
     (quiet_stays A extents seen (λ y. not (passes y)) is_update is_steady start (steady_passed_on is_update)
@@ -174,32 +189,42 @@ quiet_from {A} extents seen passes start plain holds {is_update} made =
 pub zeros_rest : (first : List Loop) (v : Variable) → has_variable v first ≡ false → zeros (ids.Whole v) ≡ 0
 zeros_rest first v none = refl
 
-pub leaf_rests : (extents : Extents) (start : List Loop) → SameAtRest start (λ values. visit_of extents values ∷ []) (λ values. seen start extents.first_reduction values ∷ [])
+pub leaf_rests : (extents : Extents) (start : List Loop)
+    → SameAtRest start (λ values. visit_of extents values ∷ []) (λ values. seen start extents.first_reduction values ∷ [])
 leaf_rests extents start values rests = ap (λ (v : Visit). v ∷ []) (visit_seen extents start values rests)
 
 pub visits_seen : (func : Func) (update : Option Update) (extents : Extents) (stage : Stage) → IsStageOf func update stage
-    → visits extents stage ≡ nest (counts_from (whole_counts extents) 0 stage.splits) stage.loops (split_bodies (whole_counts extents) 0 stage.splits (λ v. seen (first_loops func update) extents.first_reduction v ∷ [])) zeros
+    → visits extents stage ≡ nest (counts_from (whole_counts extents) 0 stage.splits) stage.loops (split_bodies (whole_counts extents) 0 stage.splits
+    (λ v. seen (first_loops func update) extents.first_reduction v ∷ [])) zeros
 visits_seen func update extents stage is =
     let start = first_loops func update in
     let l = leaves (plain func update) is.made in
     nest_rests start (counts_from (whole_counts extents) 0 stage.splits) stage.loops
-    (split_bodies (whole_counts extents) 0 stage.splits (λ values. visit_of extents values ∷ [])) (split_bodies (whole_counts extents) 0 stage.splits (λ v. seen start extents.first_reduction v ∷ []))
+    (split_bodies (whole_counts extents) 0 stage.splits (λ values. visit_of extents values ∷ [])) (split_bodies (whole_counts extents) 0 stage.splits
+    (λ v. seen start extents.first_reduction v ∷ []))
     l.loops_apart
-    (bodies_rest start stage.splits (whole_counts extents) 0 (λ values. visit_of extents values ∷ []) (λ v. seen start extents.first_reduction v ∷ []) l.splits_apart (leaf_rests extents start))
+    (bodies_rest start stage.splits (whole_counts extents) 0 (λ values. visit_of extents values ∷ []) (λ v. seen start extents.first_reduction v ∷ [])
+    l.splits_apart (leaf_rests extents start))
     zeros (zeros_rest start)
 
 -- no visit fails the test
-pub nothing_outside : (func : Func) (update : Option Update) (extents : Extents) (stage : Stage) → IsStageOf func update stage → filter (λ visit. not (passes func update extents visit)) (visits extents stage) ≡ []
+pub nothing_outside : (func : Func) (update : Option Update) (extents : Extents) (stage : Stage) → IsStageOf func update stage
+    → filter (λ visit. not (passes func update extents visit)) (visits extents stage) ≡ []
 nothing_outside func update extents stage is =
     let start = first_loops func update in
     let s = seen start extents.first_reduction in
     ap (filter (λ visit. not (passes func update extents visit))) (visits_seen func update extents stage is)
-    ∙ nest_quiet (whole_counts extents) (seen (first_loops func update) extents.first_reduction) (λ visit. not (passes func update extents visit)) stage.loops stage.splits
-    (quiet_from (whole_counts extents) (seen (first_loops func update) extents.first_reduction) (passes func update extents) (first_loops func update) (plain func update)
-    (λ values in_range. passes_from func update extents (seen (first_loops func update) extents.first_reduction values) (is_visit func update extents (plain func update) (reductions_there func update) values in_range))
+    ∙ nest_quiet (whole_counts extents) (seen (first_loops func update) extents.first_reduction) (λ visit. not (passes func update extents visit)) stage.loops
+    stage.splits
+    (quiet_from (whole_counts extents) (seen (first_loops func update) extents.first_reduction) (passes func update extents) (first_loops func update)
+    (plain func update)
+    (λ values in_range. passes_from func update extents (seen (first_loops func update) extents.first_reduction values) (is_visit func update extents
+    (plain func update) (reductions_there func update) values in_range))
     is.made) zeros
 
 -- Each visit is one of the slices and reduction points of the stage.
-pub visits_within : (func : Func) (update : Option Update) (extents : Extents) (stage : Stage) → IsStageOf func update stage → AllByRecursion (IsVisitOf func update extents) (visits extents stage)
+pub visits_within : (func : Func) (update : Option Update) (extents : Extents) (stage : Stage) → IsStageOf func update stage
+    → AllByRecursion (IsVisitOf func update extents) (visits extents stage)
 visits_within func update extents stage is =
-    all_pass (IsVisitOf func update extents) (passes func update extents) (from_passes func update extents) (visits extents stage) (nothing_outside func update extents stage is)
+    all_pass (IsVisitOf func update extents) (passes func update extents) (from_passes func update extents) (visits extents stage) (nothing_outside func update
+    extents stage is)

@@ -42,16 +42,20 @@ module _ (A : Type 0) (counts : Values) (place : ℕ) (split : Split) where
 
   whole_with : (id : LoopId) (n : ℕ) (values : Values) → is_old place id ≡ true → whole (with id n values) ≡ whole values
   whole_with id n values old =
-      let o : with id n values (ids.Outer place) ≡ values (ids.Outer place) = with_other id n values (ids.Outer place) (turned_id id (ids.Outer place) (old_apart place id (ids.Outer place) old (outer_new place))) in
-      let i : with id n values (ids.Inner place) ≡ values (ids.Inner place) = with_other id n values (ids.Inner place) (turned_id id (ids.Inner place) (old_apart place id (ids.Inner place) old (inner_new place))) in
+      let o : with id n values (ids.Outer place) ≡ values (ids.Outer place) = with_other id n values (ids.Outer place) (turned_id id (ids.Outer place)
+      (old_apart place id (ids.Outer place) old (outer_new place))) in
+      let i : with id n values (ids.Inner place) ≡ values (ids.Inner place) = with_other id n values (ids.Inner place) (turned_id id (ids.Inner place)
+      (old_apart place id (ids.Inner place) old (inner_new place))) in
       rw (o, i) refl
 
   pub counts_old : (id : LoopId) → is_old place id ≡ true → new_counts id ≡ counts id
   counts_old id old =
-      with_other (ids.Inner place) split.factor (with (ids.Outer place) (rounds (counts split.of) split.factor) counts) id (old_apart place id (ids.Inner place) old (inner_new place))
+      with_other (ids.Inner place) split.factor (with (ids.Outer place) (rounds (counts split.of) split.factor) counts) id (old_apart place id (ids.Inner place)
+      old (inner_new place))
       ∙ with_other (ids.Outer place) (rounds (counts split.of) split.factor) counts id (old_apart place id (ids.Outer place) old (outer_new place))
 
-  stands_with : (id : LoopId) (n : ℕ) (parts value : Values) → is_old place id ≡ true → same_id id split.of ≡ false → Stands parts value → Stands (with id n parts) (with id n value)
+  stands_with : (id : LoopId) (n : ℕ) (parts value : Values) → is_old place id ≡ true → same_id id split.of ≡ false → Stands parts value
+      → Stands (with id n parts) (with id n value)
   stands_with id n parts value old other s = record {
     others = λ i i_old i_other. ap (λ (m : ℕ). cond (same_id i id) n m) (s.others i i_old i_other);
     own = with_other id n value split.of (turned_id id split.of other) ∙ s.own ∙ sym (whole_with id n parts old);
@@ -61,10 +65,12 @@ module _ (A : Type 0) (counts : Values) (place : ℕ) (split : Split) where
   abbrev Parts : (Values → List A) → (Values → List A) → Type 0
   Parts f g = (parts value : Values) → Stands parts value → f parts ≡ cond (nat_lt (whole parts) (counts split.of)) (g value) []
 
-  parts_inside : (inside : List Loop) → Apart place split.of inside → (f g : Values → List A) → Parts f g → Parts (nest new_counts inside f) (nest counts inside g)
+  parts_inside : (inside : List Loop) → Apart place split.of inside → (f g : Values → List A) → Parts f g
+      → Parts (nest new_counts inside f) (nest counts inside g)
   parts_inside [] apart f g does = does
   parts_inside (own ∷ inside) apart f g does =
-      parts_inside inside apart.1 (λ outer. upto (new_counts own.id) (λ turn. f (with own.id turn outer))) (λ outer. upto (counts own.id) (λ turn. g (with own.id turn outer)))
+      parts_inside inside apart.1 (λ outer. upto (new_counts own.id) (λ turn. f (with own.id turn outer))) (λ outer. upto (counts own.id)
+      (λ turn. g (with own.id turn outer)))
       (λ parts value s.
       ap (λ (n : ℕ). upto n (λ turn. f (with own.id turn parts))) (counts_old own.id apart.0.0)
       ∙ upto_same (counts own.id) (λ turn. f (with own.id turn parts)) (λ turn. cond (nat_lt (whole parts) (counts split.of)) (g (with own.id turn value)) [])
@@ -90,7 +96,8 @@ module _ (A : Type 0) (counts : Values) (place : ℕ) (split : Split) where
   whole_own : (i o : ℕ) (values : Values) → split.tail ≡ tails.Guard → whole (with (ids.Inner place) i (with (ids.Outer place) o values)) ≡ o * split.factor + i
   whole_own i o values guard = rw (guard, same_id-self (ids.Outer place)) refl
 
-  stands_own : (i o : ℕ) (values : Values) → split.tail ≡ tails.Guard → Stands (with (ids.Inner place) i (with (ids.Outer place) o values)) (with split.of (o * split.factor + i) values)
+  stands_own : (i o : ℕ) (values : Values) → split.tail ≡ tails.Guard → Stands (with (ids.Inner place) i (with (ids.Outer place) o values))
+      (with split.of (o * split.factor + i) values)
   stands_own i o values guard = record {
     others = λ id old other.
         with_other (ids.Inner place) i (with (ids.Outer place) o values) id (old_apart place id (ids.Inner place) old (inner_new place))
@@ -106,13 +113,17 @@ module _ (A : Type 0) (counts : Values) (place : ℕ) (split : Split) where
       let outer_count : new_counts (ids.Outer place) ≡ rounds (counts split.of) split.factor = rw (same_id-self (ids.Outer place)) refl in
       let inner_count : new_counts (ids.Inner place) ≡ split.factor = rw (same_id-self (ids.Inner place)) refl in
       ap (λ (n : ℕ). upto n (λ o. upto (new_counts (ids.Inner place)) (λ i. f (with (ids.Inner place) i (with (ids.Outer place) o values))))) outer_count
-      ∙ ap (λ (n : ℕ). upto (rounds (counts split.of) split.factor) (λ o. upto n (λ i. f (with (ids.Inner place) i (with (ids.Outer place) o values))))) inner_count
-      ∙ upto_same (rounds (counts split.of) split.factor) (λ o. upto split.factor (λ i. f (with (ids.Inner place) i (with (ids.Outer place) o values)))) (λ o. upto split.factor (λ i. cond (nat_lt (o * split.factor + i) (counts split.of)) (g (with split.of (o * split.factor + i) values)) []))
-      (λ o lo. upto_same split.factor (λ i. f (with (ids.Inner place) i (with (ids.Outer place) o values))) (λ i. cond (nat_lt (o * split.factor + i) (counts split.of)) (g (with split.of (o * split.factor + i) values)) [])
+      ∙ ap (λ (n : ℕ). upto (rounds (counts split.of) split.factor) (λ o. upto n (λ i. f (with (ids.Inner place) i (with (ids.Outer place) o values)))))
+      inner_count
+      ∙ upto_same (rounds (counts split.of) split.factor) (λ o. upto split.factor (λ i. f (with (ids.Inner place) i (with (ids.Outer place) o values))))
+      (λ o. upto split.factor (λ i. cond (nat_lt (o * split.factor + i) (counts split.of)) (g (with split.of (o * split.factor + i) values)) []))
+      (λ o lo. upto_same split.factor (λ i. f (with (ids.Inner place) i (with (ids.Outer place) o values)))
+      (λ i. cond (nat_lt (o * split.factor + i) (counts split.of)) (g (with split.of (o * split.factor + i) values)) [])
       (λ i li.
       does (with (ids.Inner place) i (with (ids.Outer place) o values)) (with split.of (o * split.factor + i) values) (stands_own i o values guard)
       ∙ ap (λ (n : ℕ). cond (nat_lt n (counts split.of)) (g (with split.of (o * split.factor + i) values)) []) (whole_own i o values guard)))
-      ∙ upto_guard (counts split.of) (rounds (counts split.of) split.factor) split.factor (λ v. g (with split.of v values)) (rounds_reach (counts split.of) split.factor some)
+      ∙ upto_guard (counts split.of) (rounds (counts split.of) split.factor) split.factor (λ v. g (with split.of v values)) (rounds_reach (counts split.of)
+      split.factor some)
 
   same_counts : (loops : List Loop) → Apart place split.of loops → SameCounts new_counts counts loops
   same_counts [] apart = tt
@@ -120,13 +131,16 @@ module _ (A : Type 0) (counts : Values) (place : ℕ) (split : Split) where
 
   pub parted_nest : (inside outside : List Loop) (inner outer own : Loop) (body : Values → List A) → AreParts inner outer own
       → Apart place split.of inside → Apart place split.of outside → split.tail ≡ tails.Guard → 1 ≤ split.factor → OnOld place body
-      → (values : Values) → nest new_counts (inside ++ inner ∷ outer ∷ outside) (split_body counts place split body) values ≡ nest counts (inside ++ own ∷ outside) body values
+      → (values : Values) → nest new_counts (inside ++ inner ∷ outer ∷ outside) (split_body counts place split body) values ≡ nest counts (inside ++ own
+      ∷ outside) body values
   parted_nest inside outside inner outer own body parts apart_in apart_out guard some on_old values =
       let f : Values → List A = nest new_counts inside (split_body counts place split body) in
       let g : Values → List A = nest counts inside body in
       let does : Parts f g = parts_inside inside apart_in (split_body counts place split body) body (split_parts body on_old) in
       nest-append new_counts inside (inner ∷ outer ∷ outside) (split_body counts place split body) values
-      ∙ nest_counts new_counts counts outside (λ v. upto (new_counts outer.id) (λ o. upto (new_counts inner.id) (λ i. f (with inner.id i (with outer.id o v))))) (same_counts outside apart_out) values
-      ∙ nest_same counts outside (λ v. upto (new_counts outer.id) (λ o. upto (new_counts inner.id) (λ i. f (with inner.id i (with outer.id o v))))) (λ v. upto (counts own.id) (λ n. g (with own.id n v)))
+      ∙ nest_counts new_counts counts outside (λ v. upto (new_counts outer.id) (λ o. upto (new_counts inner.id) (λ i. f (with inner.id i (with outer.id o v)))))
+      (same_counts outside apart_out) values
+      ∙ nest_same counts outside (λ v. upto (new_counts outer.id) (λ o. upto (new_counts inner.id) (λ i. f (with inner.id i (with outer.id o v)))))
+      (λ v. upto (counts own.id) (λ n. g (with own.id n v)))
       (λ v in_range. rw (parts.inner_is, parts.outer_is, parts.own_is) (guard_at f g does guard some v)) values
       ∙ sym (nest-append counts inside (own ∷ outside) body values)

@@ -1,5 +1,6 @@
 -- The nests of an update, from its first loops on.
-use Rattle.std.proofs.Common.{◌≡◌, ◌≢◌, ℕ, zero, suc, ◌+◌, ◌*◌, ◌<◌, ◌≤◌, Bool, true, false, not, cond, List, [], ◌∷◌, ◌==◌, refl, sym, ap, subst, ◌∙◌, arith, inl, inr}
+use Rattle.std.proofs.Common.{◌≡◌, ◌≢◌, ℕ, zero, suc, ◌+◌, ◌*◌, ◌<◌, ◌≤◌, Bool, true, false, not, cond, List, [], ◌∷◌, ◌==◌, refl, sym, ap, subst, ◌∙◌, arith}
+use Rattle.std.proofs.Common.{inl, inr}
 use Rattle.std.specs.Prelude.{◌&&◌, ◌||◌, filter}
 use Rattle.std.proofs.lemmas.Bool.{eq-eqb, ne_eqb, and_left, and_right}
 use Rattle.halide_pipeline.specs.declared.expressions.Variable.TheVariants as variables
@@ -29,14 +30,19 @@ free_at false false false l = absurd (omega arith)
 pub free_passed_on : IsPassedOn true is_free
 free_passed_on = record {
   bare_is = λ own. refl;
-  inner = λ own place line id is there. (free_at (is_free own) (same_id (ids.Inner place) id) (same_id (ids.Outer place) id) there, guard_from line.tail is.unshifted);
+  inner = λ own place line id is there. (
+    free_at (is_free own) (same_id (ids.Inner place) id) (same_id (ids.Outer place) id) there,
+    guard_from line.tail
+        is.unshifted,
+  );
 }
 
 -- loops over arguments that don't come from a shifted split, of any stage
 abbrev pub is_steady : Loop → Bool
 is_steady own = is_free own && not own.is_from_shift
 
-steady_at : (free from shift a b : Bool) → 1 ≤ cond {A = ℕ} (a && (free && not (from || shift))) 1 0 + (cond {A = ℕ} (b && (free && not (from || shift))) 1 0 + 0) → ((free && not from) ≡ true) × (shift ≡ false)
+steady_at : (free from shift a b : Bool) → 1 ≤ cond {A = ℕ} (a && (free && not (from || shift))) 1 0 + (cond {A = ℕ} (b && (free && not (from || shift))) 1 0
+    + 0) → ((free && not from) ≡ true) × (shift ≡ false)
 steady_at true false false a b l = (refl, refl)
 steady_at true true shift true true l = absurd (omega arith)
 steady_at true true shift true false l = absurd (omega arith)
@@ -97,7 +103,8 @@ kept_not : (keep : Visit → Bool) (visit : Visit) → keep visit ≡ false → 
 kept_not keep visit e = rw e refl
 
 -- loops that pass a test, none of them over a reduction, have the values of the slice
-pub begins : (test : Loop → Bool) → ((id : LoopId) (loops : List Loop) → total (is_one test id) loops ≤ total (is_one is_free id) loops) → (count : ℕ) (extents : Values) (start : List Loop) (x y : ℕ) → Plain start → IsSlice start extents x y
+pub begins : (test : Loop → Bool) → ((id : LoopId) (loops : List Loop) → total (is_one test id) loops ≤ total (is_one is_free id) loops)
+    → (count : ℕ) (extents : Values) (start : List Loop) (x y : ℕ) → Plain start → IsSlice start extents x y
     → Begins Visit extents (seen start count) (is_slice x y) test start (slice_values x y)
 begins test below count extents start x y plain slice = record {
   sound = sound start plain;
@@ -108,10 +115,12 @@ begins test below count extents start x y plain slice = record {
   only = λ values in_range id there d. kept_not (is_slice x y) (seen start count values) (elim (free id start plain (omega (arith, there, below id start))) [
     | inl p ↦
         let differ : values (ids.Whole variables.FirstArgument) ≢ x = subst (λ (i : LoopId). values i ≢ slice_values x y i) p.0 d in
-        rw p.1 (and_left (values (ids.Whole variables.FirstArgument) == x) (in_place (has_variable variables.SecondArgument start) (values (ids.Whole variables.SecondArgument)) == y) (ne_eqb (values (ids.Whole variables.FirstArgument)) x differ))
+        rw p.1 (and_left (values (ids.Whole variables.FirstArgument) == x) (in_place (has_variable variables.SecondArgument start)
+        (values (ids.Whole variables.SecondArgument)) == y) (ne_eqb (values (ids.Whole variables.FirstArgument)) x differ))
     | inr p ↦
         let differ : values (ids.Whole variables.SecondArgument) ≢ y = subst (λ (i : LoopId). values i ≢ slice_values x y i) p.0 d in
-        rw p.1 (and_right (in_place (has_variable variables.FirstArgument start) (values (ids.Whole variables.FirstArgument)) == x) (values (ids.Whole variables.SecondArgument) == y) (ne_eqb (values (ids.Whole variables.SecondArgument)) y differ))
+        rw p.1 (and_right (in_place (has_variable variables.FirstArgument start) (values (ids.Whole variables.FirstArgument)) == x)
+        (values (ids.Whole variables.SecondArgument) == y) (ne_eqb (values (ids.Whole variables.SecondArgument)) y differ))
   ]);
 }
 
@@ -126,7 +135,8 @@ upto_rises x y from (suc n) =
     ap (λ (k : ℕ). upto k visit) e ∙ upto-add 1 n visit
     ∙ ap (λ (k : ℕ). record { x = x; y = y; number = k } ∷ upto n (λ v. visit (1 + v))) f
     ∙ ap (λ (vs : List Visit). record { x = x; y = y; number = from } ∷ vs)
-    (upto_same n (λ v. visit (1 + v)) later (λ v l. let g : from + (1 + v) ≡ suc from + v = omega arith in ap (λ (k : ℕ). record { x = x; y = y; number = k } ∷ []) g) ∙ upto_rises x y (suc from) n)
+    (upto_same n (λ v. visit (1 + v)) later (λ v l. let g : from + (1 + v) ≡ suc from + v = omega arith in ap (λ (k : ℕ). record { x = x; y = y; number = k }
+    ∷ []) g) ∙ upto_rises x y (suc from) n)
 
 pub in_place_is : (placed : Bool) (value x : ℕ) → (placed ≡ true → value ≡ x) → (placed ≡ false → x ≡ 0) → in_place placed value ≡ x
 in_place_is true value x here none = here refl
@@ -137,7 +147,8 @@ slice_itself x y number = rw (eq-eqb x x refl, eq-eqb y y refl) refl
 
 -- how many reduction points there are
 abbrev pub points : Bool → Values → ℕ
-points two extents = cond two (extents (ids.Whole variables.SecondReduction) * extents (ids.Whole variables.FirstReduction)) (extents (ids.Whole variables.FirstReduction))
+points two extents = cond two (extents (ids.Whole variables.SecondReduction) * extents (ids.Whole variables.FirstReduction))
+    (extents (ids.Whole variables.FirstReduction))
 
 module _ (extents : Values) (start : List Loop) (is : IsUpdateStart start) (x y : ℕ) (slice : IsSlice start extents x y) where
   abbrev count : ℕ
@@ -155,44 +166,77 @@ module _ (extents : Values) (start : List Loop) (is : IsUpdateStart start) (x y 
   filled_second : has_variable variables.SecondArgument start ≡ true → w (ids.Whole variables.SecondArgument) ≡ y
   filled_second p = (fills (slice_values x y) start (λ id. 0) (ids.Whole variables.SecondArgument)).0 (among variables.SecondArgument start is.plain refl p)
 
-  body_is : (i j : ℕ) (values : Values) → values (ids.Whole variables.FirstArgument) ≡ w (ids.Whole variables.FirstArgument) → values (ids.Whole variables.SecondArgument) ≡ w (ids.Whole variables.SecondArgument)
-      → values (ids.Whole variables.FirstReduction) ≡ i → in_place (has_variable variables.SecondReduction start) (values (ids.Whole variables.SecondReduction)) ≡ j → body values ≡ record { x = x; y = y; number = j * count + i } ∷ []
+  body_is : (i j : ℕ) (values : Values) → values (ids.Whole variables.FirstArgument) ≡ w (ids.Whole variables.FirstArgument)
+      → values (ids.Whole variables.SecondArgument) ≡ w (ids.Whole variables.SecondArgument)
+      → values (ids.Whole variables.FirstReduction) ≡ i → in_place (has_variable variables.SecondReduction start) (values (ids.Whole variables.SecondReduction))
+      ≡ j → body values ≡ record { x = x; y = y; number = j * count + i } ∷ []
   body_is i j values ex ey ei ej =
-      let fx : in_place (has_variable variables.FirstArgument start) (values (ids.Whole variables.FirstArgument)) ≡ x = in_place_is (has_variable variables.FirstArgument start) (values (ids.Whole variables.FirstArgument)) x (λ p. ex ∙ filled_first p) slice.no_x in
-      let fy : in_place (has_variable variables.SecondArgument start) (values (ids.Whole variables.SecondArgument)) ≡ y = in_place_is (has_variable variables.SecondArgument start) (values (ids.Whole variables.SecondArgument)) y (λ p. ey ∙ filled_second p) slice.no_y in
-      let fi : in_place (has_variable variables.FirstReduction start) (values (ids.Whole variables.FirstReduction)) ≡ i = ap (λ (b : Bool). in_place b (values (ids.Whole variables.FirstReduction))) is.one ∙ ei in
+      let fx : in_place (has_variable variables.FirstArgument start) (values (ids.Whole variables.FirstArgument)) ≡ x =
+      in_place_is (has_variable variables.FirstArgument start) (values (ids.Whole variables.FirstArgument)) x (λ p. ex ∙ filled_first p) slice.no_x in
+      let fy : in_place (has_variable variables.SecondArgument start) (values (ids.Whole variables.SecondArgument)) ≡ y =
+      in_place_is (has_variable variables.SecondArgument start) (values (ids.Whole variables.SecondArgument)) y (λ p. ey ∙ filled_second p) slice.no_y in
+      let fi : in_place (has_variable variables.FirstReduction start) (values (ids.Whole variables.FirstReduction)) ≡ i =
+      ap (λ (b : Bool). in_place b (values (ids.Whole variables.FirstReduction))) is.one ∙ ei in
       let same : seen start count values ≡ record { x = x; y = y; number = j * count + i } =
-      ap (λ (a : ℕ). record { x = a; y = in_place (has_variable variables.SecondArgument start) (values (ids.Whole variables.SecondArgument)); number = in_place (has_variable variables.SecondReduction start) (values (ids.Whole variables.SecondReduction)) * count + in_place (has_variable variables.FirstReduction start) (values (ids.Whole variables.FirstReduction)) }) fx
-      ∙ ap (λ (b : ℕ). record { x = x; y = b; number = in_place (has_variable variables.SecondReduction start) (values (ids.Whole variables.SecondReduction)) * count + in_place (has_variable variables.FirstReduction start) (values (ids.Whole variables.FirstReduction)) }) fy
-      ∙ ap (λ (c : ℕ). record { x = x; y = y; number = c * count + in_place (has_variable variables.FirstReduction start) (values (ids.Whole variables.FirstReduction)) }) ej
+      ap (λ (a : ℕ). record {
+        x = a;
+        y = in_place (has_variable variables.SecondArgument start) (values (ids.Whole variables.SecondArgument));
+        number =
+            in_place (has_variable variables.SecondReduction start) (values (ids.Whole variables.SecondReduction)) * count + in_place
+            (has_variable variables.FirstReduction start) (values (ids.Whole variables.FirstReduction));
+      }) fx
+      ∙ ap (λ (b : ℕ). record {
+        x = x;
+        y = b;
+        number = in_place (has_variable variables.SecondReduction start) (values (ids.Whole variables.SecondReduction))
+            * count + in_place (has_variable variables.FirstReduction start) (values (ids.Whole variables.FirstReduction));
+      }) fy
+      ∙ ap (λ (c : ℕ). record {
+        x = x;
+        y = y;
+        number = c * count + in_place (has_variable variables.FirstReduction start)
+            (values (ids.Whole variables.FirstReduction));
+      }) ej
       ∙ ap (λ (c : ℕ). record { x = x; y = y; number = j * count + c }) fi in
       ap (λ (v : Visit). filter (is_slice x y) (v ∷ [])) same ∙ slice_itself x y (j * count + i)
 
   pub seen_same : (one other : Values) → ((id : LoopId) → one id ≡ other id) → seen start count one ≡ seen start count other
-  seen_same one other same = rw (same (ids.Whole variables.FirstArgument), same (ids.Whole variables.SecondArgument), same (ids.Whole variables.FirstReduction), same (ids.Whole variables.SecondReduction)) refl
+  seen_same one other same = rw (
+    same (ids.Whole variables.FirstArgument),
+    same (ids.Whole variables.SecondArgument),
+    same (ids.Whole variables.FirstReduction),
+    same (ids.Whole variables.SecondReduction),
+  ) refl
 
   abbrev visit : ℕ → List Visit
   visit m = record { x = x; y = y; number = m } ∷ []
 
-  by_reductions : (two : Bool) → has_variable variables.SecondReduction start ≡ two → nest_ids extents (reductions_of two) body w ≡ rising x y 0 (points two extents)
+  by_reductions : (two : Bool) → has_variable variables.SecondReduction start ≡ two → nest_ids extents (reductions_of two) body w
+      ≡ rising x y 0 (points two extents)
   by_reductions true e =
       let placed : (n : ℕ) → in_place (has_variable variables.SecondReduction start) n ≡ n = λ n. ap (λ (b : Bool). in_place b n) e in
-      upto_same (extents (ids.Whole variables.SecondReduction)) (λ j. upto count (λ i. body (with (ids.Whole variables.FirstReduction) i (with (ids.Whole variables.SecondReduction) j w)))) (λ j. upto count (λ i. visit (j * count + i)))
-      (λ j lj. upto_same count (λ i. body (with (ids.Whole variables.FirstReduction) i (with (ids.Whole variables.SecondReduction) j w))) (λ i. visit (j * count + i))
+      upto_same (extents (ids.Whole variables.SecondReduction))
+      (λ j. upto count (λ i. body (with (ids.Whole variables.FirstReduction) i (with (ids.Whole variables.SecondReduction) j w))))
+      (λ j. upto count (λ i. visit (j * count + i)))
+      (λ j lj. upto_same count (λ i. body (with (ids.Whole variables.FirstReduction) i (with (ids.Whole variables.SecondReduction) j w)))
+      (λ i. visit (j * count + i))
       (λ i li. body_is i j (with (ids.Whole variables.FirstReduction) i (with (ids.Whole variables.SecondReduction) j w)) refl refl refl (placed j)))
       ∙ sym (upto_split (extents (ids.Whole variables.SecondReduction)) count visit)
       ∙ upto_same (extents (ids.Whole variables.SecondReduction) * count) visit (λ m. visit (0 + m)) (λ m l. let z : m ≡ 0 + m = omega arith in ap visit z)
       ∙ upto_rises x y 0 (extents (ids.Whole variables.SecondReduction) * count)
   by_reductions false e =
       upto_same count (λ i. body (with (ids.Whole variables.FirstReduction) i w)) (λ m. visit (0 + m))
-      (λ i li. body_is i 0 (with (ids.Whole variables.FirstReduction) i w) refl refl refl (ap (λ (b : Bool). in_place b (w (ids.Whole variables.SecondReduction))) e) ∙ (let z : 0 * count + i ≡ 0 + i = omega arith in ap visit z))
+      (λ i li. body_is i 0 (with (ids.Whole variables.FirstReduction) i w) refl refl refl
+      (ap (λ (b : Bool). in_place b (w (ids.Whole variables.SecondReduction))) e) ∙ (let z : 0 * count + i ≡ 0 + i = omega arith in ap visit z))
       ∙ upto_rises x y 0 count
 
   -- the first nest visits the points of a slice in their order
-  pub slice_rises : filter (is_slice x y) (nest extents start (λ v. seen start count v ∷ []) (λ id. 0)) ≡ rising x y 0 (points (has_variable variables.SecondReduction start) extents)
+  pub slice_rises : filter (is_slice x y) (nest extents start (λ v. seen start count v ∷ []) (λ id. 0))
+      ≡ rising x y 0 (points (has_variable variables.SecondReduction start) extents)
   slice_rises =
       let b = begins is_free free_free count extents start x y is.plain slice in
       filter-nest (is_slice x y) extents start (λ v. seen start count v ∷ []) (λ id. 0)
-      ∙ selected Visit extents (slice_values x y) start body b.sound.unique (λ one other same. ap (λ (v : Visit). filter (is_slice x y) (v ∷ [])) (seen_same one other same)) b.range b.only (λ id. 0)
+      ∙ selected Visit extents (slice_values x y) start body b.sound.unique (λ one other same. ap (λ (v : Visit). filter (is_slice x y) (v ∷ []))
+      (seen_same one other same)) b.range b.only (λ id. 0)
       ∙ ap (λ (ids : List LoopId). nest_ids extents ids body w) is.two
       ∙ by_reductions (has_variable variables.SecondReduction start) refl

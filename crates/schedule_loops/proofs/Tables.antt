@@ -1,5 +1,6 @@
 -- A table holds the sizes of the loops of its splits.
-use Rattle.std.proofs.Common.{◌≡◌, ℕ, zero, suc, ◌+◌, ◌-◌, ◌*◌, ◌^◌, ◌<◌, ◌≤◌, Bool, true, false, not, List, [], ◌∷◌, ◌++◌, length, get_or, take, drop, None, refl, sym, ap, subst, ◌∙◌, arith, inl, inr, length-append}
+use Rattle.std.proofs.Common.{◌≡◌, ℕ, zero, suc, ◌+◌, ◌-◌, ◌*◌, ◌^◌, ◌<◌, ◌≤◌, Bool, true, false, not, List, [], ◌∷◌, ◌++◌, length, get_or, take, drop, None}
+use Rattle.std.proofs.Common.{refl, sym, ap, subst, ◌∙◌, arith, inl, inr, length-append}
 use Rattle.std.specs.Prelude.{◌&&◌, ◌||◌, nat_le, slice_get}
 use Rattle.std.specs.List.{AllByRecursion, list_all}
 use Rattle.std.specs.Int.{div_ceil}
@@ -16,8 +17,10 @@ use Rattle.schedule_lines.specs.Directives.{is_shift}
 use Rattle.schedule_loops.specs.declared.extents.Extents.{Extents}
 use Rattle.schedule_loops.specs.declared.sizes.LoopSize.{LoopSize}
 use Rattle.schedule_loops.specs.declared.sizes.SizedSplit.{SizedSplit}
-use Rattle.schedule_loops.specs.Visits.{Values, rounds, whole_counts, more_counts, counts_from, whole_strides, more_strides, strides_from, more_uneven, uneven_from, shift_fits, shifts_fit_from, IsFactor, AreSplits}
-use Rattle.schedule_loops.specs.inner.Table.{looked_up, outer_of, inner_of, no_size, row_of, rows_from, splits_of, row_fits, IsTable, IsKept, stride_limit, AreBounded}
+use Rattle.schedule_loops.specs.Visits.{Values, rounds, whole_counts, more_counts, counts_from, whole_strides, more_strides, strides_from, more_uneven}
+use Rattle.schedule_loops.specs.Visits.{uneven_from, shift_fits, shifts_fit_from, IsFactor, AreSplits}
+use Rattle.schedule_loops.specs.inner.Table.{looked_up, outer_of, inner_of, no_size, row_of, rows_from, splits_of, row_fits, IsTable, IsKept, stride_limit}
+use Rattle.schedule_loops.specs.inner.Table.{AreBounded}
 use Rattle.schedule_loops.proofs.Linear.{even}
 use Rattle.schedule_loops.proofs.Lists.{first_of_rest, get_last, get_other}
 
@@ -42,14 +45,20 @@ sized counts strides uneven id = record { count = counts id; stride = strides id
 abbrev pub IsRight : Extents → List SizedSplit → Values → Values → (LoopId → Bool) → Type 0
 IsRight extents rows counts strides uneven = (id : LoopId) → looked_up extents rows id ≡ sized counts strides uneven id
 
-module _ (extents : Extents) (rows : List SizedSplit) (counts strides : Values) (uneven : LoopId → Bool) (right : IsRight extents rows counts strides uneven) (split : Split) where
+module _ (extents : Extents) (rows : List SizedSplit) (counts strides : Values) (uneven : LoopId → Bool) (right : IsRight extents rows counts strides uneven)
+    (split : Split) where
   abbrev row : SizedSplit
   row = row_of (looked_up extents rows split.of) split
 
   abbrev of_split : LoopSize → SizedSplit
   of_split size = row_of size split
 
-  outer_is : row.outer ≡ record { count = rounds (counts split.of) split.factor; stride = strides split.of * split.factor; is_uneven = uneven split.of || is_shift split.tail }
+  outer_is : row.outer ≡ record {
+    count = rounds (counts split.of) split.factor;
+    stride = strides split.of * split.factor;
+    is_uneven = uneven split.of
+        || is_shift split.tail;
+  }
   outer_is = ap (λ (size : LoopSize). (of_split size).outer) (right split.of)
 
   inner_is : row.inner ≡ record { count = split.factor; stride = strides split.of; is_uneven = uneven split.of }
@@ -58,31 +67,37 @@ module _ (extents : Extents) (rows : List SizedSplit) (counts strides : Values) 
   pub fits_is : row_fits row ≡ shift_fits counts split
   fits_is = ap (λ (size : LoopSize). not (is_shift split.tail) || nat_le split.factor size.count) (right split.of)
 
-  right_outer : (at : ℕ) → looked_up extents (rows ++ row ∷ []) (ids.Outer at) ≡ sized (more_counts counts (length rows) split) (more_strides strides (length rows) split) (more_uneven uneven (length rows) split) (ids.Outer at)
+  right_outer : (at : ℕ) → looked_up extents (rows ++ row ∷ []) (ids.Outer at) ≡ sized (more_counts counts (length rows) split)
+      (more_strides strides (length rows) split) (more_uneven uneven (length rows) split) (ids.Outer at)
   right_outer at = elim (cases_eq at (length rows)) [
     | inl e ↦ rw (eq-eqb at (length rows) e) (ap (λ (n : ℕ). outer_of (slice_get (rows ++ row ∷ []) n)) e ∙ ap outer_of (get_last rows row) ∙ outer_is)
     | inr d ↦ rw (ne_eqb at (length rows) d) (ap outer_of (get_other rows row at (λ e. d (sym e))) ∙ right (ids.Outer at))
   ]
 
-  right_inner : (at : ℕ) → looked_up extents (rows ++ row ∷ []) (ids.Inner at) ≡ sized (more_counts counts (length rows) split) (more_strides strides (length rows) split) (more_uneven uneven (length rows) split) (ids.Inner at)
+  right_inner : (at : ℕ) → looked_up extents (rows ++ row ∷ []) (ids.Inner at) ≡ sized (more_counts counts (length rows) split)
+      (more_strides strides (length rows) split) (more_uneven uneven (length rows) split) (ids.Inner at)
   right_inner at = elim (cases_eq at (length rows)) [
     | inl e ↦ rw (eq-eqb at (length rows) e) (ap (λ (n : ℕ). inner_of (slice_get (rows ++ row ∷ []) n)) e ∙ ap inner_of (get_last rows row) ∙ inner_is)
     | inr d ↦ rw (ne_eqb at (length rows) d) (ap inner_of (get_other rows row at (λ e. d (sym e))) ∙ right (ids.Inner at))
   ]
 
-  pub right_more : IsRight extents (rows ++ row ∷ []) (more_counts counts (length rows) split) (more_strides strides (length rows) split) (more_uneven uneven (length rows) split)
+  pub right_more : IsRight extents (rows ++ row ∷ []) (more_counts counts (length rows) split) (more_strides strides (length rows) split)
+      (more_uneven uneven (length rows) split)
   right_more (ids.Whole v) = right (ids.Whole v)
   right_more (ids.Outer at) = right_outer at
   right_more (ids.Inner at) = right_inner at
 
-pub right_from : (splits : List Split) (extents : Extents) (rows : List SizedSplit) (place : ℕ) (counts strides : Values) (uneven : LoopId → Bool) → place ≡ length rows → IsRight extents rows counts strides uneven
+pub right_from : (splits : List Split) (extents : Extents) (rows : List SizedSplit) (place : ℕ) (counts strides : Values) (uneven : LoopId → Bool)
+    → place ≡ length rows → IsRight extents rows counts strides uneven
     → IsRight extents (rows_from extents rows splits) (counts_from counts place splits) (strides_from strides place splits) (uneven_from uneven place splits)
 right_from [] extents rows place counts strides uneven e right = right
 right_from (split ∷ splits) extents rows place counts strides uneven e right =
     let row : SizedSplit = row_of (looked_up extents rows split.of) split in
     let longer : suc place ≡ length (rows ++ row ∷ []) = omega (arith, e, length-append rows (row ∷ [])) in
-    right_from splits extents (rows ++ row_of (looked_up extents rows split.of) split ∷ []) (suc place) (more_counts counts place split) (more_strides strides place split) (more_uneven uneven place split) longer
-    (subst (λ (n : ℕ). IsRight extents (rows ++ row_of (looked_up extents rows split.of) split ∷ []) (more_counts counts n split) (more_strides strides n split) (more_uneven uneven n split)) (sym e)
+    right_from splits extents (rows ++ row_of (looked_up extents rows split.of) split ∷ []) (suc place) (more_counts counts place split)
+    (more_strides strides place split) (more_uneven uneven place split) longer
+    (subst (λ (n : ℕ). IsRight extents (rows ++ row_of (looked_up extents rows split.of) split ∷ []) (more_counts counts n split) (more_strides strides n split)
+    (more_uneven uneven n split)) (sym e)
     (right_more extents rows counts strides uneven right split))
 
 get_none : {A : Type 0} (i : ℕ) → slice_get {X = A} [] i ≡ None
@@ -95,9 +110,12 @@ right_begun extents (ids.Outer at) = ap outer_of (get_none at)
 right_begun extents (ids.Inner at) = ap inner_of (get_none at)
 
 -- a table has the sizes of the loops of its splits
-pub right_table : (extents : Extents) (rows : List SizedSplit) → IsTable extents rows → IsRight extents rows (counts_from (whole_counts extents) 0 (splits_of rows)) (strides_from whole_strides 0 (splits_of rows)) (uneven_from even 0 (splits_of rows))
+pub right_table : (extents : Extents) (rows : List SizedSplit) → IsTable extents rows
+    → IsRight extents rows (counts_from (whole_counts extents) 0 (splits_of rows)) (strides_from whole_strides 0 (splits_of rows))
+    (uneven_from even 0 (splits_of rows))
 right_table extents rows is =
-    subst (λ (r : List SizedSplit). IsRight extents r (counts_from (whole_counts extents) 0 (splits_of rows)) (strides_from whole_strides 0 (splits_of rows)) (uneven_from even 0 (splits_of rows))) is
+    subst (λ (r : List SizedSplit). IsRight extents r (counts_from (whole_counts extents) 0 (splits_of rows)) (strides_from whole_strides 0 (splits_of rows))
+    (uneven_from even 0 (splits_of rows))) is
     (right_from (splits_of rows) extents [] 0 (whole_counts extents) whole_strides even refl (right_begun extents))
 
 -- ---- shifts
@@ -111,20 +129,25 @@ and_regrouped true true c = refl
 and_regrouped true false c = refl
 and_regrouped false b c = refl
 
-pub fit_from : (splits : List Split) (extents : Extents) (rows : List SizedSplit) (place : ℕ) (counts strides : Values) (uneven : LoopId → Bool) → place ≡ length rows → IsRight extents rows counts strides uneven
+pub fit_from : (splits : List Split) (extents : Extents) (rows : List SizedSplit) (place : ℕ) (counts strides : Values) (uneven : LoopId → Bool)
+    → place ≡ length rows → IsRight extents rows counts strides uneven
     → list_all row_fits (rows_from extents rows splits) ≡ (list_all row_fits rows && shifts_fit_from counts place splits)
 fit_from [] extents rows place counts strides uneven e right = and_true (list_all row_fits rows)
 fit_from (split ∷ splits) extents rows place counts strides uneven e right =
     let row : SizedSplit = row_of (looked_up extents rows split.of) split in
     let longer : suc place ≡ length (rows ++ row ∷ []) = omega (arith, e, length-append rows (row ∷ [])) in
-    fit_from splits extents (rows ++ row_of (looked_up extents rows split.of) split ∷ []) (suc place) (more_counts counts place split) (more_strides strides place split) (more_uneven uneven place split) longer
-    (subst (λ (n : ℕ). IsRight extents (rows ++ row_of (looked_up extents rows split.of) split ∷ []) (more_counts counts n split) (more_strides strides n split) (more_uneven uneven n split)) (sym e)
+    fit_from splits extents (rows ++ row_of (looked_up extents rows split.of) split ∷ []) (suc place) (more_counts counts place split)
+    (more_strides strides place split) (more_uneven uneven place split) longer
+    (subst (λ (n : ℕ). IsRight extents (rows ++ row_of (looked_up extents rows split.of) split ∷ []) (more_counts counts n split) (more_strides strides n split)
+    (more_uneven uneven n split)) (sym e)
     (right_more extents rows counts strides uneven right split))
     ∙ ap (λ (b : Bool). b && shifts_fit_from (more_counts counts place split) (suc place) splits) (list_all-append row_fits rows (row ∷ []))
-    ∙ ap (λ (b : Bool). (list_all row_fits rows && (b && true)) && shifts_fit_from (more_counts counts place split) (suc place) splits) (fits_is extents rows counts strides uneven right split)
+    ∙ ap (λ (b : Bool). (list_all row_fits rows && (b && true)) && shifts_fit_from (more_counts counts place split) (suc place) splits)
+    (fits_is extents rows counts strides uneven right split)
     ∙ and_regrouped (list_all row_fits rows) (shift_fits counts split) (shifts_fit_from (more_counts counts place split) (suc place) splits)
 
-pub table_fits : (extents : Extents) (rows : List SizedSplit) → IsTable extents rows → list_all row_fits rows ≡ shifts_fit_from (whole_counts extents) 0 (splits_of rows)
+pub table_fits : (extents : Extents) (rows : List SizedSplit) → IsTable extents rows
+    → list_all row_fits rows ≡ shifts_fit_from (whole_counts extents) 0 (splits_of rows)
 table_fits extents rows is =
     ap (list_all row_fits) (sym is)
     ∙ fit_from (splits_of rows) extents [] 0 (whole_counts extents) whole_strides even refl (right_begun extents)
@@ -133,8 +156,10 @@ table_fits extents rows is =
 
 pub bounded_begun : (extents : Extents) → AreBounded extents []
 bounded_begun extents (ids.Whole v) = omega arith
-bounded_begun extents (ids.Outer at) = let e : looked_up extents [] (ids.Outer at) ≡ no_size = ap outer_of (get_none at) in omega (arith, ap (λ (s : LoopSize). s.stride) e)
-bounded_begun extents (ids.Inner at) = let e : looked_up extents [] (ids.Inner at) ≡ no_size = ap inner_of (get_none at) in omega (arith, ap (λ (s : LoopSize). s.stride) e)
+bounded_begun extents (ids.Outer at) = let e : looked_up extents [] (ids.Outer at) ≡ no_size = ap outer_of (get_none at) in
+    omega (arith, ap (λ (s : LoopSize). s.stride) e)
+bounded_begun extents (ids.Inner at) = let e : looked_up extents [] (ids.Inner at) ≡ no_size = ap inner_of (get_none at) in
+    omega (arith, ap (λ (s : LoopSize). s.stride) e)
 
 module _ (extents : Extents) (rows : List SizedSplit) (bounded : AreBounded extents rows) (split : Split) (few : split.factor ≤ 64) where
   abbrev new : SizedSplit
@@ -153,18 +178,22 @@ module _ (extents : Extents) (rows : List SizedSplit) (bounded : AreBounded exte
   bounded_more (ids.Whole v) = still (ids.Whole v)
   bounded_more (ids.Outer at) = elim (cases_eq at (length rows)) [
     | inl e ↦
-        let s : looked_up extents (rows ++ new ∷ []) (ids.Outer at) ≡ new.outer = ap (λ (n : ℕ). outer_of (slice_get (rows ++ new ∷ []) n)) e ∙ ap outer_of (get_last rows new) in
+        let s : looked_up extents (rows ++ new ∷ []) (ids.Outer at) ≡ new.outer = ap (λ (n : ℕ). outer_of (slice_get (rows ++ new ∷ []) n)) e
+        ∙ ap outer_of (get_last rows new) in
         omega (arith, ap (λ (size : LoopSize). size.stride) s, new_stride, last_limit)
     | inr d ↦
-        let s : looked_up extents (rows ++ new ∷ []) (ids.Outer at) ≡ looked_up extents rows (ids.Outer at) = ap outer_of (get_other rows new at (λ e. d (sym e))) in
+        let s : looked_up extents (rows ++ new ∷ []) (ids.Outer at) ≡ looked_up extents rows (ids.Outer at) =
+        ap outer_of (get_other rows new at (λ e. d (sym e))) in
         omega (arith, ap (λ (size : LoopSize). size.stride) s, still (ids.Outer at))
   ]
   bounded_more (ids.Inner at) = elim (cases_eq at (length rows)) [
     | inl e ↦
-        let s : looked_up extents (rows ++ new ∷ []) (ids.Inner at) ≡ new.inner = ap (λ (n : ℕ). inner_of (slice_get (rows ++ new ∷ []) n)) e ∙ ap inner_of (get_last rows new) in
+        let s : looked_up extents (rows ++ new ∷ []) (ids.Inner at) ≡ new.inner = ap (λ (n : ℕ). inner_of (slice_get (rows ++ new ∷ []) n)) e
+        ∙ ap inner_of (get_last rows new) in
         omega (arith, ap (λ (size : LoopSize). size.stride) s, still split.of)
     | inr d ↦
-        let s : looked_up extents (rows ++ new ∷ []) (ids.Inner at) ≡ looked_up extents rows (ids.Inner at) = ap inner_of (get_other rows new at (λ e. d (sym e))) in
+        let s : looked_up extents (rows ++ new ∷ []) (ids.Inner at) ≡ looked_up extents rows (ids.Inner at) =
+        ap inner_of (get_other rows new at (λ e. d (sym e))) in
         omega (arith, ap (λ (size : LoopSize). size.stride) s, still (ids.Inner at))
   ]
 
@@ -175,7 +204,8 @@ limit_below (suc (suc zero)) l = omega arith
 limit_below (suc (suc (suc zero))) l = omega arith
 limit_below (suc (suc (suc (suc n)))) l = absurd (omega arith)
 
-bounded_from : (splits : List Split) (extents : Extents) (rows : List SizedSplit) → AllByRecursion IsFactor splits → AreBounded extents rows → AreBounded extents (rows_from extents rows splits)
+bounded_from : (splits : List Split) (extents : Extents) (rows : List SizedSplit) → AllByRecursion IsFactor splits → AreBounded extents rows
+    → AreBounded extents (rows_from extents rows splits)
 bounded_from [] extents rows factors bounded = bounded
 bounded_from (split ∷ splits) extents rows factors bounded =
     bounded_from splits extents (rows ++ row_of (looked_up extents rows split.of) split ∷ []) factors.1 (bounded_more extents rows bounded split factors.0.few)
@@ -195,7 +225,8 @@ length_splits (first ∷ rows) = omega (arith, length_splits rows)
 -- each stride of a table is small
 pub few_strides : (extents : Extents) (rows : List SizedSplit) → IsKept extents rows → (id : LoopId) → (looked_up extents rows id).stride ≤ 64 ^ 4
 few_strides extents rows kept id =
-    let b : AreBounded extents rows = subst (AreBounded extents) kept.table (bounded_from (splits_of rows) extents [] kept.splits.factors (bounded_begun extents)) in
+    let b : AreBounded extents rows = subst (AreBounded extents) kept.table (bounded_from (splits_of rows) extents [] kept.splits.factors
+    (bounded_begun extents)) in
     omega (arith, b id, limit_most (length rows) (omega (arith, length_splits rows, kept.splits.few)))
 
 -- ---- a loop that makes the table
@@ -214,7 +245,8 @@ splits_more : (rows : List SizedSplit) (added : SizedSplit) (rest : List Split) 
 splits_more [] added rest = refl
 splits_more (first ∷ rows) added rest = ap (λ (xs : List Split). first.split ∷ xs) (splits_more rows added rest)
 
-pub one_more : (extents : Extents) (splits : List Split) (rows : List SizedSplit) (split : Split) (rest : List Split) → RowsLeft extents splits rows (split ∷ rest)
+pub one_more : (extents : Extents) (splits : List Split) (rows : List SizedSplit) (split : Split) (rest : List Split)
+    → RowsLeft extents splits rows (split ∷ rest)
     → RowsLeft extents splits (rows ++ row_of (looked_up extents rows split.of) split ∷ []) rest
 one_more extents splits rows split rest left = record {
   made = left.made;
@@ -225,7 +257,8 @@ one_more extents splits rows split rest left = record {
 }
 
 -- where a loop takes the first of the splits that are left
-module _ (extents : Extents) (splits : List Split) (rows : List SizedSplit) (rest : List Split) (other : Split) (some : 1 ≤ length rest) (left : RowsLeft extents splits rows rest) (seen : List SizedSplit) (size : LoopSize) (seen_is : seen ≡ rows)
+module _ (extents : Extents) (splits : List Split) (rows : List SizedSplit) (rest : List Split) (other : Split) (some : 1 ≤ length rest)
+    (left : RowsLeft extents splits rows rest) (seen : List SizedSplit) (size : LoopSize) (seen_is : seen ≡ rows)
     (size_is : size ≡ looked_up extents seen (get_or rest 0 other).of) where
   abbrev first : Split
   first = get_or rest 0 other
@@ -242,7 +275,8 @@ module _ (extents : Extents) (splits : List Split) (rows : List SizedSplit) (res
       let s : size.stride * first.factor ≡ (looked_up extents rows first.of).stride * first.factor = ap (λ (z : LoopSize). z.stride * first.factor) found in
       omega (arith, s, new_stride extents rows parted.bounded first parted.factors.0.few, limit_below (length rows) l)
 
-  pub next_row : (added : SizedSplit) (longer : List SizedSplit) → added ≡ row_of size (get_or rest 0 other) → longer ≡ rows ++ added ∷ [] → RowsLeft extents splits longer (take (length rest - 1) (drop 1 rest))
+  pub next_row : (added : SizedSplit) (longer : List SizedSplit) → added ≡ row_of size (get_or rest 0 other) → longer ≡ rows ++ added ∷ []
+      → RowsLeft extents splits longer (take (length rest - 1) (drop 1 rest))
   next_row added longer row_is new_is =
       subst (λ (r : List SizedSplit). RowsLeft extents splits r (take (length rest - 1) (drop 1 rest)))
       (sym (new_is ∙ ap (λ (r : SizedSplit). rows ++ r ∷ []) (row_is ∙ ap (λ (z : LoopSize). row_of z first) found)))

@@ -16,7 +16,8 @@ use Rattle.schedule_loops.proofs.Making.{total-append}
 
 -- a nest whose body lists nothing while a loop outside has a value
 pub nest_none : {A : Type 0} (counts : Values) (loops : List Loop) (body : Values → List A) (id : LoopId) (n : ℕ) → total (has_id id) loops ≡ 0
-    → ((values : Values) → InRange counts loops values → values id ≡ n → body values ≡ []) → (values : Values) → values id ≡ n → nest counts loops body values ≡ []
+    → ((values : Values) → InRange counts loops values → values id ≡ n → body values ≡ []) → (values : Values) → values id ≡ n
+    → nest counts loops body values ≡ []
 nest_none counts [] body id n outside none values is = none values (λ i there. absurd (omega arith)) is
 nest_none counts (own ∷ loops) body id n outside none values is =
     nest_none counts loops (λ outer. upto (counts own.id) (λ turn. body (with own.id turn outer))) id n (omega arith)
@@ -31,7 +32,8 @@ nest_none counts (own ∷ loops) body id n outside none values is =
 abbrev pub task : {A : Type 0} → Values → List Loop → LoopId → (Values → List A) → Values → ℕ → List A
 task counts inside id body values turn = nest counts inside body (with id turn values)
 
-pub tasks_are : {A : Type 0} (counts : Values) (inside : List Loop) (own : Loop) (body : Values → List A) (values : Values) → nest counts (inside ++ own ∷ []) body values ≡ upto (counts own.id) (task counts inside own.id body values)
+pub tasks_are : {A : Type 0} (counts : Values) (inside : List Loop) (own : Loop) (body : Values → List A) (values : Values)
+    → nest counts (inside ++ own ∷ []) body values ≡ upto (counts own.id) (task counts inside own.id body values)
 tasks_are counts inside own body values = nest-append counts inside (own ∷ []) body values
 
 pub among_own : (test : Loop → Bool) (inside : List Loop) (own : Loop) → test own ≡ true → IsAmong test (inside ++ own ∷ []) own.id
@@ -40,8 +42,10 @@ among_own test inside own passed =
     omega (arith, total-append (is_one test own.id) inside (own ∷ []))
 
 -- a turn whose body lists nothing
-pub turn_none : {A : Type 0} (counts : Values) (inside : List Loop) (own : Loop) (body : Values → List A) (turn : ℕ) → turn < counts own.id → Unique (inside ++ own ∷ [])
-    → ((values : Values) → InRange counts (inside ++ own ∷ []) values → body values ≡ []) → (values : Values) → nest counts inside body (with own.id turn values) ≡ []
+pub turn_none : {A : Type 0} (counts : Values) (inside : List Loop) (own : Loop) (body : Values → List A) (turn : ℕ) → turn < counts own.id
+    → Unique (inside ++ own ∷ [])
+    → ((values : Values) → InRange counts (inside ++ own ∷ []) values → body values ≡ []) → (values : Values)
+    → nest counts inside body (with own.id turn values) ≡ []
 turn_none counts inside own body turn l unique quiet values =
     let none : total (has_id own.id) inside ≡ 0 = omega (arith, unique own.id, total-append (has_id own.id) inside (own ∷ []), has_same own) in
     nest_none counts inside body own.id turn none
@@ -53,24 +57,26 @@ turn_none counts inside own body turn l unique quiet values =
     (with own.id turn values) (with_same own.id turn values)
 
 module _ {A : Type 0} (test : Loop → Bool) (keep : A → Bool) (counts given : Values) (inside : List Loop) (own : Loop) (body : Values → List A)
-    (unique : Unique (inside ++ own ∷ [])) (passed : test own ≡ true) (only : Only test counts (inside ++ own ∷ []) given (λ values. filter keep (body values))) where
-  -- Only one task visits what is filter.
-  pub task_apart : (values : Values) (turn : ℕ) → turn < counts own.id → turn ≢ given own.id → filter keep (task counts inside own.id body values turn) ≡ []
-  task_apart values turn l d =
-      let none : total (has_id own.id) inside ≡ 0 = omega (arith, unique own.id, total-append (has_id own.id) inside (own ∷ []), has_same own) in
-      filter-nest keep counts inside body (with own.id turn values)
-      ∙ nest_none counts inside (λ v. filter keep (body v)) own.id turn none
-      (λ v in_range here. only v
-      (λ id there. elim (cases_id own.id id) [
-        | inl e ↦ subst (λ (i : LoopId). v i < counts i) e (omega (arith, here, l))
-        | inr d ↦ in_range id (omega (arith, there, total-append (has_id id) inside (own ∷ []), has_other id own d))
-      ])
-      own.id (among_own test inside own passed) (λ e. d (sym here ∙ e)))
-      (with own.id turn values) (with_same own.id turn values)
+    (unique : Unique (inside ++ own ∷ [])) (passed : test own ≡ true) (only : Only test counts (inside ++ own ∷ []) given (λ values. filter keep (body values)))
+  where
+    -- Only one task visits what is filter.
+    pub task_apart : (values : Values) (turn : ℕ) → turn < counts own.id → turn ≢ given own.id → filter keep (task counts inside own.id body values turn) ≡ []
+    task_apart values turn l d =
+        let none : total (has_id own.id) inside ≡ 0 = omega (arith, unique own.id, total-append (has_id own.id) inside (own ∷ []), has_same own) in
+        filter-nest keep counts inside body (with own.id turn values)
+        ∙ nest_none counts inside (λ v. filter keep (body v)) own.id turn none
+        (λ v in_range here. only v
+        (λ id there. elim (cases_id own.id id) [
+          | inl e ↦ subst (λ (i : LoopId). v i < counts i) e (omega (arith, here, l))
+          | inr d ↦ in_range id (omega (arith, there, total-append (has_id id) inside (own ∷ []), has_other id own d))
+        ])
+        own.id (among_own test inside own passed) (λ e. d (sym here ∙ e)))
+        (with own.id turn values) (with_same own.id turn values)
 
 -- ---- tasks in any order
 
-none_listed : {A : Type 0} (keep : A → Bool) (tasks : ℕ → List A) (order : List ℕ) → ((n : ℕ) → 1 ≤ times n order → filter keep (tasks n) ≡ []) → filter keep (in_turn tasks order) ≡ []
+none_listed : {A : Type 0} (keep : A → Bool) (tasks : ℕ → List A) (order : List ℕ) → ((n : ℕ) → 1 ≤ times n order → filter keep (tasks n) ≡ [])
+    → filter keep (in_turn tasks order) ≡ []
 none_listed keep tasks [] none = refl
 none_listed {A} keep tasks (first ∷ others) none =
     let e : (first == first) ≡ true = eq-eqb first first refl in
@@ -80,7 +86,8 @@ none_listed {A} keep tasks (first ∷ others) none =
     ∙ none_listed keep tasks others (λ n there. none n (omega arith))
 
 -- what one of the tasks lists, if the others list nothing
-one_listed : {A : Type 0} (keep : A → Bool) (tasks : ℕ → List A) (owner : ℕ) (order : List ℕ) → times owner order ≡ 1 → ((n : ℕ) → 1 ≤ times n order → n ≢ owner → filter keep (tasks n) ≡ [])
+one_listed : {A : Type 0} (keep : A → Bool) (tasks : ℕ → List A) (owner : ℕ) (order : List ℕ) → times owner order ≡ 1 → ((n : ℕ) → 1 ≤ times n order → n ≢ owner
+    → filter keep (tasks n) ≡ [])
     → filter keep (in_turn tasks order) ≡ filter keep (tasks owner)
 one_listed keep tasks owner [] once none = absurd (omega arith)
 one_listed {A} keep tasks owner (first ∷ others) once none = elim (cases_eq first owner) [
@@ -114,7 +121,8 @@ any_order keep tasks count owner order is l none =
     ∙ sym (filter-upto keep count tasks ∙ upto_one count owner (λ n. filter keep (tasks n)) l none)
 
 -- Where no task lists anything that is filter, they may come in any order too.
-pub any_order_none : {A : Type 0} (keep : A → Bool) (tasks : ℕ → List A) (count : ℕ) (order : List ℕ) → IsOrder count order → ((n : ℕ) → n < count → filter keep (tasks n) ≡ []) → filter keep (in_turn tasks order) ≡ []
+pub any_order_none : {A : Type 0} (keep : A → Bool) (tasks : ℕ → List A) (count : ℕ) (order : List ℕ) → IsOrder count order
+    → ((n : ℕ) → n < count → filter keep (tasks n) ≡ []) → filter keep (in_turn tasks order) ≡ []
 any_order_none keep tasks count order is none =
     none_listed keep tasks order (λ n there. elim (cases_lt n count) [
       | inl below ↦ none n below

@@ -1,5 +1,6 @@
 -- Turns, one after the other.
-use Rattle.std.proofs.Common.{◌≡◌, ◌≢◌, ℕ, zero, suc, ◌+◌, ◌-◌, ◌*◌, ◌<◌, ◌≤◌, Bool, cond, List, [], ◌∷◌, ◌++◌, refl, sym, ap, ◌∙◌, arith, add-zero, add-suc, append_assoc, inl, inr}
+use Rattle.std.proofs.Common.{◌≡◌, ◌≢◌, ℕ, zero, suc, ◌+◌, ◌-◌, ◌*◌, ◌<◌, ◌≤◌, Bool, cond, List, [], ◌∷◌, ◌++◌, refl, sym, ap, ◌∙◌, arith, add-zero, add-suc}
+use Rattle.std.proofs.Common.{append_assoc, inl, inr}
 use Rattle.std.specs.Prelude.{nat_lt, filter}
 use Rattle.std.proofs.lemmas.List.{append-nil}
 use Rattle.std.proofs.lemmas.List.Elements.{filter-append}
@@ -40,7 +41,8 @@ upto_one {A} (suc n) k f lk none = elim (cases_eq k n) [
   | inl e ↦
       ap (λ (xs : List A). xs ++ f n) (upto_none n f (λ v l. none v (omega arith) (omega arith))) ∙ ap f (sym e)
   | inr d ↦
-      ap (λ (xs : List A). xs ++ f n) (upto_one n k f (omega (arith, d)) (λ v l. none v (omega arith))) ∙ ap (λ (xs : List A). f k ++ xs) (none n (omega arith) (λ e. d (sym e)))
+      ap (λ (xs : List A). xs ++ f n) (upto_one n k f (omega (arith, d)) (λ v l. none v (omega arith)))
+      ∙ ap (λ (xs : List A). f k ++ xs) (none n (omega arith) (λ e. d (sym e)))
       ∙ append-nil (f k)
 ]
 

@@ -58,7 +58,8 @@ record Finds {A : Type 0} (counts : Values) (loops : List Loop) (list : Values �
   pub in_range : InRange counts loops turns
   pub found : Contains (list turns) a
 
-finds : {A : Type 0} (counts : Values) (loops : List Loop) (list : Values → List A) (values : Values) (a : A) → Contains (nest counts loops list values) a → Finds counts loops list a
+finds : {A : Type 0} (counts : Values) (loops : List Loop) (list : Values → List A) (values : Values) (a : A) → Contains (nest counts loops list values) a
+    → Finds counts loops list a
 finds counts [] list values a there = record { turns = values; in_range = λ id in_it. absurd (omega (arith, in_it)); found = there }
 finds counts (own ∷ outside) list values a there =
     let f = finds counts outside (λ outer. upto (counts own.id) (λ turn. list (with own.id turn outer))) values a there in
@@ -75,9 +76,11 @@ visits_are_made extents stage inside outside parts visit there =
     let body = over_loops extents stage.splits (λ whole. visit_of extents whole ∷ []) in
     let nested : Contains (nest (counts extents stage.splits) outside (nest (counts extents stage.splits) inside body) zeros) visit =
     subst (λ xs. Contains xs visit)
-    (ap (λ (ls : List Loop). nest (counts extents stage.splits) ls body zeros) parts ∙ nest-append (counts extents stage.splits) inside outside body zeros) there in
+    (ap (λ (ls : List Loop). nest (counts extents stage.splits) ls body zeros) parts ∙ nest-append (counts extents stage.splits) inside outside body zeros)
+    there in
     let f = finds (counts extents stage.splits) outside (nest (counts extents stage.splits) inside body) zeros visit nested in
-    let b = behind (visit_of extents) (wholes extents stage.splits inside f.turns) visit (subst (λ xs. Contains xs visit) (visits_of_wholes extents stage.splits inside f.turns) f.found) in
+    let b = behind (visit_of extents) (wholes extents stage.splits inside f.turns) visit (subst (λ xs. Contains xs visit) (visits_of_wholes extents stage.splits
+    inside f.turns) f.found) in
     record {
       turns = f.turns;
       are = are_turns (counts extents stage.splits) outside f.turns f.in_range;

@@ -1,5 +1,6 @@
 -- Iterations write apart, where the left side names points apart of slices apart.
-use Rattle.std.proofs.Common.{◌≡◌, ◌≢◌, ℕ, zero, suc, ◌<◌, Bool, true, false, cond, List, [], ◌∷◌, ◌++◌, length, map, Option, refl, sym, subst, ◌∙◌, arith, inl, inr}
+use Rattle.std.proofs.Common.{◌≡◌, ◌≢◌, ℕ, zero, suc, ◌<◌, Bool, true, false, cond, List, [], ◌∷◌, ◌++◌, length, map, Option, refl, sym, subst, ◌∙◌, arith, inl}
+use Rattle.std.proofs.Common.{inr}
 use Rattle.std.specs.Prelude.{Contains, slice_index_or}
 use Rattle.std.specs.List.{AllByRecursion}
 use Rattle.std.proofs.lemmas.Bool.{cases_eq, eq-eqb}
@@ -41,7 +42,8 @@ module _ (P : Visit → Type 0) (left : Visit → ℕ × ℕ) (point : ℕ × �
 
   first_listed : (visit : Visit) (visits : List Visit) → slice visit.x visit.y (visit ∷ visits) ≢ []
   first_listed visit visits e =
-      let here : slice visit.x visit.y (visit ∷ visits) ≡ visit ∷ slice visit.x visit.y visits = rw (eq-eqb visit.x visit.x refl, eq-eqb visit.y visit.y refl) refl in
+      let here : slice visit.x visit.y (visit ∷ visits) ≡ visit ∷ slice visit.x visit.y visits = rw (eq-eqb visit.x visit.x refl, eq-eqb visit.y visit.y refl)
+      refl in
       let wrong : visit ∷ slice visit.x visit.y visits ≡ [] = sym here ∙ e in
       cc
 
@@ -49,24 +51,36 @@ module _ (P : Visit → Type 0) (left : Visit → ℕ × ℕ) (point : ℕ × �
   later_at true first visits some e = cc
   later_at false first visits some e = some e
 
-  pub behind : (visits : List Visit) (k : ℕ) → k < length (map left visits) → slice_index_or (map left visits) k point ≡ point → AllByRecursion P visits → Behind visits
+  pub behind : (visits : List Visit) (k : ℕ) → k < length (map left visits) → slice_index_or (map left visits) k point ≡ point → AllByRecursion P visits
+      → Behind visits
   behind [] k l e all = absurd (omega arith)
   behind (visit ∷ visits) zero l e all = record { visit = visit; holds = all.0; left_is = e; listed = first_listed visit visits }
   behind (visit ∷ visits) (suc k) l e all =
       let b = behind visits k (omega arith) e all.1 in
-      record { visit = b.visit; holds = b.holds; left_is = b.left_is; listed = later_at (is_slice b.visit.x b.visit.y visit) visit (slice b.visit.x b.visit.y visits) b.listed }
+      record {
+        visit = b.visit;
+        holds = b.holds;
+        left_is = b.left_is;
+        listed = later_at (is_slice b.visit.x b.visit.y visit) visit (slice b.visit.x b.visit.y
+            visits) b.listed;
+      }
 
-module _ (func : Func) (update : Option Update) (extents : Extents) (stage : Stage) (is : IsStageOf func update stage) (rules : KeepsRules stage) (left : Visit → ℕ × ℕ)
-    (apart : (one other : Visit) → IsVisitOf func update extents one → IsVisitOf func update extents other → left one ≡ left other → (one.x ≡ other.x) × (one.y ≡ other.y)) where
+module _ (func : Func) (update : Option Update) (extents : Extents) (stage : Stage) (is : IsStageOf func update stage) (rules : KeepsRules stage) (left : Visit
+    → ℕ × ℕ)
+    (apart : (one other : Visit) → IsVisitOf func update extents one → IsVisitOf func update extents other → left one ≡ left other
+    → (one.x ≡ other.x) × (one.y ≡ other.y)) where
   within : (number : ℕ) → number < iteration_count extents stage → AllByRecursion (IsVisitOf func update extents) (iteration extents stage number)
   within number l =
       all_of_turn (IsVisitOf func update extents) (iteration_count extents stage) (iteration extents stage)
-      (subst (AllByRecursion (IsVisitOf func update extents)) (all_iterations func update extents stage is rules) (visits_within func update extents stage is)) number l
+      (subst (AllByRecursion (IsVisitOf func update extents)) (all_iterations func update extents stage is rules) (visits_within func update extents stage is))
+      number l
 
-  found : (number : ℕ) → number < iteration_count extents stage → (point : ℕ × ℕ) → Contains (points_written left extents stage number) point → Behind (IsVisitOf func update extents) left point (iteration extents stage number)
+  found : (number : ℕ) → number < iteration_count extents stage → (point : ℕ × ℕ) → Contains (points_written left extents stage number) point
+      → Behind (IsVisitOf func update extents) left point (iteration extents stage number)
   found number l point there = behind (IsVisitOf func update extents) left point (iteration extents stage number) there.0 there.1 there.2 (within number l)
 
-  owned : (x y number : ℕ) → number < iteration_count extents stage → slice x y (iteration extents stage number) ≢ [] → (o : HasOwner (iteration_count extents stage) (iteration extents stage) x y) → number ≡ o.owner
+  owned : (x y number : ℕ) → number < iteration_count extents stage → slice x y (iteration extents stage number) ≢ []
+      → (o : HasOwner (iteration_count extents stage) (iteration extents stage) x y) → number ≡ o.owner
   owned x y number l some o = elim (cases_eq number o.owner) [ inl e ↦ e | inr d ↦ absurd (some (o.no_other number l d)) ]
 
   pub written_apart : (first second : ℕ) → first < iteration_count extents stage → second < iteration_count extents stage → (point : ℕ × ℕ)
@@ -77,5 +91,6 @@ module _ (func : Func) (update : Option Update) (extents : Extents) (stage : Sta
       let same = apart f.visit s.visit f.holds s.holds (f.left_is ∙ sym s.left_is) in
       let o = slice_owner func update extents stage is rules f.visit.x f.visit.y f.holds.slice in
       let there : slice f.visit.x f.visit.y (iteration extents stage second) ≢ [] =
-      subst (λ (n : ℕ). slice n f.visit.y (iteration extents stage second) ≢ []) (sym same.0) (subst (λ (n : ℕ). slice s.visit.x n (iteration extents stage second) ≢ []) (sym same.1) s.listed) in
+      subst (λ (n : ℕ). slice n f.visit.y (iteration extents stage second) ≢ []) (sym same.0)
+      (subst (λ (n : ℕ). slice s.visit.x n (iteration extents stage second) ≢ []) (sym same.1) s.listed) in
       owned f.visit.x f.visit.y first lf f.listed o ∙ sym (owned f.visit.x f.visit.y second ls there o)

@@ -13,7 +13,8 @@ use Rattle.schedule.specs.declared.plans.FuncPlan.{FuncPlan}
 use Rattle.schedule.specs.declared.standings.Standing.{Standing}
 use Rattle.schedule.specs.Accepted.{IsPlan, IsLegal}
 use Rattle.schedule_loops.specs.declared.extents.Extents.{Extents}
-use Rattle.schedule_loops.specs.Visits.{Values, with, counts, extent_of, shifts_fit, AreSplits, Visit, nest, over_loops, zeros, upto, visit_of, visits, slice, rising, parallel, iteration, iteration_count, points_written, in_turn, IsOrder, HasOwner}
+use Rattle.schedule_loops.specs.Visits.{Values, with, counts, extent_of, shifts_fit, AreSplits, Visit, nest, over_loops, zeros, upto, visit_of, visits, slice}
+use Rattle.schedule_loops.specs.Visits.{rising, parallel, iteration, iteration_count, points_written, in_turn, IsOrder, HasOwner}
 use Rattle.schedule_loops.specs.Reach.{base, AgreeWhereUneven, has_uneven, wholes, IsReached}
 use Rattle.schedule_loops.specs.Runs.{AreTurns}
 use Rattle.schedule_loops.specs.Stages.{IsStageOf, KeepsRules, IsVisitOf, first_loops, has_variable, is_slice_of, points_of}
@@ -96,7 +97,8 @@ IterationsInAnyOrder = (func : Func) (update : Option Update) (extents : Extents
 -- While the loops outside are in given turns, those inside visit values of a variable that lie in its extent; and between a base and
 -- what the loops inside can add to it, unless an uneven loop is among those outside.
 abbrev pub VariablesAreReached : Type 0
-VariablesAreReached = (func : Func) (update : Option Update) (extents : Extents) (stage : Stage) (inside outside : List Loop) (variable : Variable) (turns : Values)
+VariablesAreReached = (func : Func) (update : Option Update) (extents : Extents) (stage : Stage) (inside outside : List Loop) (variable : Variable)
+    (turns : Values)
     → IsStageOf func update stage
     → stage.loops ≡ inside ++ outside → has_variable variable (first_loops func update) ≡ true
     → AreTurns (counts extents stage.splits) outside turns

@@ -43,7 +43,8 @@ turns_of own turns id = if is_among own id then turns id else 0
 -- what the stage visits in all turns of its innermost loop, while its other loops are in these turns
 abbrev pub run_of : Extents → Stage → loops.Values → List Visit
 run_of extents stage turns =
-    nest (counts extents stage.splits) (innermost stage.loops) (over_loops extents stage.splits (λ whole. visit_of extents whole ∷ [])) (turns_of (outside_innermost stage.loops) turns)
+    nest (counts extents stage.splits) (innermost stage.loops) (over_loops extents stage.splits (λ whole. visit_of extents whole ∷ []))
+    (turns_of (outside_innermost stage.loops) turns)
 
 -- all runs of the stage, one for each of the turns of its other loops
 abbrev pub runs : Extents → Stage → List (List Visit)

@@ -3,7 +3,8 @@
 -- A split loop's value is `outer * factor + inner`; under a shift the least of `outer * factor` and extent - factor stands in place of the
 -- product. What lies past the extent is left out.
 -- This project's own.
-use Rattle.std.specs.Prelude.{ℕ, zero, suc, ◌+◌, ◌-◌, ◌*◌, min, Bool, ◌&&◌, ◌==◌, nat_lt, if◌then◌else◌, List, [], ◌∷◌, ◌++◌, filter, ◌≤◌, ◌/◌, true, false, not, ◌||◌, nat_le, length, ◌≡◌, ◌≢◌, ◌<◌, map, Option, Some, None}
+use Rattle.std.specs.Prelude.{ℕ, zero, suc, ◌+◌, ◌-◌, ◌*◌, min, Bool, ◌&&◌, ◌==◌, nat_lt, if◌then◌else◌, List, [], ◌∷◌, ◌++◌, filter, ◌≤◌, ◌/◌, true, false}
+use Rattle.std.specs.Prelude.{not, ◌||◌, nat_le, length, ◌≡◌, ◌≢◌, ◌<◌, map, Option, Some, None}
 use Rattle.std.specs.List.{AllByRecursion, list_any}
 use Rattle.halide_pipeline.specs.declared.expressions.Variable.TheVariants as variables
 use Rattle.halide_pipeline.specs.declared.expressions.Variable.{Variable}

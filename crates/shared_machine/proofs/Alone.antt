@@ -48,5 +48,6 @@ module _ (image : ImageContents) (log : LogState) (limit : ℕ) (one : log.harts
           (omega (arith, counted, few));
       ends = λ hart below.
           subst (λ k. count_of (with_turns log 0 made).turns k < count_of log.turns k + limit → count_of (with_turns log 0 made).turns k < most_turns
-          → (hart_at (state_after image log.harts (with_turns log 0 made).turns) k).status ≢ Running) (let e : 0 ≡ hart = omega (arith, below, one) in e) stopped;
+          → (hart_at (state_after image log.harts (with_turns log 0 made).turns) k).status ≢ Running) (let e : 0 ≡ hart = omega (arith, below, one) in e)
+          stopped;
     }

@@ -1,5 +1,6 @@
 -- Turns of one hart, one after the other, all but the last of which step.
-use Rattle.std.proofs.Common.{◌≡◌, ◌≢◌, ℕ, zero, suc, ◌+◌, ◌-◌, ◌*◌, ◌%◌, ◌<◌, ◌≤◌, ◌==◌, Bool, if◌then◌else◌, cond, List, [], ◌∷◌, ◌++◌, All, length, take, replicate, Some, refl, sym, ap, ◌∙◌, subst, arith, eq-eqb, ne_eqb}
+use Rattle.std.proofs.Common.{◌≡◌, ◌≢◌, ℕ, zero, suc, ◌+◌, ◌-◌, ◌*◌, ◌%◌, ◌<◌, ◌≤◌, ◌==◌, Bool, if◌then◌else◌, cond, List, [], ◌∷◌, ◌++◌, All, length, take}
+use Rattle.std.proofs.Common.{replicate, Some, refl, sym, ap, ◌∙◌, subst, arith, eq-eqb, ne_eqb}
 use Rattle.std.specs.Prelude.{slice_get}
 use Rattle.std.proofs.lemmas.List.{take-append-le, length-take, length-append, replicate_more}
 use Rattle.std.proofs.lemmas.List.Sums.{sum_by-append}
@@ -51,10 +52,12 @@ count-none one hart (suc made) apart =
     let c = count-one one hart (replicate made one) in omega (arith, h, e, c)
 
 pub count-more-here : (turns : List ℕ) (hart made : ℕ) → count_of (turns ++ replicate made hart) hart ≡ count_of turns hart + made
-count-more-here turns hart made = let h = sum_by-append (λ turn. cond (turn == hart) 1 0) turns (replicate made hart) in let s = count-same hart made in omega (arith, h, s)
+count-more-here turns hart made = let h = sum_by-append (λ turn. cond (turn == hart) 1 0) turns (replicate made hart) in let s = count-same hart made in
+    omega (arith, h, s)
 
 pub count-more-other : (turns : List ℕ) (one made hart : ℕ) → one ≢ hart → count_of (turns ++ replicate made one) hart ≡ count_of turns hart
-count-more-other turns one made hart apart = let h = sum_by-append (λ turn. cond (turn == hart) 1 0) turns (replicate made one) in let s = count-none one hart made apart in omega (arith, h, s)
+count-more-other turns one made hart apart = let h = sum_by-append (λ turn. cond (turn == hart) 1 0) turns (replicate made one) in let s =
+    count-none one hart made apart in omega (arith, h, s)
 
 all-same : (P : ℕ → Type 0) (hart made : ℕ) → P hart → All P (replicate made hart)
 all-same P hart zero p = All-nil P
@@ -74,7 +77,8 @@ log-more log hart made is below room = record {
 
 -- the last turn of a log with one more
 pub last-pushed : (turns : List ℕ) (hart : ℕ) → slice_get (turns ++ hart ∷ []) (length (turns ++ hart ∷ []) - 1) ≡ Some hart
-last-pushed turns hart = ap (slice_get (turns ++ hart ∷ [])) (let h = length-append turns (hart ∷ []) in let e : length (turns ++ hart ∷ []) - 1 ≡ length turns = omega (arith, h) in e) ∙ go turns
+last-pushed turns hart = ap (slice_get (turns ++ hart ∷ [])) (let h = length-append turns (hart ∷ []) in let e : length (turns ++ hart ∷ []) - 1
+    ≡ length turns = omega (arith, h) in e) ∙ go turns
   where
     go : (turns : List ℕ) → slice_get (turns ++ hart ∷ []) (length turns) ≡ Some hart
     go [] = refl
@@ -90,7 +94,8 @@ one-and-more turns hart made some = go turns ∙ ap (λ n. turns ++ replicate n 
 
 -- ---- tallies
 
-pub tally-append : (state : State) (some more : List ℕ) (hart : ℕ) → tally_from state (some ++ more) hart ≡ tally_from state some hart + tally_from (run state some) more hart
+pub tally-append : (state : State) (some more : List ℕ) (hart : ℕ) → tally_from state (some ++ more) hart ≡ tally_from state some hart + tally_from
+    (run state some) more hart
 tally-append state [] more hart = omega (arith)
 tally-append state (one ∷ some) more hart = let h = tally-append (turn state one) some more hart in omega (arith, h)
 
@@ -99,26 +104,34 @@ tally-steps state hart zero steps = refl
 tally-steps state hart (suc made) steps =
     let h = tally-steps (turn state hart) hart made (λ k below. steps (suc k) (omega (arith, below))) in
     let code : code_of (outcome state hart) ≡ 16 = ap code_of (steps 0 (omega (arith))) in
-    let e = ap (λ (b : Bool). (if b then code_of (outcome state hart) else 0) + tally_from (turn state hart) (replicate made hart) hart) (eq-eqb hart hart refl) in
+    let e = ap (λ (b : Bool). (if b then code_of (outcome state hart) else 0) + tally_from (turn state hart) (replicate made hart) hart) (eq-eqb hart hart refl)
+    in
     omega (arith, h, code, e)
 
-pub tally-more-other : (state : State) (turns : List ℕ) (one made hart : ℕ) → one ≢ hart → tally_from state (turns ++ replicate made one) hart ≡ tally_from state turns hart
-tally-more-other state turns one made hart apart = let h = tally-append state turns (replicate made one) hart in let z = none (run state turns) made in omega (arith, h, z)
+pub tally-more-other : (state : State) (turns : List ℕ) (one made hart : ℕ) → one ≢ hart → tally_from state (turns ++ replicate made one) hart
+    ≡ tally_from state turns hart
+tally-more-other state turns one made hart apart = let h = tally-append state turns (replicate made one) hart in let z = none (run state turns) made in
+    omega (arith, h, z)
   where
     none : (state : State) (made : ℕ) → tally_from state (replicate made one) hart ≡ 0
     none state zero = refl
     none state (suc made) =
         let h = none (turn state one) made in
-        let e = ap (λ (b : Bool). (if b then code_of (outcome state one) else 0) + tally_from (turn state one) (replicate made one) hart) (ne_eqb one hart apart) in
+        let e = ap (λ (b : Bool). (if b then code_of (outcome state one) else 0) + tally_from (turn state one) (replicate made one) hart)
+        (ne_eqb one hart apart) in
         omega (arith, h, e)
 
-pub tally-more-here : (state : State) (turns : List ℕ) (hart made : ℕ) (last : Outcome) → 1 ≤ made → StepsOn (run state turns) hart (made - 1) → last ≡ outcome (after_turns (run state turns) hart (made - 1)) hart
+pub tally-more-here : (state : State) (turns : List ℕ) (hart made : ℕ) (last : Outcome) → 1 ≤ made → StepsOn (run state turns) hart (made - 1)
+    → last ≡ outcome (after_turns (run state turns) hart (made - 1)) hart
     → tally_from state (turns ++ replicate made hart) hart ≡ tally_from state turns hart + (16 * (made - 1) + code_of last)
 tally-more-here state turns hart made last some steps is =
     let start = run state turns in
-    let whole : replicate (made - 1) hart ++ hart ∷ [] ≡ replicate made hart = replicate_more (made - 1) hart ∙ ap (λ n. replicate n hart) (let e : made - 1 + 1 ≡ made = omega (arith, some) in e) in
+    let whole : replicate (made - 1) hart ++ hart ∷ [] ≡ replicate made hart = replicate_more (made - 1) hart
+    ∙ ap (λ n. replicate n hart) (let e : made - 1 + 1 ≡ made = omega (arith, some) in e) in
     let a = tally-append state turns (replicate made hart) hart in
-    let b : tally_from start (replicate made hart) hart ≡ tally_from start (replicate (made - 1) hart) hart + code_of last = ap (λ xs. tally_from start xs hart) (sym whole) ∙ tally-push-here start (replicate (made - 1) hart) hart ∙ ap (λ o. tally_from start (replicate (made - 1) hart) hart + code_of o) (sym is) in
+    let b : tally_from start (replicate made hart) hart ≡ tally_from start (replicate (made - 1) hart) hart + code_of last = ap (λ xs. tally_from start xs hart)
+    (sym whole) ∙ tally-push-here start (replicate (made - 1) hart) hart ∙ ap (λ o. tally_from start (replicate (made - 1) hart) hart + code_of o) (sym is)
+    in
     let s = tally-steps start hart (made - 1) steps in
     omega (arith, a, b, s)
 
@@ -130,14 +143,18 @@ length-run state (one ∷ turns) = length-run (turn state one) turns ∙ length-
 
 -- the last turn changes nothing exactly where the tally before all of them is no multiple of 16
 pub idle-at-last : (image : ImageContents) (harts hart : ℕ) (turns : List ℕ) (machine : State) (made : ℕ) (last : Outcome) (tallied : ℕ)
-    → machine ≡ state_after image harts turns → length machine.harts ≡ harts → hart < harts → StepsOn machine hart (made - 1) → last ≡ outcome (after_turns machine hart (made - 1)) hart → tallied ≡ tally image harts turns hart
+    → machine ≡ state_after image harts turns → length machine.harts ≡ harts → hart < harts → StepsOn machine hart (made - 1)
+    → last ≡ outcome (after_turns machine hart (made - 1)) hart → tallied ≡ tally image harts turns hart
     → (last ≡ Idle → tallied % 16 ≢ 0) × (tallied % 16 ≢ 0 → last ≡ Idle)
 idle-at-last image harts hart turns machine made last tallied replays all below steps is sum =
     let more = replicate (made - 1) hart in
     let start = machine_of image harts in
-    let now : after_turns machine hart (made - 1) ≡ state_after image harts (turns ++ more) = ap (λ s. run s more) replays ∙ sym (run-append start turns more) in
+    let now : after_turns machine hart (made - 1) ≡ state_after image harts (turns ++ more) = ap (λ s. run s more) replays
+    ∙ sym (run-append start turns more) in
     let t = tally-append start turns more hart in
-    let s : tally_from (run start turns) more hart ≡ 16 * (made - 1) = ap (λ m. tally_from m more hart) (sym replays) ∙ tally-steps machine hart (made - 1) steps in
-    let told = idle-after image harts hart (turns ++ more) (after_turns machine hart (made - 1)) last (tallied + 16 * (made - 1)) now (length-run machine more ∙ all) below is (omega (arith, t, s, sum)) in
+    let s : tally_from (run start turns) more hart ≡ 16 * (made - 1) = ap (λ m. tally_from m more hart) (sym replays)
+    ∙ tally-steps machine hart (made - 1) steps in
+    let told = idle-after image harts hart (turns ++ more) (after_turns machine hart (made - 1)) last (tallied + 16 * (made - 1)) now (length-run machine more
+    ∙ all) below is (omega (arith, t, s, sum)) in
     let same : (tallied + 16 * (made - 1)) % 16 ≡ tallied % 16 = omega (arith) in
     ((λ idle zero. told.0 idle (same ∙ zero)), (λ apart. told.1 (λ zero. apart (sym same ∙ zero))))

@@ -1,5 +1,6 @@
 -- Turns that are made again, and what is counted of them.
-use Rattle.std.proofs.Common.{◌≡◌, ◌≢◌, ℕ, zero, suc, ◌+◌, ◌-◌, ◌*◌, ◌<◌, ◌≤◌, ◌==◌, Bool, true, false, if◌then◌else◌, List, [], ◌∷◌, ◌++◌, length, take, drop, set, replicate, Some, refl, sym, ap, ◌∙◌, arith, ne_eqb}
+use Rattle.std.proofs.Common.{◌≡◌, ◌≢◌, ℕ, zero, suc, ◌+◌, ◌-◌, ◌*◌, ◌<◌, ◌≤◌, ◌==◌, Bool, true, false, if◌then◌else◌, List, [], ◌∷◌, ◌++◌, length, take, drop}
+use Rattle.std.proofs.Common.{set, replicate, Some, refl, sym, ap, ◌∙◌, arith, ne_eqb}
 use Rattle.std.specs.Prelude.{slice_index}
 use Rattle.std.specs.List.{AllByRecursion}
 use Rattle.std.proofs.Math.Seq.{take-add}
@@ -21,13 +22,16 @@ use Rattle.shared_machine.proofs.Stopping.{stopped-adds, tally-apart, trap-few}
 
 -- ---- tallies of turns of one hart
 
-pub tally-one-more : (state : State) (hart made : ℕ) → tally_more state hart (made + 1) ≡ tally_more state hart made + code_of (outcome (after_turns state hart made) hart)
+pub tally-one-more : (state : State) (hart made : ℕ) → tally_more state hart (made + 1) ≡ tally_more state hart made + code_of
+    (outcome (after_turns state hart made) hart)
 tally-one-more state hart made = ap (λ turns. tally_from state turns hart) (sym (replicate_more made hart)) ∙ tally-push-here state (replicate made hart) hart
 
-pub tally-resting : (state : State) (hart made turns : ℕ) → made ≤ turns → hart < length (after_turns state hart made).harts → (hart_at (after_turns state hart made) hart).status ≢ Running → tally_more state hart turns ≡ tally_more state hart made
+pub tally-resting : (state : State) (hart made turns : ℕ) → made ≤ turns → hart < length (after_turns state hart made).harts
+    → (hart_at (after_turns state hart made) hart).status ≢ Running → tally_more state hart turns ≡ tally_more state hart made
 tally-resting state hart made turns within below rests =
     let parts : turns ≡ made + (turns - made) = omega (arith, within) in
-    let whole : replicate turns hart ≡ replicate made hart ++ replicate (turns - made) hart = ap (λ n. replicate n hart) parts ∙ sym (replicate-append-replicate made (turns - made) hart) in
+    let whole : replicate turns hart ≡ replicate made hart ++ replicate (turns - made) hart = ap (λ n. replicate n hart) parts
+    ∙ sym (replicate-append-replicate made (turns - made) hart) in
     let a = tally-append state (replicate made hart) (replicate (turns - made) hart) hart in
     let z = (stopped-adds (after_turns state hart made) (replicate (turns - made) hart) hart below rests).0 in
     let e = ap (λ ts. tally_from state ts hart) whole in omega (arith, a, z, e)
@@ -61,13 +65,20 @@ tally-more-few state hart made = let f = tally-few state (replicate made hart) h
 pub take-run : (turns : List ℕ) (place hart count : ℕ) → Stand turns place hart count → take (place + count) turns ≡ take place turns ++ replicate count hart
 take-run turns place hart count stand =
     take-add place count turns
-    ∙ ap (λ ts. take place turns ++ ts) (ap (take count) stand.parts ∙ take-append-le count (replicate count hart) (drop (place + count) turns) (omega (arith, length-replicate count hart)) ∙ take-replicate count count hart (omega (arith)))
+    ∙ ap (λ ts. take place turns ++ ts) (ap (take count) stand.parts ∙ take-append-le count (replicate count hart) (drop (place + count) turns)
+    (omega (arith, length-replicate count hart)) ∙ take-replicate count count hart (omega (arith)))
 
-pub next-is : (log : LogState) (place hart count : ℕ) → IsLog log → run_at log.turns place ≡ Some (hart, count) → Stand log.turns place hart count × (hart < log.harts)
-next-is log place hart count is e = (run_at-stands log.turns place hart count e, run_at-below log.harts log.turns place hart count (recursion_from_All (λ turn. turn < log.harts) log.turns is.turns_below) e)
+pub next-is : (log : LogState) (place hart count : ℕ) → IsLog log → run_at log.turns place ≡ Some (hart, count)
+    → Stand log.turns place hart count × (hart < log.harts)
+next-is log place hart count is e = (
+  run_at-stands log.turns place hart count e,
+  run_at-below log.harts log.turns place hart count
+      (recursion_from_All (λ turn. turn < log.harts) log.turns is.turns_below) e,
+)
 
 -- tallies of the turns before a place, and with those of a run more
-pub tallies-more : (state now : State) (turns tallies new : List ℕ) (place hart count sum : ℕ) → Stand turns place hart count → hart < 8 → now ≡ run state (take place turns)
+pub tallies-more : (state now : State) (turns tallies new : List ℕ) (place hart count sum : ℕ) → Stand turns place hart count → hart < 8
+    → now ≡ run state (take place turns)
     → tallies ≡ each (tally_from state (take place turns)) → sum ≡ tally_more now hart count → new ≡ set tallies hart (slice_index tallies hart + sum)
     → new ≡ each (tally_from state (take (place + count) turns))
 tallies-more state now turns tallies new place hart count sum stand below is same summed step =
@@ -114,21 +125,24 @@ counted-zero (suc n) f (suc hart) none = counted-zero n (λ k. f (suc k)) hart (
 -- nothing is counted yet, where there are no more harts
 pub counted-none : (numbers : List ℕ) (n : ℕ) (f : ℕ → ℕ) → ((hart : ℕ) → n ≤ hart → f hart ≡ 0) → numbers ≡ zeros → numbers ≡ each (counted n f)
 counted-none numbers n f none is =
-    is ∙ (λ i. counted-zero n f 0 (none 0) i ∷ counted-zero n f 1 (none 1) i ∷ counted-zero n f 2 (none 2) i ∷ counted-zero n f 3 (none 3) i ∷ counted-zero n f 4 (none 4) i ∷ counted-zero n f 5 (none 5) i ∷ counted-zero n f 6 (none 6) i ∷ counted-zero n f 7 (none 7) i ∷ [])
+    is ∙ (λ i. counted-zero n f 0 (none 0) i ∷ counted-zero n f 1 (none 1) i ∷ counted-zero n f 2 (none 2) i ∷ counted-zero n f 3 (none 3) i
+    ∷ counted-zero n f 4 (none 4) i ∷ counted-zero n f 5 (none 5) i ∷ counted-zero n f 6 (none 6) i ∷ counted-zero n f 7 (none 7) i ∷ [])
 
 -- one hart more is counted
 pub counted-more : (numbers new : List ℕ) (n m hart : ℕ) (f : ℕ → ℕ) (more : ℕ) → n ≡ suc m → hart ≡ m → m < 8 → more ≡ f m → numbers ≡ each (counted n f)
     → new ≡ set numbers hart (slice_index numbers hart + more) → new ≡ each (counted m f)
 counted-more numbers new n m hart f more next is below more_is same step =
     let same' : numbers ≡ each (counted (suc m) f) = same ∙ ap (λ k. each (counted k f)) next in
-    let step' : new ≡ set numbers m (slice_index numbers m + f m) = step ∙ ap (λ k. set numbers k (slice_index numbers k + more)) is ∙ ap (λ k. set numbers m (slice_index numbers m + k)) more_is in
+    let step' : new ≡ set numbers m (slice_index numbers m + f m) = step ∙ ap (λ k. set numbers k (slice_index numbers k + more)) is
+    ∙ ap (λ k. set numbers m (slice_index numbers m + k)) more_is in
     write-each numbers new (counted (suc m) f) (counted m f) m (f m) same' below step'
     (counted-from m f ∙ (let z = counted-below (suc m) f m (omega (arith)) in let e : f m ≡ counted (suc m) f m + f m = omega (arith, z) in e))
     (λ other apart. counted-others m f other apart)
 
 -- ---- harts that a log hasn't
 
-beyond-none : (state : State) (turns : List ℕ) (harts hart : ℕ) → AllByRecursion (λ turn. turn < harts) turns → harts ≤ hart → (count_of turns hart ≡ 0) × (tally_from state turns hart ≡ 0)
+beyond-none : (state : State) (turns : List ℕ) (harts hart : ℕ) → AllByRecursion (λ turn. turn < harts) turns → harts ≤ hart
+    → (count_of turns hart ≡ 0) × (tally_from state turns hart ≡ 0)
 beyond-none state [] harts hart all beyond = (refl, refl)
 beyond-none state (one ∷ turns) harts hart all beyond =
     let rest = beyond-none (turn state one) turns harts hart all.1 beyond in
@@ -137,5 +151,6 @@ beyond-none state (one ∷ turns) harts hart all beyond =
     let c = count-one one hart turns ∙ ap (λ (b : Bool). (if b then 1 else 0) + count_of turns hart) (ne_eqb one hart apart) in
     let z = rest.0 in (omega (arith, c, z), tally-apart state one hart turns apart ∙ rest.1)
 
-pub no-turns : (state : State) (log : LogState) (hart : ℕ) → IsLog log → log.harts ≤ hart → (count_of log.turns hart ≡ 0) × (tally_from state log.turns hart ≡ 0)
+pub no-turns : (state : State) (log : LogState) (hart : ℕ) → IsLog log → log.harts ≤ hart → (count_of log.turns hart ≡ 0) × (tally_from state log.turns hart
+    ≡ 0)
 no-turns state log hart is beyond = beyond-none state log.turns log.harts hart (recursion_from_All (λ turn. turn < log.harts) log.turns is.turns_below) beyond

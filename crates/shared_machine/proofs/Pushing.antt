@@ -15,7 +15,8 @@ pub count-push-here : (turns : List ℕ) (hart : ℕ) → count_of (turns ++ har
 count-push-here turns hart = count-push turns hart hart ∙ ap (λ (b : Bool). count_of turns hart + (if b then 1 else 0)) (eq-eqb hart hart refl)
 
 pub count-push-other : (turns : List ℕ) (one hart : ℕ) → one ≢ hart → count_of (turns ++ one ∷ []) hart ≡ count_of turns hart
-count-push-other turns one hart other = let h = count-push turns one hart ∙ ap (λ (b : Bool). count_of turns hart + (if b then 1 else 0)) (ne_eqb one hart other) in omega (arith, h)
+count-push-other turns one hart other = let h = count-push turns one hart ∙ ap (λ (b : Bool). count_of turns hart + (if b then 1 else 0))
+    (ne_eqb one hart other) in omega (arith, h)
 
 -- a log with one turn more is a log
 pub log-push : (log : LogState) (hart : ℕ) → IsLog log → hart < log.harts → count_of log.turns hart < most_turns → IsLog (with_turn log hart)
@@ -32,12 +33,16 @@ log-push log hart is below room = record {
 pub log-none : (harts : ℕ) → 1 ≤ harts → harts ≤ 8 → IsLog (record { harts = harts; turns = [] })
 log-none harts some few = record { some_hart = some; few_harts = few; turns_below = All-nil _; few_turns = λ which. omega (arith) }
 
-pub tally-push : (state : State) (turns : List ℕ) (one hart : ℕ) → tally_from state (turns ++ one ∷ []) hart ≡ tally_from state turns hart + (if one == hart then code_of (outcome (run state turns) one) else 0)
+pub tally-push : (state : State) (turns : List ℕ) (one hart : ℕ) → tally_from state (turns ++ one ∷ []) hart ≡ tally_from state turns hart
+    + (if one == hart then code_of (outcome (run state turns) one) else 0)
 tally-push state [] one hart = omega (arith)
 tally-push state (first ∷ turns) one hart = let h = tally-push (turn state first) turns one hart in omega (arith, h)
 
-pub tally-push-here : (state : State) (turns : List ℕ) (hart : ℕ) → tally_from state (turns ++ hart ∷ []) hart ≡ tally_from state turns hart + code_of (outcome (run state turns) hart)
-tally-push-here state turns hart = tally-push state turns hart hart ∙ ap (λ (b : Bool). tally_from state turns hart + (if b then code_of (outcome (run state turns) hart) else 0)) (eq-eqb hart hart refl)
+pub tally-push-here : (state : State) (turns : List ℕ) (hart : ℕ) → tally_from state (turns ++ hart ∷ []) hart ≡ tally_from state turns hart + code_of
+    (outcome (run state turns) hart)
+tally-push-here state turns hart = tally-push state turns hart hart
+    ∙ ap (λ (b : Bool). tally_from state turns hart + (if b then code_of (outcome (run state turns) hart) else 0)) (eq-eqb hart hart refl)
 
 pub tally-push-other : (state : State) (turns : List ℕ) (one hart : ℕ) → one ≢ hart → tally_from state (turns ++ one ∷ []) hart ≡ tally_from state turns hart
-tally-push-other state turns one hart other = let h = tally-push state turns one hart ∙ ap (λ (b : Bool). tally_from state turns hart + (if b then code_of (outcome (run state turns) one) else 0)) (ne_eqb one hart other) in omega (arith, h)
+tally-push-other state turns one hart other = let h = tally-push state turns one hart
+    ∙ ap (λ (b : Bool). tally_from state turns hart + (if b then code_of (outcome (run state turns) one) else 0)) (ne_eqb one hart other) in omega (arith, h)

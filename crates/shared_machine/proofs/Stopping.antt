@@ -1,5 +1,6 @@
 -- A hart runs exactly where the tally of its turns is a multiple of 16.
-use Rattle.std.proofs.Common.{◌≡◌, ◌≢◌, ◌⊎◌, ℕ, zero, suc, ◌+◌, ◌%◌, ◌<◌, ◌≤◌, Bool, true, false, if◌then◌else◌, List, [], ◌∷◌, ◌++◌, length, Option, Some, None, inl, inr, ⊎_elim, refl, sym, ap, ◌∙◌, subst, arith, eq-eqb, ne_eqb, true≢false}
+use Rattle.std.proofs.Common.{◌≡◌, ◌≢◌, ◌⊎◌, ℕ, zero, suc, ◌+◌, ◌%◌, ◌<◌, ◌≤◌, Bool, true, false, if◌then◌else◌, List, [], ◌∷◌, ◌++◌, length, Option, Some}
+use Rattle.std.proofs.Common.{None, inl, inr, ⊎_elim, refl, sym, ap, ◌∙◌, subst, arith, eq-eqb, ne_eqb, true≢false}
 use Rattle.std.specs.Prelude.{slice_get, slice_index_or}
 use Rattle.std.proofs.lemmas.List.{get_or-set_same, get_or-set_other}
 use Rattle.std.proofs.lemmas.Option.{slice_get-get_or}
@@ -8,9 +9,11 @@ use native.Mathlib.Decide.{ℕ_discrete}
 use Rattle.rv_insn.specs.declared.outcomes.Outcome.{Outcome}
 use Rattle.rv_insn.specs.declared.outcomes.Outcome.TheVariants.{Stepped, Finished, Trapped, Idle}
 use Rattle.rv_insn.specs.declared.outcomes.Trap.{Trap}
-use Rattle.rv_insn.specs.declared.outcomes.Trap.TheVariants.{IllegalInstruction, FetchOutside, MisalignedTarget, LoadMisaligned, LoadOutside, StoreMisaligned, StoreOutside, Breakpoint}
+use Rattle.rv_insn.specs.declared.outcomes.Trap.TheVariants.{IllegalInstruction, FetchOutside, MisalignedTarget, LoadMisaligned, LoadOutside, StoreMisaligned}
+use Rattle.rv_insn.specs.declared.outcomes.Trap.TheVariants.{StoreOutside, Breakpoint}
 use Rattle.rv_insn.specs.declared.instructions.Insn.{Insn}
-use Rattle.rv_insn.specs.declared.instructions.Insn.TheVariants.{Lui, Auipc, Jal, Jalr, Branch, Load, Store, AluImm, Shift, Alu, AmoaddW, Fence, Ecall, Ebreak, Vector}
+use Rattle.rv_insn.specs.declared.instructions.Insn.TheVariants.{Lui, Auipc, Jal, Jalr, Branch, Load, Store, AluImm, Shift, Alu, AmoaddW, Fence, Ecall, Ebreak}
+use Rattle.rv_insn.specs.declared.instructions.Insn.TheVariants.{Vector}
 use Rattle.rv_insn.specs.Trap.{trap_number}
 use Rattle.rv_encoding.specs.Decoding.{decoded}
 use Rattle.memory.specs.Access.{fetched}
@@ -134,32 +137,47 @@ trap-few Breakpoint = omega (arith)
 
 module _ (text memory : List ℕ) (hart : HartState) (runs : hart.status ≡ Running) where
   traps : (trap : Trap) → Went (made text memory hart (Traps trap)).outcome (made text memory hart (Traps trap)).hart.status
-  traps trap = inr (record { some = omega (arith); few = let f = trap-few trap in omega (arith, f); apart = not-idle (Trapped trap) refl; halts = not-running (HasTrapped trap) refl })
+  traps trap = inr (record {
+    some = omega (arith);
+    few = let f = trap-few trap in omega (arith, f);
+    apart = not-idle (Trapped trap) refl;
+    halts =
+        not-running (HasTrapped trap) refl;
+  })
 
-  judged-went : (insn : Insn) (found : Option Trap) → Went (made text memory hart (judged insn found)).outcome (made text memory hart (judged insn found)).hart.status
+  judged-went : (insn : Insn) (found : Option Trap)
+      → Went (made text memory hart (judged insn found)).outcome (made text memory hart (judged insn found)).hart.status
   judged-went insn None = does insn hart _ runs
   judged-went insn (Some trap) = traps trap
 
-  meant-went : (words bytes : ℕ) (insn : Option Insn) → Went (made text memory hart (meant words bytes hart insn)).outcome (made text memory hart (meant words bytes hart insn)).hart.status
+  meant-went : (words bytes : ℕ) (insn : Option Insn)
+      → Went (made text memory hart (meant words bytes hart insn)).outcome (made text memory hart (meant words bytes hart insn)).hart.status
   meant-went words bytes None = traps IllegalInstruction
   meant-went words bytes (Some insn) = judged-went insn _
 
-  due-went : (words bytes : ℕ) (word : Option ℕ) → Went (made text memory hart (due words bytes hart word)).outcome (made text memory hart (due words bytes hart word)).hart.status
+  due-went : (words bytes : ℕ) (word : Option ℕ)
+      → Went (made text memory hart (due words bytes hart word)).outcome (made text memory hart (due words bytes hart word)).hart.status
   due-went words bytes None = traps FetchOutside
   due-went words bytes (Some word) = meant-went words bytes (decoded word)
 
   step-went : Went (step text memory hart).outcome (step text memory hart).hart.status
-  step-went = subst (λ next. Went (made text memory hart next).outcome (made text memory hart next).hart.status) (sym (ap (λ status. if_running status (due (length text) (length memory) hart (fetched text hart.pc))) runs)) (due-went (length text) (length memory) (fetched text hart.pc))
+  step-went = subst (λ next. Went (made text memory hart next).outcome (made text memory hart next).hart.status)
+      (sym (ap (λ status. if_running status (due (length text) (length memory) hart (fetched text hart.pc))) runs)) (due-went (length text) (length memory)
+      (fetched text hart.pc))
 
 there : (state : State) (hart : ℕ) → hart < length state.harts → slice_get state.harts hart ≡ Some (hart_at state hart)
 there state hart below = slice_get-get_or state.harts hart (opening_hart 0 0 0) below
 
-turn-went : (state : State) (hart : ℕ) → hart < length state.harts → (hart_at state hart).status ≡ Running → Went (outcome state hart) (hart_at (turn state hart) hart).status
+turn-went : (state : State) (hart : ℕ) → hart < length state.harts → (hart_at state hart).status ≡ Running
+    → Went (outcome state hart) (hart_at (turn state hart) hart).status
 turn-went state hart below runs =
     let one = hart_at state hart in
-    let after_turn : hart_at (turn state hart) hart ≡ (step state.text state.memory one).hart = ap (λ s. hart_at s hart) (ap (turned state hart) (there state hart below)) ∙ get_or-set_same state.harts hart (step state.text state.memory one).hart (opening_hart 0 0 0) below in
+    let after_turn : hart_at (turn state hart) hart ≡ (step state.text state.memory one).hart = ap (λ s. hart_at s hart)
+    (ap (turned state hart) (there state hart below)) ∙ get_or-set_same state.harts hart (step state.text state.memory one).hart (opening_hart 0 0 0) below
+    in
     let told_turn : outcome state hart ≡ (step state.text state.memory one).outcome = ap (told state) (there state hart below) in
-    subst (λ o. Went o (hart_at (turn state hart) hart).status) (sym told_turn) (subst (λ h. Went (step state.text state.memory one).outcome h.status) (sym after_turn) (step-went state.text state.memory one runs))
+    subst (λ o. Went o (hart_at (turn state hart) hart).status) (sym told_turn) (subst (λ h. Went (step state.text state.memory one).outcome h.status)
+    (sym after_turn) (step-went state.text state.memory one runs))
 
 turn-other : (state : State) (one hart : ℕ) → hart ≢ one → hart_at (turn state one) hart ≡ hart_at state hart
 turn-other state one hart apart = go (slice_get state.harts one)
@@ -170,14 +188,18 @@ turn-other state one hart apart = go (slice_get state.harts one)
 
 -- ---- many turns
 
-tally-here : (state : State) (one hart : ℕ) (turns : List ℕ) → one ≡ hart → tally_from state (one ∷ turns) hart ≡ code_of (outcome state one) + tally_from (turn state one) turns hart
-tally-here state one hart turns e = ap (λ (b : Bool). (if b then code_of (outcome state one) else 0) + tally_from (turn state one) turns hart) (eq-eqb one hart e)
+tally-here : (state : State) (one hart : ℕ) (turns : List ℕ) → one ≡ hart → tally_from state (one ∷ turns) hart ≡ code_of (outcome state one) + tally_from
+    (turn state one) turns hart
+tally-here state one hart turns e = ap (λ (b : Bool). (if b then code_of (outcome state one) else 0) + tally_from (turn state one) turns hart)
+    (eq-eqb one hart e)
 
 pub tally-apart : (state : State) (one hart : ℕ) (turns : List ℕ) → one ≢ hart → tally_from state (one ∷ turns) hart ≡ tally_from (turn state one) turns hart
-tally-apart state one hart turns n = let e = ap (λ (b : Bool). (if b then code_of (outcome state one) else 0) + tally_from (turn state one) turns hart) (ne_eqb one hart n) in omega (arith, e)
+tally-apart state one hart turns n = let e = ap (λ (b : Bool). (if b then code_of (outcome state one) else 0) + tally_from (turn state one) turns hart)
+    (ne_eqb one hart n) in omega (arith, e)
 
 -- a hart that has stopped adds nothing more, and stays as it is
-pub stopped-adds : (state : State) (turns : List ℕ) (hart : ℕ) → hart < length state.harts → (hart_at state hart).status ≢ Running → (tally_from state turns hart ≡ 0) × ((hart_at (run state turns) hart).status ≢ Running)
+pub stopped-adds : (state : State) (turns : List ℕ) (hart : ℕ) → hart < length state.harts → (hart_at state hart).status ≢ Running
+    → (tally_from state turns hart ≡ 0) × ((hart_at (run state turns) hart).status ≢ Running)
 stopped-adds state [] hart below halted = (refl, halted)
 stopped-adds state (one ∷ turns) hart below halted =
     let below' : hart < length (turn state one).harts = let l = length-turn state one in omega (arith, l) in
@@ -203,7 +225,8 @@ stops-behind state hart below apart = go (hart_at state hart).status refl
   where
     go : (status : Status) → (hart_at state hart).status ≡ status → (hart_at (turn state hart) hart).status ≢ Running
     go Running is = ⊎_elim
-        (λ (on : GoesOn (outcome state hart) (hart_at (turn state hart) hart).status × (outcome state hart ≢ Idle)). absurd (apart (code-steps (outcome state hart) on.0.code)))
+        (λ (on : GoesOn (outcome state hart) (hart_at (turn state hart) hart).status × (outcome state hart ≢ Idle)). absurd
+        (apart (code-steps (outcome state hart) on.0.code)))
         (λ (off : Stops (outcome state hart) (hart_at (turn state hart) hart).status). off.halts)
         (turn-went state hart below is)
     go HasFinished is = (stopped-adds state (hart ∷ []) hart below (λ runs. let q = sym is ∙ runs in cc q)).1
@@ -213,7 +236,8 @@ stops-behind state hart below apart = go (hart_at state hart).status refl
 abbrev pub Told : Status → ℕ → Type 0
 Told status tallied = ((status ≡ Running) × (tallied % 16 ≡ 0)) ⊎ ((status ≢ Running) × (tallied % 16 ≢ 0))
 
-pub tells : (state : State) (turns : List ℕ) (hart : ℕ) → hart < length state.harts → (hart_at state hart).status ≡ Running → Told (hart_at (run state turns) hart).status (tally_from state turns hart)
+pub tells : (state : State) (turns : List ℕ) (hart : ℕ) → hart < length state.harts → (hart_at state hart).status ≡ Running
+    → Told (hart_at (run state turns) hart).status (tally_from state turns hart)
 tells state [] hart below runs = inl (runs, refl)
 tells state (one ∷ turns) hart below runs =
     let below' : hart < length (turn state one).harts = let l = length-turn state one in omega (arith, l) in
@@ -237,10 +261,12 @@ tells state (one ∷ turns) hart below runs =
     let code = ap code_of same in let z = rest.0 in let some = off.some in let few = off.few in
     inr (rest.1, λ m. absurd (omega (arith, t, code, z, some, few, m))))
     went)
-    (λ n. subst (λ k. Told last.status k) (sym (tally-apart state one hart turns n)) (tells (turn state one) turns hart below' (ap (λ h. h.status) (turn-other state one hart (λ q. n (sym q))) ∙ runs)))
+    (λ n. subst (λ k. Told last.status k) (sym (tally-apart state one hart turns n)) (tells (turn state one) turns hart below'
+    (ap (λ h. h.status) (turn-other state one hart (λ q. n (sym q))) ∙ runs)))
 
 -- a turn changes nothing exactly where the tally before it is no multiple of 16
-pub idle-told : (state : State) (hart tallied : ℕ) → hart < length state.harts → Told (hart_at state hart).status tallied → (outcome state hart ≡ Idle → tallied % 16 ≢ 0) × (tallied % 16 ≢ 0 → outcome state hart ≡ Idle)
+pub idle-told : (state : State) (hart tallied : ℕ) → hart < length state.harts → Told (hart_at state hart).status tallied → (outcome state hart ≡ Idle
+    → tallied % 16 ≢ 0) × (tallied % 16 ≢ 0 → outcome state hart ≡ Idle)
 idle-told state hart tallied below told =
     ⊎_elim
     (λ (r : ((hart_at state hart).status ≡ Running) × (tallied % 16 ≡ 0)). (
@@ -255,7 +281,8 @@ idle-told state hart tallied below told =
 
 -- ---- from the start
 
-opening-runs : (harts : List HartState) (one : HartState) (which : ℕ) → ((k : ℕ) → (slice_index_or harts k (opening_hart 0 0 0)).status ≡ Running) → one.status ≡ Running → (slice_index_or (harts ++ one ∷ []) which (opening_hart 0 0 0)).status ≡ Running
+opening-runs : (harts : List HartState) (one : HartState) (which : ℕ) → ((k : ℕ) → (slice_index_or harts k (opening_hart 0 0 0)).status ≡ Running)
+    → one.status ≡ Running → (slice_index_or (harts ++ one ∷ []) which (opening_hart 0 0 0)).status ≡ Running
 opening-runs [] one zero all runs = runs
 opening-runs [] one (suc which) all runs = refl
 opening-runs (first ∷ harts) one zero all runs = all 0
@@ -263,20 +290,25 @@ opening-runs (first ∷ harts) one (suc which) all runs = opening-runs harts one
 
 all-run : (entry count numbers which : ℕ) → (slice_index_or (opening_harts entry count numbers) which (opening_hart 0 0 0)).status ≡ Running
 all-run entry count zero which = refl
-all-run entry count (suc number) which = opening-runs (opening_harts entry count number) (opening_hart entry count number) which (all-run entry count number) refl
+all-run entry count (suc number) which = opening-runs (opening_harts entry count number) (opening_hart entry count number) which (all-run entry count number)
+    refl
 
 -- a turn of a machine that is the replay of its log
-pub idle-after : (image : ImageContents) (harts hart : ℕ) (turns : List ℕ) (machine : State) (came : Outcome) (tallied : ℕ) → machine ≡ state_after image harts turns → length machine.harts ≡ harts → hart < harts → came ≡ outcome machine hart → tallied ≡ tally image harts turns hart
+pub idle-after : (image : ImageContents) (harts hart : ℕ) (turns : List ℕ) (machine : State) (came : Outcome) (tallied : ℕ)
+    → machine ≡ state_after image harts turns → length machine.harts ≡ harts → hart < harts → came ≡ outcome machine hart
+    → tallied ≡ tally image harts turns hart
     → (came ≡ Idle → tallied % 16 ≢ 0) × (tallied % 16 ≢ 0 → came ≡ Idle)
 idle-after image harts hart turns machine came tallied replays all below is sum =
     let start = machine_of image harts in
     let few : length start.harts ≡ harts = length-opening_harts image.entry harts harts in
     let told = tells start turns hart (omega (arith, few, below)) (all-run image.entry harts harts hart) in
-    let now : Told (hart_at machine hart).status tallied = subst (λ n. Told (hart_at machine hart).status n) (sym sum) (subst (λ s. Told (hart_at s hart).status (tally image harts turns hart)) (sym replays) told) in
+    let now : Told (hart_at machine hart).status tallied = subst (λ n. Told (hart_at machine hart).status n) (sym sum)
+    (subst (λ s. Told (hart_at s hart).status (tally image harts turns hart)) (sym replays) told) in
     subst (λ o. (o ≡ Idle → tallied % 16 ≢ 0) × (tallied % 16 ≢ 0 → o ≡ Idle)) (sym is) (idle-told machine hart tallied (omega (arith, all, below)) now)
 
 -- a hart whose tally says that it has stopped isn't running
-pub halted-after : (image : ImageContents) (harts hart : ℕ) (turns : List ℕ) → hart < harts → tally image harts turns hart % 16 ≢ 0 → (hart_at (state_after image harts turns) hart).status ≢ Running
+pub halted-after : (image : ImageContents) (harts hart : ℕ) (turns : List ℕ) → hart < harts → tally image harts turns hart % 16 ≢ 0
+    → (hart_at (state_after image harts turns) hart).status ≢ Running
 halted-after image harts hart turns below some =
     let start = machine_of image harts in
     let few : length start.harts ≡ harts = length-opening_harts image.entry harts harts in

@@ -1,5 +1,6 @@
 -- Loops whose rounds collect their pixels, beside the same loops in turn.
-use Rattle.std.proofs.Common.{◌≡◌, ℕ, ◌+◌, ◌*◌, Bool, true, false, List, [], ◌∷◌, ◌++◌, length, Option, Some, None, refl, ap, ◌∙◌, sym, subst, arith, length-append}
+use Rattle.std.proofs.Common.{◌≡◌, ℕ, ◌+◌, ◌*◌, Bool, true, false, List, [], ◌∷◌, ◌++◌, length, Option, Some, None, refl, ap, ◌∙◌, sym, subst, arith}
+use Rattle.std.proofs.Common.{length-append}
 use Rattle.std.specs.Prelude.{◌==◌, ◌||◌, if◌then◌else◌}
 use Rattle.std.proofs.lemmas.Bool.{and_from, and_parts, true≢false}
 use Rattle.std.proofs.lemmas.Bool.Decides.{nat_tests}
@@ -42,11 +43,14 @@ module _ (reads : Reads) where
   IsSame statement = (rounds reads statement).is_one_store ≡ is_one_store statement
 
   same-by-layer : (X : Type 0) (part : X → Stmt) → ((p : X) → IsSame (part p)) → (l : Stmt-F X) → IsSame (roll-Stmt (map-Stmt X Stmt part l))
-  same-by-layer X part is (layer.Store store) = subst IsSame (sym (rolls-Store store)) (ap (λ (r : Rounds). r.is_one_store) (rounds_store reads store) ∙ sym (one-store-store store))
+  same-by-layer X part is (layer.Store store) = subst IsSame (sym (rolls-Store store)) (ap (λ (r : Rounds). r.is_one_store) (rounds_store reads store)
+      ∙ sym (one-store-store store))
   same-by-layer X part is (layer.Sequence a b) =
-      subst IsSame (sym (rolls-Sequence (part a) (part b))) (ap (λ (r : Rounds). r.is_one_store) (rounds_sequence reads (part a) (part b)) ∙ sym (one-store-sequence (part a) (part b)))
+      subst IsSame (sym (rolls-Sequence (part a) (part b))) (ap (λ (r : Rounds). r.is_one_store) (rounds_sequence reads (part a) (part b))
+      ∙ sym (one-store-sequence (part a) (part b)))
   same-by-layer X part is (layer.For counter count kind a) =
-      subst IsSame (sym (rolls-For counter count kind (part a))) (ap (λ (r : Rounds). r.is_one_store) (rounds_for reads counter count kind (part a)) ∙ sym (one-store-for counter count kind (part a)))
+      subst IsSame (sym (rolls-For counter count kind (part a))) (ap (λ (r : Rounds). r.is_one_store) (rounds_for reads counter count kind (part a))
+      ∙ sym (one-store-for counter count kind (part a)))
   same-by-layer X part is (layer.Bind counter whole extent a) =
       subst IsSame (sym (rolls-Bind counter whole extent (part a)))
       (ap (λ (r : Rounds). r.is_one_store) (rounds_bind reads counter whole extent (part a)) ∙ is a ∙ sym (one-store-bind counter whole extent (part a)))
@@ -78,11 +82,14 @@ group-count count group e = by-four (count == 4) refl e
     by-sixteen true is k = lanes-are count groups.Four group (equal count 16 is) k
     by-sixteen false is k = absurd (none-some k)
 
-    by-eight : (t : Bool) → (count == 8) ≡ t → (if t then Some groups.Two else (if count == 16 then Some groups.Four else None)) ≡ Some group → count ≡ 4 * registers group
+    by-eight : (t : Bool) → (count == 8) ≡ t → (if t then Some groups.Two else (if count == 16 then Some groups.Four else None)) ≡ Some group
+        → count ≡ 4 * registers group
     by-eight true is k = lanes-are count groups.Two group (equal count 8 is) k
     by-eight false is k = by-sixteen (count == 16) refl k
 
-    by-four : (t : Bool) → (count == 4) ≡ t → (if t then Some groups.One else (if count == 8 then Some groups.Two else (if count == 16 then Some groups.Four else None))) ≡ Some group → count ≡ 4 * registers group
+    by-four : (t : Bool) → (count == 4) ≡ t
+        → (if t then Some groups.One else (if count == 8 then Some groups.Two else (if count == 16 then Some groups.Four else None))) ≡ Some group
+        → count ≡ 4 * registers group
     by-four true is k = lanes-are count groups.One group (equal count 4 is) k
     by-four false is k = by-eight (count == 8) refl k
 
@@ -90,7 +97,8 @@ group-count count group e = by-four (count == 4) refl e
 pub has-group : (count : ℕ) → is_round_count count ≡ true → group_of_rounds count ≡ None → ⊥
 has-group count is none = by-tests (count == 4) (count == 8) (count == 16) is none
   where
-    by-tests : (a b c : Bool) → (a || (b || c)) ≡ true → (if a then Some groups.One else (if b then Some groups.Two else (if c then Some groups.Four else None))) ≡ None → ⊥
+    by-tests : (a b c : Bool) → (a || (b || c)) ≡ true
+        → (if a then Some groups.One else (if b then Some groups.Two else (if c then Some groups.Four else None))) ≡ None → ⊥
     by-tests true b c t e = none-some (sym e)
     by-tests false true c t e = none-some (sym e)
     by-tests false false true t e = none-some (sym e)
@@ -101,7 +109,8 @@ pub record IsCollected (count : ℕ) (kind : LoopKind) (body : Stmt) (group : Gr
   pub one : is_one_store body ≡ true
   pub count_is : count ≡ 4 * registers group
 
-pub is-collected : (count : ℕ) (kind : LoopKind) (body : Stmt) (group : Group) → group_collected count kind body ≡ Some group → IsCollected count kind body group
+pub is-collected : (count : ℕ) (kind : LoopKind) (body : Stmt) (group : Group) → group_collected count kind body ≡ Some group
+    → IsCollected count kind body group
 is-collected count kinds.Serial body group e = absurd (none-some e)
 is-collected count kinds.Unrolled body group e = absurd (none-some e)
 is-collected count kinds.Vectorized body group e = by-test (is_one_store body) refl e
@@ -111,17 +120,20 @@ is-collected count kinds.Vectorized body group e = by-test (is_one_store body) r
     by-test false is k = absurd (none-some k)
 
 -- what emits them asks for
-pub may-collect : (count : ℕ) (kind : LoopKind) (body : Stmt) (own : Option Group) (group : Group) → own ≡ group_collected count kind body → own ≡ Some group → (is_one_store body ≡ true) × (count ≡ 4 * registers group)
+pub may-collect : (count : ℕ) (kind : LoopKind) (body : Stmt) (own : Option Group) (group : Group) → own ≡ group_collected count kind body → own ≡ Some group
+    → (is_one_store body ≡ true) × (count ≡ 4 * registers group)
 may-collect count kind body own group e is = let k = is-collected count kind body group (sym e ∙ is) in (k.one, k.count_is)
 
 -- one of them is done so, where its rounds may be done at once
-pub none-left : (reads : Reads) (count : ℕ) (body : Stmt) → is_round_count count ≡ true → (rounds reads body).is_one_store ≡ true → group_collected count kinds.Vectorized body ≡ None → ⊥
+pub none-left : (reads : Reads) (count : ℕ) (body : Stmt) → is_round_count count ≡ true → (rounds reads body).is_one_store ≡ true
+    → group_collected count kinds.Vectorized body ≡ None → ⊥
 none-left reads count body is one none =
     has-group count is (sym (ap (λ t. if t then group_of_rounds count else None) (sym (one-store-same reads body) ∙ one)) ∙ none)
 
 -- ---- how long they are
 
-parts-length : (x m y a v last more : List Insn) → length last ≡ 1 → length more ≡ 6 → length ((x ++ (m ++ (y ++ (a ++ v)))) ++ more) ≡ length (x ++ (m ++ (y ++ (a ++ (v ++ last))))) + 5
+parts-length : (x m y a v last more : List Insn) → length last ≡ 1 → length more ≡ 6 → length ((x ++ (m ++ (y ++ (a ++ v)))) ++ more)
+    ≡ length (x ++ (m ++ (y ++ (a ++ (v ++ last))))) + 5
 parts-length x m y a v last more el em =
     let i0 = length-append (x ++ (m ++ (y ++ (a ++ v)))) more in
     let i1 = length-append x (m ++ (y ++ (a ++ v))) in
@@ -135,37 +147,46 @@ parts-length x m y a v last more el em =
     let j5 = length-append v last in
     omega (arith, el, em, i0, i1, i2, i3, i4, j1, j2, j3, j4, j5)
 
-bind-longer : (scope : List Counter) (whole : Whole) (extent r : ℕ) (a b : List Insn) → length a ≡ length b + 5 → length (bind_code scope whole extent r a) ≡ length (bind_code scope whole extent r b) + 5
+bind-longer : (scope : List Counter) (whole : Whole) (extent r : ℕ) (a b : List Insn) → length a ≡ length b + 5 → length (bind_code scope whole extent r a)
+    ≡ length (bind_code scope whole extent r b) + 5
 bind-longer scope whole extent r a b e =
-    let l : length (bind_code scope whole extent r a) ≡ length (whole_code scope whole r) + length (test r extent (length a + 1) ++ a) = length-append (whole_code scope whole r) _ in
-    let k : length (bind_code scope whole extent r b) ≡ length (whole_code scope whole r) + length (test r extent (length b + 1) ++ b) = length-append (whole_code scope whole r) _ in
+    let l : length (bind_code scope whole extent r a) ≡ length (whole_code scope whole r) + length (test r extent (length a + 1) ++ a) =
+    length-append (whole_code scope whole r) _ in
+    let k : length (bind_code scope whole extent r b) ≡ length (whole_code scope whole r) + length (test r extent (length b + 1) ++ b) =
+    length-append (whole_code scope whole r) _ in
     omega (arith, e, l, k)
 
 module _ (group : Group) (places : Places) (r : ℕ) where
   -- in the place of one word that stores there are six that collect
   abbrev IsLonger : Stmt → Type 0
-  IsLonger statement = (scope : List Counter) → is_one_store statement ≡ true → length ((collected group places r statement).code scope) ≡ length (stmt_code places statement scope) + 5
+  IsLonger statement = (scope : List Counter) → is_one_store statement ≡ true → length ((collected group places r statement).code scope)
+      ≡ length (stmt_code places statement scope) + 5
 
   longer-store : (store : Store) → IsLonger (s.Store store)
   longer-store store scope one =
       let e = ap (λ (is : List Insn). length is) (round-store group places r store scope) in
       let d = ap (λ (is : List Insn). length is + 5) (code-store places store scope) in
-      e ∙ parts-length (value_code places scope store.x) (move 15 20) (value_code places scope store.y) (addressed (place_of places (sources.Func store.func)) 15 20) (value_code places scope store.value)
+      e ∙ parts-length (value_code places scope store.x) (move 15 20) (value_code places scope store.y) (addressed (place_of places (sources.Func store.func))
+      15 20) (value_code places scope store.value)
       (Save stores.Sw 15 20 (pos 0) ∷ []) (collecting group r) refl refl ∙ sym d
 
   longer-bind : (counter : Counter) (whole : Whole) (extent : ℕ) (body : Stmt) → IsLonger body → IsLonger (s.Bind counter whole extent body)
   longer-bind counter whole extent body inner scope one =
       let e = ap (λ (is : List Insn). length is) (round-bind group places r counter whole extent body scope) in
       let d = ap (λ (is : List Insn). length is + 5) (code-bind places counter whole extent body scope) in
-      e ∙ bind-longer scope whole extent (seat (length scope)) ((collected group places r body).code (counter ∷ scope)) (stmt_code places body (counter ∷ scope))
+      e ∙ bind-longer scope whole extent (seat (length scope)) ((collected group places r body).code (counter ∷ scope)) (stmt_code places body (counter
+      ∷ scope))
       (inner (counter ∷ scope) (sym (one-store-bind counter whole extent body) ∙ one)) ∙ sym d
 
   longer-by-layer : (X : Type 0) (part : X → Stmt) → ((p : X) → IsLonger (part p)) → (l : Stmt-F X) → IsLonger (roll-Stmt (map-Stmt X Stmt part l))
   longer-by-layer X part is (layer.Store store) = subst IsLonger (sym (rolls-Store store)) (longer-store store)
-  longer-by-layer X part is (layer.Sequence a b) = subst IsLonger (sym (rolls-Sequence (part a) (part b))) (λ scope one. absurd (no-sequence (s.Sequence (part a) (part b)) (part a) (part b) refl one))
+  longer-by-layer X part is (layer.Sequence a b) = subst IsLonger (sym (rolls-Sequence (part a) (part b)))
+      (λ scope one. absurd (no-sequence (s.Sequence (part a) (part b)) (part a) (part b) refl one))
   longer-by-layer X part is (layer.For counter count kind a) =
-      subst IsLonger (sym (rolls-For counter count kind (part a))) (λ scope one. absurd (no-for (s.For counter count kind (part a)) (part a) counter count kind refl one))
-  longer-by-layer X part is (layer.Bind counter whole extent a) = subst IsLonger (sym (rolls-Bind counter whole extent (part a))) (longer-bind counter whole extent (part a) (is a))
+      subst IsLonger (sym (rolls-For counter count kind (part a))) (λ scope one. absurd (no-for (s.For counter count kind (part a)) (part a) counter count kind
+      refl one))
+  longer-by-layer X part is (layer.Bind counter whole extent a) = subst IsLonger (sym (rolls-Bind counter whole extent (part a))) (longer-bind counter whole
+      extent (part a) (is a))
 
   pub round-length : (statement : Stmt) → IsLonger statement
   round-length = ind-Stmt IsLonger (λ l t is. subst (λ (k : Stmt-F Stmt). IsLonger (roll-Stmt k)) is (longer-by-layer _ (λ e. e.0) (λ e. e.1) t))
@@ -190,14 +211,19 @@ module _ (places : Places) where
       let h = and_parts (is_word extent) (fits places body (counter ∷ scope)) j.1 in
       round-fits-bind places counter whole extent body scope
       ∙ and_from (has_seat scope) _ k.0
-      (and_from (fits_whole whole) _ j.0 (and_from (is_word extent) (round_fits places body (counter ∷ scope)) h.0 (inner (counter ∷ scope) (sym (one-store-bind counter whole extent body) ∙ one) h.1)))
+      (and_from (fits_whole whole) _ j.0 (and_from (is_word extent) (round_fits places body (counter ∷ scope)) h.0 (inner (counter ∷ scope)
+      (sym (one-store-bind counter whole extent body) ∙ one) h.1)))
 
   fits-by-layer : (X : Type 0) (part : X → Stmt) → ((p : X) → RoundFits (part p)) → (l : Stmt-F X) → RoundFits (roll-Stmt (map-Stmt X Stmt part l))
-  fits-by-layer X part is (layer.Store store) = subst RoundFits (sym (rolls-Store store)) (λ scope one fit. round-fits-store places store scope ∙ sym (fits-store places store scope) ∙ fit)
-  fits-by-layer X part is (layer.Sequence a b) = subst RoundFits (sym (rolls-Sequence (part a) (part b))) (λ scope one fit. absurd (no-sequence (s.Sequence (part a) (part b)) (part a) (part b) refl one))
+  fits-by-layer X part is (layer.Store store) = subst RoundFits (sym (rolls-Store store)) (λ scope one fit. round-fits-store places store scope
+      ∙ sym (fits-store places store scope) ∙ fit)
+  fits-by-layer X part is (layer.Sequence a b) = subst RoundFits (sym (rolls-Sequence (part a) (part b))) (λ scope one fit. absurd
+      (no-sequence (s.Sequence (part a) (part b)) (part a) (part b) refl one))
   fits-by-layer X part is (layer.For counter count kind a) =
-      subst RoundFits (sym (rolls-For counter count kind (part a))) (λ scope one fit. absurd (no-for (s.For counter count kind (part a)) (part a) counter count kind refl one))
-  fits-by-layer X part is (layer.Bind counter whole extent a) = subst RoundFits (sym (rolls-Bind counter whole extent (part a))) (fits-at-bind counter whole extent (part a) (is a))
+      subst RoundFits (sym (rolls-For counter count kind (part a))) (λ scope one fit. absurd (no-for (s.For counter count kind (part a)) (part a) counter count
+      kind refl one))
+  fits-by-layer X part is (layer.Bind counter whole extent a) = subst RoundFits (sym (rolls-Bind counter whole extent (part a))) (fits-at-bind counter whole
+      extent (part a) (is a))
 
   rounds-fit : (statement : Stmt) → RoundFits statement
   rounds-fit = ind-Stmt RoundFits (λ l t is. subst (λ (k : Stmt-F Stmt). RoundFits (roll-Stmt k)) is (fits-by-layer _ (λ e. e.0) (λ e. e.1) t))
@@ -205,9 +231,11 @@ module _ (places : Places) where
 is-equal : (n k : ℕ) → n ≡ k → (n == k) ≡ true
 is-equal n k e = grind (arith, nat_tests)
 
-pub loop-fits : (group : Group) (places : Places) (scope : List Counter) (counter : Counter) (count : ℕ) (kind : LoopKind) (body : Stmt) → is_one_store body ≡ true → count ≡ 4 * registers group
+pub loop-fits : (group : Group) (places : Places) (scope : List Counter) (counter : Counter) (count : ℕ) (kind : LoopKind) (body : Stmt)
+    → is_one_store body ≡ true → count ≡ 4 * registers group
     → fits places (s.For counter count kind body) scope ≡ true → collected_fits group places scope counter count body ≡ true
 loop-fits group places scope counter count kind body one lanes is =
     let k = and_parts (has_seat scope) _ (sym (fits-for places counter count kind body scope) ∙ is) in
     let j = and_parts (is_word count) (fits places body (counter ∷ scope)) k.1 in
-    and_from (has_seat scope) _ k.0 (and_from (count == 4 * registers group) (round_fits places body (counter ∷ scope)) (is-equal count (4 * registers group) lanes) (rounds-fit places body (counter ∷ scope) one j.1))
+    and_from (has_seat scope) _ k.0 (and_from (count == 4 * registers group) (round_fits places body (counter ∷ scope)) (is-equal count (4 * registers group)
+    lanes) (rounds-fit places body (counter ∷ scope) one j.1))

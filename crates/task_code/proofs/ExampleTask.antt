@@ -35,7 +35,8 @@ use Rattle.task_code.specs.inner.Fitting.{fits_task, task_turns}
 use Rattle.task_code_scalar.specs.Layout.{func_point, address_of, size_of, IsAt, MayStore, MayLoad, Laid}
 use Rattle.task_code_scalar.specs.Doing.{IsSetting, MayBeWrittenAtOnce, SoundIn, HoldsFuncs}
 use Rattle.task_code_runs.specs.AtOnce.{AtOnceIn}
-use Rattle.task_code.specs.Example.{example_counter, counted, example_store, example_phase, example_place, example_places, example_ticket, example_text, example_data, example_world, nothing, its_points, is_its_point, example_setting, ExampleIsDone}
+use Rattle.task_code.specs.Example.{example_counter, counted, example_store, example_phase, example_place, example_places, example_ticket, example_text}
+use Rattle.task_code.specs.Example.{example_data, example_world, nothing, its_points, is_its_point, example_setting, ExampleIsDone}
 use Rattle.task_code_scalar.proofs.Spelling.{stand-spelled}
 use Rattle.task_code.proofs.Unrolled.{code-store, fits-store, turns-store}
 use Rattle.task_code.proofs.Finishing.{tasks-done}
@@ -62,7 +63,8 @@ zero-made = deep_leaf (leaf (nat_lt 0 (2 ^ 32)) (λ r. literal r 0))
 
 -- of what is made of a store's parts
 by-parts : {A : Type 0} (f : Deep → Deep → Deep → A)
-    → f (deep example_places scope example_store.x) (deep example_places scope example_store.y) (deep example_places scope example_store.value) ≡ f (sum 0) zero-made (sum 7)
+    → f (deep example_places scope example_store.x) (deep example_places scope example_store.y) (deep example_places scope example_store.value)
+    ≡ f (sum 0) zero-made (sum 7)
 by-parts f =
     ap (λ a. f a (deep example_places scope example_store.y) (deep example_places scope example_store.value)) (linear-made (counted 0))
     ∙ ap (λ b. f (sum 0) b (deep example_places scope example_store.value)) (number-made 0)
@@ -121,9 +123,12 @@ module _ (task : ℕ) (small : task < 2) where
   sound-is funcs are =
       let reads = reads_of nothing funcs in
       sound_store reads (its_points task) (is_its_point task) example_store values
-      ∙ ap (λ a. its_points task 0 a (value reads values example_store.y) && list_all (is_its_point task) (loads reads values example_store.x ++ (loads reads values example_store.y ++ loads reads values example_store.value))) (x-is reads)
-      ∙ ap (λ b. its_points task 0 task b && list_all (is_its_point task) (loads reads values example_store.x ++ (loads reads values example_store.y ++ loads reads values example_store.value))) (number-is reads)
-      ∙ ap (λ p. its_points task 0 task 0 && list_all (is_its_point task) (p ++ (loads reads values example_store.y ++ loads reads values example_store.value))) (no-linear reads (counted 0))
+      ∙ ap (λ a. its_points task 0 a (value reads values example_store.y) && list_all (is_its_point task) (loads reads values example_store.x
+      ++ (loads reads values example_store.y ++ loads reads values example_store.value))) (x-is reads)
+      ∙ ap (λ b. its_points task 0 task b && list_all (is_its_point task) (loads reads values example_store.x ++ (loads reads values example_store.y
+      ++ loads reads values example_store.value))) (number-is reads)
+      ∙ ap (λ p. its_points task 0 task 0 && list_all (is_its_point task) (p ++ (loads reads values example_store.y ++ loads reads values example_store.value)))
+      (no-linear reads (counted 0))
       ∙ ap (λ p. its_points task 0 task 0 && list_all (is_its_point task) (p ++ loads reads values example_store.value)) (no-number reads)
       ∙ ap (λ p. its_points task 0 task 0 && list_all (is_its_point task) p) (no-linear reads (counted 7))
       ∙ ap (λ b. b && true) its-point
@@ -182,8 +187,44 @@ may-store (suc zero) l = record {
 may-store (suc (suc n)) l = absurd (omega (arith, l))
 
 may-load : (task : ℕ) → task < 2 → MayLoad (example_world task) example_places (func_point 0 task 0)
-may-load zero l = record { column = omega arith; row = omega arith; low = omega arith; may = record { aligned = refl; above = omega arith; below = omega arith; may = (refl, (refl, (refl, (refl, tt)))) }; whole = record { aligned = refl; above = omega arith; below = omega arith; may = (refl, (refl, (refl, (refl, tt)))) } }
-may-load (suc zero) l = record { column = omega arith; row = omega arith; low = omega arith; may = record { aligned = refl; above = omega arith; below = omega arith; may = (refl, (refl, (refl, (refl, tt)))) }; whole = record { aligned = refl; above = omega arith; below = omega arith; may = (refl, (refl, (refl, (refl, tt)))) } }
+may-load zero l = record {
+  column = omega arith;
+  row = omega arith;
+  low = omega arith;
+  may = record {
+    aligned = refl;
+    above = omega arith;
+    below =
+        omega arith;
+    may = (refl, (refl, (refl, (refl, tt))));
+  };
+  whole = record {
+    aligned = refl;
+    above = omega arith;
+    below = omega arith;
+    may =
+        (refl, (refl, (refl, (refl, tt))));
+  };
+}
+may-load (suc zero) l = record {
+  column = omega arith;
+  row = omega arith;
+  low = omega arith;
+  may = record {
+    aligned = refl;
+    above = omega arith;
+    below =
+        omega arith;
+    may = (refl, (refl, (refl, (refl, tt))));
+  };
+  whole = record {
+    aligned = refl;
+    above = omega arith;
+    below = omega arith;
+    may =
+        (refl, (refl, (refl, (refl, tt))));
+  };
+}
 may-load (suc (suc n)) l = absurd (omega (arith, l))
 
 zeros : (n i : ℕ) → slice_index (replicate n 0) i ≡ 0
@@ -199,14 +240,16 @@ starts-empty (suc (suc n)) l = absurd (omega (arith, l))
 -- so many words have four times as many bytes
 words-long : (i n : ℕ) (a : ℕ → ℕ) → length (touched (map (access_at Word) (firsts i n a))) ≡ 4 * n
 words-long i zero a = refl
-words-long i (suc n) a = let e = words-long (suc i) n a in let g : length (touched (map (access_at Word) (firsts i (suc n) a))) ≡ suc (suc (suc (suc (length (touched (map (access_at Word) (firsts (suc i) n a))))))) = refl in omega (arith, e, g)
+words-long i (suc n) a = let e = words-long (suc i) n a in let g : length (touched (map (access_at Word) (firsts i (suc n) a)))
+    ≡ suc (suc (suc (suc (length (touched (map (access_at Word) (firsts (suc i) n a))))))) = refl in omega (arith, e, g)
 
 are-words : (n k : ℕ) → n ≡ 4 * k → (n % 4 == 0) ≡ true
 are-words n k e = let r : n % 4 ≡ 0 = omega (arith, e) in grind (arith, nat_tests, r)
 
 module _ (task : ℕ) (small : task < 2) where
   -- what holds of the task's own point holds of each point that may be loaded
-  of-loaded : (P : Point → Type 0) → P (func_point 0 task 0) → (source : Source) (x y : ℕ) → is_its_point task (record { source = source; x = x; y = y }) ≡ true → P (record { source = source; x = x; y = y })
+  of-loaded : (P : Point → Type 0) → P (func_point 0 task 0) → (source : Source) (x y : ℕ) → is_its_point task (record { source = source; x = x; y = y }) ≡ true
+      → P (record { source = source; x = x; y = y })
   of-loaded P own (sources.Input k) x y is = absurd (true≢false (sym is))
   of-loaded P own (sources.Func k) x y is =
       let i = is-its task k x y is in
@@ -234,7 +277,8 @@ module _ (task : ℕ) (small : task < 2) where
   }
 
   at-once-are : MayBeWrittenAtOnce (example_setting task)
-  at-once-are n func x y is runs = λ address owner there owned. are-words _ n (words-long 0 n (λ k. address_of (example_world task) example_places (func_point func (x k) (y k))))
+  at-once-are n func x y is runs = λ address owner there owned. are-words _ n (words-long 0 n (λ k. address_of (example_world task) example_places
+      (func_point func (x k) (y k))))
 
   good : IsSetting (example_setting task)
   good = record { are_places = are-places; laid = laid-is; have = λ func x y is. is; are_words = λ place x y lx ly. omega arith; at_once = at-once-are }
@@ -247,7 +291,8 @@ module _ (task : ℕ) (small : task < 2) where
     size = refl;
     are_bytes = λ i. let z = zeros 16 i in omega (arith, z);
     are_words = λ place x y lx ly. omega arith;
-    holds = λ point is. of-loaded (λ p. number_in example_text example_data (size_of example_places p) (address_of (example_world task) example_places p) ≡ 0) (starts-empty task small) point.source point.x point.y is ∙ sym (empty point.source point.x point.y);
+    holds = λ point is. of-loaded (λ p. number_in example_text example_data (size_of example_places p) (address_of (example_world task) example_places p) ≡ 0)
+        (starts-empty task small) point.source point.x point.y is ∙ sym (empty point.source point.x point.y);
   }
     where
       empty : (source : Source) (x y : ℕ) → reads_of nothing nothing source x y ≡ 0
@@ -256,15 +301,20 @@ module _ (task : ℕ) (small : task < 2) where
 
 pub example-done : ExampleIsDone
 example-done task f small drawn =
-    let a = tasks-done (example_setting task) (good task small) example_phase example_ticket task fits-is (omega arith) (omega (arith, small)) (sound-is task small) (once-is task small) (λ funcs are func runs. absurd (true≢false (sym runs))) f example_data nothing (holds-nothing task small) drawn in
-    let path : Path (example_world task) 65536 (end 65536 (task_code example_phase example_places example_ticket)) (task_turns example_phase example_places example_ticket task) f example_data a.after a.left = a.block 65536 stands in
+    let a = tasks-done (example_setting task) (good task small) example_phase example_ticket task fits-is (omega arith) (omega (arith, small))
+    (sound-is task small) (once-is task small) (λ funcs are func runs. absurd (true≢false (sym runs))) f example_data nothing (holds-nothing task small)
+    drawn in
+    let path : Path (example_world task) 65536 (end 65536 (task_code example_phase example_places example_ticket)) (task_turns example_phase example_places
+    example_ticket task) f example_data a.after a.left = a.block 65536 stands in
     let ended : Path (example_world task) 65536 65680 (task_turns example_phase example_places example_ticket task) f example_data a.after a.left =
-    subst (λ code. Path (example_world task) 65536 (end 65536 code) (task_turns example_phase example_places example_ticket task) f example_data a.after a.left) code-is path in
+    subst (λ code. Path (example_world task) 65536 (end 65536 code) (task_turns example_phase example_places example_ticket task) f example_data a.after a.left)
+    code-is path in
     let at-address : address_of (example_world task) example_places (func_point 0 task 0) ≡ 0x00200008 + 4 * task = omega arith in
     record {
       after = a.after;
       left = a.left;
       path = subst (λ n. Path (example_world task) 65536 65680 n f example_data a.after a.left) (turns-are task) ended;
       draws_again = a.tasks_are;
-      holds = subst (λ b. number_in example_text a.left Word b ≡ 7 + task) at-address (a.holds.holds (func_point 0 task 0) (its-point task small) ∙ left-is task small);
+      holds = subst (λ b. number_in example_text a.left Word b ≡ 7 + task) at-address (a.holds.holds (func_point 0 task 0) (its-point task small)
+          ∙ left-is task small);
     }

@@ -29,7 +29,8 @@ below n k t = grind (arith, nat_tests)
 -- ---- the beginning
 
 module _ (w : World) (harts : ℕ) (task : ℕ) (small : task < 2 ^ 32) where
-  knows-drawn : (counter : Option Counter) (f : ℕ → ℕ) → f 0 ≡ 0 → f 10 ≡ w.hart → f 11 ≡ harts → f 12 ≡ task → Knows w harts (task_scope counter) (task_values counter task) f
+  knows-drawn : (counter : Option Counter) (f : ℕ → ℕ) → f 0 ≡ 0 → f 10 ≡ w.hart → f 11 ≡ harts → f 12 ≡ task
+      → Knows w harts (task_scope counter) (task_values counter task) f
   knows-drawn None f none number all drawn = record { none = none; number = number; all = all; counters = λ other. none; words = λ other. omega arith }
   knows-drawn (Some own) f none number all drawn = record {
     none = none;
@@ -74,7 +75,8 @@ module _ (w : World) (m : List ℕ) (l : length m ≡ w.size) where
         gate_is = i4.others 14 (λ e. omega (arith, e)) ∙ i3.others 14 (λ e. omega (arith, e)) ∙ i2.value;
         one = i4.others 15 (λ e. omega (arith, e)) ∙ i3.value;
         tasks_are = i4.value;
-        others = λ q low. i4.others q (λ e. omega (arith, e, low)) ∙ i3.others q (λ e. omega (arith, e, low)) ∙ i2.others q (λ e. omega (arith, e, low)) ∙ i1.others q (λ e. omega (arith, e, low));
+        others = λ q low. i4.others q (λ e. omega (arith, e, low)) ∙ i3.others q (λ e. omega (arith, e, low)) ∙ i2.others q (λ e. omega (arith, e, low))
+            ∙ i1.others q (λ e. omega (arith, e, low));
       }
 
 -- ---- a task
@@ -101,7 +103,8 @@ tasks-done own good phase ticket task fit lt ls sound once runs f memory funcs h
       holds = a.holds;
       elsewhere = a.elsewhere;
       are_bytes = a.are_bytes;
-      writes = λ func x y byte at is of s. writes-first own.world at turns (length ends) f memory byte (a.writes func x y byte at is of (stand-front own.world.text at body ends s));
+      writes = λ func x y byte at is of s. writes-first own.world at turns (length ends) f memory byte (a.writes func x y byte at is of
+          (stand-front own.world.text at body ends s));
     }
 
 -- ---- words in the text

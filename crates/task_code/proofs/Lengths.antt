@@ -1,5 +1,6 @@
 -- Code has no more words than are asked for.
-use Rattle.std.proofs.Common.{◌≡◌, ℕ, zero, suc, ◌+◌, ◌*◌, ◌≤◌, Bool, true, false, List, [], ◌∷◌, ◌++◌, length, Option, Some, None, refl, sym, ap, subst, arith, length-append}
+use Rattle.std.proofs.Common.{◌≡◌, ℕ, zero, suc, ◌+◌, ◌*◌, ◌≤◌, Bool, true, false, List, [], ◌∷◌, ◌++◌, length, Option, Some, None, refl, sym, ap, subst, arith}
+use Rattle.std.proofs.Common.{length-append}
 use Rattle.std.specs.Prelude.{pos, if◌then◌else◌}
 use Rattle.rv_insn.specs.declared.instructions.Insn.{Insn}
 use Rattle.rv_insn.specs.declared.instructions.Insn.TheVariants.{Alu, Store as Save}
@@ -30,7 +31,9 @@ use Rattle.task_code_scalar.specs.declared.places.Pixels.{Pixels}
 use Rattle.task_code_scalar.specs.declared.places.Pixels.TheVariants as pixels
 use Rattle.task_code_scalar.specs.declared.places.Place.{Place}
 use Rattle.task_code_scalar.specs.declared.places.Places.{Places}
-use Rattle.task_code_scalar.specs.Code.{Made, Deep, pair, divided, triple, beside, operation, quotient, remainder, selection, literal, move, scaled, raised, copied, addressed, fetch, loading, place_of, terms_code, seat, seat_in, made_at, spill, unspill, frames_of, on_stack, deep_or, deep_leaf, deep_at, deep, second_code, value_code, store_code, test, bounded, whole_code, bind_code}
+use Rattle.task_code_scalar.specs.Code.{Made, Deep, pair, divided, triple, beside, operation, quotient, remainder, selection, literal, move, scaled, raised}
+use Rattle.task_code_scalar.specs.Code.{copied, addressed, fetch, loading, place_of, terms_code, seat, seat_in, made_at, spill, unspill, frames_of, on_stack}
+use Rattle.task_code_scalar.specs.Code.{deep_or, deep_leaf, deep_at, deep, second_code, value_code, store_code, test, bounded, whole_code, bind_code}
 use Rattle.task_code_statements.specs.Tasks.{restored}
 use Rattle.task_code.specs.Tasks.{task_size}
 use Rattle.task_code.specs.inner.Code.{stmt_code, task_code, task_scope}
@@ -120,7 +123,8 @@ record DeepShort (d : Deep) (n : Size) : Type 0 where
   pub own : Short d.own n
   pub short : (word : ℕ) → length (d.code word) ≤ n.words
 
-or-short : (own : Made) (depth : ℕ) (code : ℕ → List Insn) (n : Size) → Short own n → ((word : ℕ) → length (code word) ≤ n.words) → DeepShort (deep_or own depth code) n
+or-short : (own : Made) (depth : ℕ) (code : ℕ → List Insn) (n : Size) → Short own n → ((word : ℕ) → length (code word) ≤ n.words)
+    → DeepShort (deep_or own depth code) n
 or-short own depth code n is few = record { own = is; short = λ word. by-stack word (on_stack own) }
   where
     by-stack : (word : ℕ) (t : Bool) → length (if t then own.code 20 else code word) ≤ n.words
@@ -132,17 +136,20 @@ leaf-short own n is = or-short own 0 (λ word. own.code 20) n is (λ word. is.sh
 
 second-short : (frames : ℕ) (b : Deep) (n : Size) → DeepShort b n → (word : ℕ) → length (second_code frames b word) ≤ n.words + kept n
 second-short frames b n x word =
-    subst (λ (t : Bool). length (if t then b.own.code 14 else spill frames word ++ (b.code (word + 1) ++ (move 21 20 ++ unspill frames word 20))) ≤ n.words + kept n) (sym x.own.leaf_is)
+    subst (λ (t : Bool). length (if t then b.own.code 14 else spill frames word ++ (b.code (word + 1) ++ (move 21 20 ++ unspill frames word 20))) ≤ n.words
+    + kept n) (sym x.own.leaf_is)
     (by-leaf n.is_leaf)
   where
-    by-leaf : (t : Bool) → length (if t then b.own.code 14 else spill frames word ++ (b.code (word + 1) ++ (move 21 20 ++ unspill frames word 20))) ≤ n.words + (if t then 0 else 15)
+    by-leaf : (t : Bool) → length (if t then b.own.code 14 else spill frames word ++ (b.code (word + 1) ++ (move 21 20 ++ unspill frames word 20))) ≤ n.words
+        + (if t then 0 else 15)
     by-leaf true = let l = x.own.short 14 in omega (arith, l)
     by-leaf false =
         let i = length-append (b.code (word + 1)) (move 21 20 ++ unspill frames word 20) in
         let l = x.short (word + 1) in
         omega (arith, i, l)
 
-deep-pair-short : (frames : ℕ) (a b : Deep) (m n : Size) (combine : ℕ → ℕ → List Insn) (most : ℕ) → DeepShort a m → DeepShort b n → ((r t : ℕ) → length (combine r t) ≤ most)
+deep-pair-short : (frames : ℕ) (a b : Deep) (m n : Size) (combine : ℕ → ℕ → List Insn) (most : ℕ) → DeepShort a m → DeepShort b n
+    → ((r t : ℕ) → length (combine r t) ≤ most)
     → (word : ℕ) → length (a.code word ++ (second_code frames b word ++ combine 20 (beside b.own.is_leaf 20))) ≤ m.words + n.words + kept n + most
 deep-pair-short frames a b m n combine most x y few word =
     let t = beside b.own.is_leaf 20 in
@@ -189,7 +196,11 @@ module _ (places : Places) (scope : List Counter) where
   short-level (layer.Remainder a c) = record { leaf_is = refl; short = divided-short a.left a.right c 11 remainder a.is remainder-length }
   short-level (layer.Select c a b) = record { leaf_is = refl; short = triple-short c.left a.left b.left c.right a.right b.right c.is a.is b.is }
   short-level (layer.Load source x y) =
-      record { leaf_is = refl; short = pair-short x.left y.left x.right y.right (loading (place_of places source)) 13 x.is y.is (loading-length (place_of places source)) }
+      record {
+        leaf_is = refl;
+        short = pair-short x.left y.left x.right y.right (loading (place_of places source)) 13 x.is y.is
+            (loading-length (place_of places source));
+      }
 
   -- what is made on the stack alone of a part
   abbrev one : (d : Deep) (n : Size) → DeepShort d n → Both Short
@@ -202,9 +213,12 @@ module _ (places : Places) (scope : List Counter) where
   deep-level (layer.Number n) = leaf-short (made_at places scope (layer.Number n)) (leaf 0) (short-level (layer.Number n))
   deep-level (layer.Linear own) = leaf-short (made_at places scope (layer.Linear own)) (leaf (length own.terms)) (short-level (layer.Linear own))
   deep-level (layer.Binary o a b) =
-      or-short _ _ _ _ (short-level (layer.Binary o (one a.left a.right a.is) (one b.left b.right b.is))) (deep-pair-short frames a.left b.left a.right b.right (operation o) 4 a.is b.is (operation-length o))
-  deep-level (layer.Divide a c) = or-short _ _ _ _ (short-level (layer.Divide (one a.left a.right a.is) c)) (deep-divided-short a.left a.right c 9 quotient a.is quotient-length)
-  deep-level (layer.Remainder a c) = or-short _ _ _ _ (short-level (layer.Remainder (one a.left a.right a.is) c)) (deep-divided-short a.left a.right c 11 remainder a.is remainder-length)
+      or-short _ _ _ _ (short-level (layer.Binary o (one a.left a.right a.is) (one b.left b.right b.is))) (deep-pair-short frames a.left b.left a.right b.right
+      (operation o) 4 a.is b.is (operation-length o))
+  deep-level (layer.Divide a c) = or-short _ _ _ _ (short-level (layer.Divide (one a.left a.right a.is) c)) (deep-divided-short a.left a.right c 9 quotient a.is
+      quotient-length)
+  deep-level (layer.Remainder a c) = or-short _ _ _ _ (short-level (layer.Remainder (one a.left a.right a.is) c)) (deep-divided-short a.left a.right c 11
+      remainder a.is remainder-length)
   deep-level (layer.Select c a b) =
       or-short _ _ _ _ (short-level (layer.Select (one c.left c.right c.is) (one a.left a.right a.is) (one b.left b.right b.is)))
       (deep-triple-short frames c.left a.left b.left c.right a.right b.right c.is a.is b.is)
@@ -218,7 +232,8 @@ module _ (places : Places) (scope : List Counter) where
 
 -- ---- statements
 
-store-short : (places : Places) (scope : List Counter) (store : Store) → length (store_code places scope store) ≤ size store.x + size store.y + size store.value + 14
+store-short : (places : Places) (scope : List Counter) (store : Store) → length (store_code places scope store) ≤ size store.x + size store.y + size store.value
+    + 14
 store-short places scope store =
     let place = place_of places (sources.Func store.func) in
     let x = value_code places scope store.x in
@@ -318,7 +333,8 @@ module _ (places : Places) where
   by-layer X part is (parts.Store store) = subst IsShort (sym (rolls-Store store)) (at-store store)
   by-layer X part is (parts.Sequence a b) = subst IsShort (sym (rolls-Sequence (part a) (part b))) (at-sequence (part a) (part b) (is a) (is b))
   by-layer X part is (parts.For counter count kind a) = subst IsShort (sym (rolls-For counter count kind (part a))) (at-for counter count kind (part a) (is a))
-  by-layer X part is (parts.Bind counter whole extent a) = subst IsShort (sym (rolls-Bind counter whole extent (part a))) (at-bind counter whole extent (part a) (is a))
+  by-layer X part is (parts.Bind counter whole extent a) = subst IsShort (sym (rolls-Bind counter whole extent (part a))) (at-bind counter whole extent (part a)
+      (is a))
 
   short : (statement : Stmt) → IsShort statement
   short = ind-Stmt IsShort (λ l t is. subst (λ (k : Stmt-F Stmt). IsShort (roll-Stmt k)) is (by-layer _ (λ e. e.0) (λ e. e.1) t))

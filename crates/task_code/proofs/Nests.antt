@@ -36,7 +36,8 @@ store-emitted places scope own store c0 c1 e x =
     subst (λ z. EmitsStmt c0 c1 places z scope) (sym e)
     (record { emits = emits-is x.0 (sym (code-store places store scope)); has_room = fits-store places store scope ∙ x.1 })
 
-pub sequence-emitted : (places : Places) (scope : List Counter) (own first second x y : Stmt) (c0 c1 c2 : List ℕ) → own ≡ s.Sequence first second → x ≡ first → y ≡ second
+pub sequence-emitted : (places : Places) (scope : List Counter) (own first second x y : Stmt) (c0 c1 c2 : List ℕ) → own ≡ s.Sequence first second → x ≡ first
+    → y ≡ second
     → EmitsStmt c0 c1 places x scope → EmitsStmt c1 c2 places y scope → EmitsStmt c0 c2 places own scope
 sequence-emitted places scope own first second x y c0 c1 c2 e ex ey a b =
     let first-is = subst (λ z. EmitsStmt c0 c1 places z scope) ex a in
@@ -47,7 +48,8 @@ sequence-emitted places scope own first second x y c0 c1 c2 e ex ey a b =
     })
 
 -- a loop's or a test's body, emitted apart
-pub inner-emitted : (places : Places) (start made slice : List ℕ) (view items wanted : List Counter) (x body : Stmt) → start ≡ [] → slice ≡ made → view ≡ items → items ≡ wanted → x ≡ body
+pub inner-emitted : (places : Places) (start made slice : List ℕ) (view items wanted : List Counter) (x body : Stmt) → start ≡ [] → slice ≡ made → view ≡ items
+    → items ≡ wanted → x ≡ body
     → EmitsStmt start made places x view → EmitsStmt [] slice places body wanted
 inner-emitted places start made slice view items wanted x body es em ev ew ex a =
     subst (λ z. EmitsStmt [] slice places body z) (ev ∙ ew)
@@ -56,18 +58,23 @@ inner-emitted places start made slice view items wanted x body es em ev ew ex a 
     (subst (λ z. EmitsStmt z made places x view) es a)))
 
 -- the words of a loop's iterations in turn
-pub turns-made : (places : Places) (scope : List Counter) (counter : Counter) (count r : ℕ) (kind : LoopKind) (laid : Bool) (body : Stmt) (inner start turns slice : List ℕ) → laid ≡ is_laid_out kind → r ≡ seat (length scope)
-    → EmitsStmt [] inner places body (counter ∷ scope) → ((insns : List Insn) → Emits [] inner insns → Emits start turns (turns_code laid r count insns)) → start ≡ [] → slice ≡ turns
+pub turns-made : (places : Places) (scope : List Counter) (counter : Counter) (count r : ℕ) (kind : LoopKind) (laid : Bool) (body : Stmt)
+    (inner start turns slice : List ℕ) → laid ≡ is_laid_out kind → r ≡ seat (length scope)
+    → EmitsStmt [] inner places body (counter ∷ scope) → ((insns : List Insn) → Emits [] inner insns → Emits start turns (turns_code laid r count insns))
+    → start ≡ [] → slice ≡ turns
     → Emits [] slice (in_turn places scope counter count kind body)
 turns-made places scope counter count r kind laid body inner start turns slice el er part loop e0 es =
     let plain = in_turn places scope counter count kind body in
     let code : Emits start turns plain =
     subst (λ q. Emits start turns (turns_code (is_laid_out kind) q count (stmt_code places body (counter ∷ scope)))) er
-    (subst (λ (b : Bool). Emits start turns (turns_code b r count (stmt_code places body (counter ∷ scope)))) el (loop (stmt_code places body (counter ∷ scope)) part.emits)) in
+    (subst (λ (b : Bool). Emits start turns (turns_code b r count (stmt_code places body (counter ∷ scope)))) el (loop (stmt_code places body (counter ∷ scope))
+    part.emits)) in
     subst (λ z. Emits [] z plain) (sym es) (subst (λ z. Emits z turns plain) e0 code)
 
-pub for-emitted : (places : Places) (scope : List Counter) (own body x : Stmt) (counter : Counter) (count r : ℕ) (kind : LoopKind) (laid : Bool) (inner start turns slice c0 c1 : List ℕ)
-    → own ≡ s.For counter count kind body → x ≡ body → laid ≡ is_laid_out kind → r ≡ seat (length scope) → length scope < 14 → EmitsStmt [] inner places body (counter ∷ scope)
+pub for-emitted : (places : Places) (scope : List Counter) (own body x : Stmt) (counter : Counter) (count r : ℕ) (kind : LoopKind) (laid : Bool)
+    (inner start turns slice c0 c1 : List ℕ)
+    → own ≡ s.For counter count kind body → x ≡ body → laid ≡ is_laid_out kind → r ≡ seat (length scope) → length scope < 14
+    → EmitsStmt [] inner places body (counter ∷ scope)
     → ((insns : List Insn) → Emits [] inner insns → Emits start turns (turns_code laid r count insns)) × (count < 2 ^ 32) → start ≡ [] → slice ≡ turns
     → ((plain : List Insn) → Emits [] slice plain → Emits c0 c1 (chosen places scope counter count kind x plain)) → EmitsStmt c0 c1 places own scope
 for-emitted places scope own body x counter count r kind laid inner start turns slice c0 c1 e ex el er few part loop e0 es emitted =
@@ -76,23 +83,28 @@ for-emitted places scope own body x counter count r kind laid inner start turns 
     subst (λ z. EmitsStmt c0 c1 places z scope) (sym e) (record {
       emits = emits-is (subst (λ y. Emits c0 c1 (chosen places scope counter count kind y plain)) ex all) (sym (code-for places counter count kind body scope));
       has_room = fits-for places counter count kind body scope
-          ∙ and_from (has_seat scope) _ (seat-test (length scope) few) (and_from (is_word count) (fits places body (counter ∷ scope)) (word-test count loop.1) part.has_room);
+          ∙ and_from (has_seat scope) _ (seat-test (length scope) few) (and_from (is_word count) (fits places body (counter ∷ scope)) (word-test count loop.1)
+          part.has_room);
     })
 
 pub bind-emitted : (places : Places) (scope : List Counter) (own body : Stmt) (counter : Counter) (whole : Whole) (extent r : ℕ) (inner c0 c1 : List ℕ)
     → own ≡ s.Bind counter whole extent body → r ≡ seat (length scope) → length scope < 14 → EmitsStmt [] inner places body (counter ∷ scope)
-    → ((insns : List Insn) → Emits [] inner insns → Emits c0 c1 (bind_code scope whole extent r insns)) × ((fits_whole whole ≡ true) × (extent < 2 ^ 32)) → EmitsStmt c0 c1 places own scope
+    → ((insns : List Insn) → Emits [] inner insns → Emits c0 c1 (bind_code scope whole extent r insns)) × ((fits_whole whole ≡ true) × (extent < 2 ^ 32))
+    → EmitsStmt c0 c1 places own scope
 bind-emitted places scope own body counter whole extent r inner c0 c1 e er few part bound =
     let code = bound.0 (stmt_code places body (counter ∷ scope)) part.emits in
     subst (λ z. EmitsStmt c0 c1 places z scope) (sym e) (record {
-      emits = emits-is (subst (λ q. Emits c0 c1 (bind_code scope whole extent q (stmt_code places body (counter ∷ scope)))) er code) (sym (code-bind places counter whole extent body scope));
+      emits = emits-is (subst (λ q. Emits c0 c1 (bind_code scope whole extent q (stmt_code places body (counter ∷ scope)))) er code)
+          (sym (code-bind places counter whole extent body scope));
       has_room = fits-bind places counter whole extent body scope
-          ∙ and_from (has_seat scope) _ (seat-test (length scope) few) (and_from (fits_whole whole) _ bound.1.0 (and_from (is_word extent) (fits places body (counter ∷ scope)) (word-test extent bound.1.1) part.has_room));
+          ∙ and_from (has_seat scope) _ (seat-test (length scope) few) (and_from (fits_whole whole) _ bound.1.0 (and_from (is_word extent)
+          (fits places body (counter ∷ scope)) (word-test extent bound.1.1) part.has_room));
     })
 
 -- ---- tasks
 
-pub task-emitted : (phase : Phase) (places : Places) (ticket : ℕ) (scope items : List Counter) (c0 c1 c2 : List ℕ) → scope ≡ items → items ≡ task_scope phase.counter
+pub task-emitted : (phase : Phase) (places : Places) (ticket : ℕ) (scope items : List Counter) (c0 c1 c2 : List ℕ) → scope ≡ items
+    → items ≡ task_scope phase.counter
     → EmitsStmt c0 c1 places phase.body scope → Emits c1 c2 (restored ticket phase.tasks) × (phase.tasks < 2 ^ 32) → EmitsCode c0 c2 phase places ticket
 task-emitted phase places ticket scope items c0 c1 c2 e f a b =
     let own = subst (λ z. EmitsStmt c0 c1 places phase.body z) (e ∙ f) a in

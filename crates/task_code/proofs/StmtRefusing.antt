@@ -1,5 +1,6 @@
 -- What is too long or too deep in a part of a statement is so in the whole.
-use Rattle.std.proofs.Common.{◌≡◌, ℕ, zero, suc, ◌+◌, ◌*◌, ◌^◌, ◌≤◌, Bool, true, false, List, [], ◌∷◌, ◌++◌, length, Option, Some, None, refl, ap, ◌∙◌, sym, subst, arith, length-append}
+use Rattle.std.proofs.Common.{◌≡◌, ℕ, zero, suc, ◌+◌, ◌*◌, ◌^◌, ◌≤◌, Bool, true, false, List, [], ◌∷◌, ◌++◌, length, Option, Some, None, refl, ap, ◌∙◌, sym}
+use Rattle.std.proofs.Common.{subst, arith, length-append}
 use Rattle.std.proofs.lemmas.Bool.{and_parts}
 use Rattle.std.proofs.lemmas.Bool.Decides.{nat_tests}
 use Rattle.std.specs.Prelude.{pos, nat_lt, if◌then◌else◌, Result, IfErr, IsErrAnd}
@@ -82,11 +83,13 @@ module _ (places : Places) where
     pub long : IsLong (stmt_code places part inner) → IsLong (stmt_code places own scope)
     pub room : FitsStmt places own (length scope) → FitsStmt places part (length inner)
 
-  pub part-passed : {T : Type 0} {part own : Stmt} {inner scope : List Counter} (r : Result T CodeFault) (fault : CodeFault) → IsErrAnd r (λ error. error ≡ fault) → IsPart part inner own scope
+  pub part-passed : {T : Type 0} {part own : Stmt} {inner scope : List Counter} (r : Result T CodeFault) (fault : CodeFault)
+      → IsErrAnd r (λ error. error ≡ fault) → IsPart part inner own scope
       → IsStmtFault places part inner fault → IfErr r (IsStmtFault places own scope)
   part-passed r fault from is stands = passed r fault from is.long (λ none own-fits. none (is.room own-fits)) stands
 
-  of-same : {part own : Stmt} {inner scope : List Counter} (x : Stmt) (view : List Counter) → x ≡ part → view ≡ inner → IsPart part inner own scope → IsPart x view own scope
+  of-same : {part own : Stmt} {inner scope : List Counter} (x : Stmt) (view : List Counter) → x ≡ part → view ≡ inner → IsPart part inner own scope
+      → IsPart x view own scope
   of-same {part} {own} {inner} {scope} x view ex ev is =
       subst (λ (y : Stmt). IsPart y view own scope) (sym ex) (subst (λ (v : List Counter). IsPart part v own scope) (sym ev) is)
 
@@ -97,12 +100,14 @@ module _ (places : Places) where
   pub same-part : (own : Stmt) (view items scope : List Counter) → view ≡ items → items ≡ scope → IsPart own view own scope
   same-part own view items scope ev ei = of-same own view refl (ev ∙ ei) (record { long = λ long. long; room = λ fits. fits })
 
-  pub no-store : (own : Stmt) (store : Store) (scope : List Counter) → own ≡ s.Store store → (FitsStore places store → ⊥) → FitsStmt places own (length scope) → ⊥
+  pub no-store : (own : Stmt) (store : Store) (scope : List Counter) → own ≡ s.Store store → (FitsStore places store → ⊥) → FitsStmt places own (length scope)
+      → ⊥
   no-store own store scope e none is =
       none (is.0, subst (λ (n : ℕ). HasRoom places.frames n 0) (ap greatest_need e ∙ greatest_store store) is.1.0)
 
   -- a part that needs no more, among no more counters
-  less-fits : (part own : Stmt) (inner outer : ℕ) → greatest_need part ≤ greatest_need own → inner + depth part ≤ outer + depth own → FitsStmt places own outer → FitsStmt places part inner
+  less-fits : (part own : Stmt) (inner outer : ℕ) → greatest_need part ≤ greatest_need own → inner + depth part ≤ outer + depth own → FitsStmt places own outer
+      → FitsStmt places part inner
   less-fits part own inner outer few flat is =
       let seats = is.1.1 in
       (is.0, (less-room places.frames (greatest_need own) (greatest_need part) 0 few is.1.0, omega (arith, flat, seats)))
@@ -134,33 +139,43 @@ module _ (places : Places) where
   -- ---- loops
 
   -- a loop whose rounds in turn are too long is as long
-  for-grown : (counter : Counter) (count : ℕ) (kind : LoopKind) (body : Stmt) (scope : List Counter) → 2 ^ 18 ≤ loop_size (is_laid_out kind) count (length (stmt_code places body (counter ∷ scope))) → IsLong (stmt_code places (s.For counter count kind body) scope)
+  for-grown : (counter : Counter) (count : ℕ) (kind : LoopKind) (body : Stmt) (scope : List Counter)
+      → 2 ^ 18 ≤ loop_size (is_laid_out kind) count (length (stmt_code places body (counter ∷ scope)))
+      → IsLong (stmt_code places (s.For counter count kind body) scope)
   for-grown counter count kind body scope long =
       let plain = in_turn places scope counter count kind body in
       let n = turns-length (is_laid_out kind) (seat (length scope)) count (stmt_code places body (counter ∷ scope)) in
       let l : 2 ^ 18 ≤ length plain = omega (arith, n, long) in
-      subst IsLong (sym (code-for places counter count kind body scope)) (others-long places scope counter count body kind plain l (λ is. n ∙ ap (λ (k : LoopKind). loop_size (is_laid_out k) count (length (stmt_code places body (counter ∷ scope)))) is))
+      subst IsLong (sym (code-for places counter count kind body scope)) (others-long places scope counter count body kind plain l (λ is. n
+      ∙ ap (λ (k : LoopKind). loop_size (is_laid_out k) count (length (stmt_code places body (counter ∷ scope)))) is))
 
-  for-is : (counter : Counter) (count : ℕ) (kind : LoopKind) (body : Stmt) (scope : List Counter) → IsPart body (counter ∷ scope) (s.For counter count kind body) scope
+  for-is : (counter : Counter) (count : ℕ) (kind : LoopKind) (body : Stmt) (scope : List Counter)
+      → IsPart body (counter ∷ scope) (s.For counter count kind body) scope
   for-is counter count kind body scope = record {
-    long = λ long. let m = asks-more (is_laid_out kind) count (length (stmt_code places body (counter ∷ scope))) in for-grown counter count kind body scope (omega (arith, long, m));
+    long = λ long. let m = asks-more (is_laid_out kind) count (length (stmt_code places body (counter ∷ scope))) in for-grown counter count kind body scope
+        (omega (arith, long, m));
     room = let g = greatest_for counter count kind body in let d = depth_for counter count kind body in
         less-fits body (s.For counter count kind body) (length (counter ∷ scope)) (length scope) (omega (arith, g)) (omega (arith, d));
   }
 
-  pub for-part : (own body x : Stmt) (counter : Counter) (count : ℕ) (kind : LoopKind) (scope view items : List Counter) → own ≡ s.For counter count kind body → x ≡ body → view ≡ items
+  pub for-part : (own body x : Stmt) (counter : Counter) (count : ℕ) (kind : LoopKind) (scope view items : List Counter) → own ≡ s.For counter count kind body
+      → x ≡ body → view ≡ items
       → items ≡ counter ∷ scope → IsPart x view own scope
   for-part own body x counter count kind scope view items e ex ev ei = whole-is own e (of-same x view ex (ev ∙ ei) (for-is counter count kind body scope))
 
-  pub for-long : (own body : Stmt) (counter : Counter) (count : ℕ) (kind : LoopKind) (laid : Bool) (scope : List Counter) (inner : List ℕ) → own ≡ s.For counter count kind body → laid ≡ is_laid_out kind
+  pub for-long : (own body : Stmt) (counter : Counter) (count : ℕ) (kind : LoopKind) (laid : Bool) (scope : List Counter) (inner : List ℕ)
+      → own ≡ s.For counter count kind body → laid ≡ is_laid_out kind
       → EmitsStmt [] inner places body (counter ∷ scope) → 2 ^ 18 ≤ loop_size laid count (length inner) → IsLong (stmt_code places own scope)
   for-long own body counter count kind laid scope inner e el part long =
       let n = emits-length inner (stmt_code places body (counter ∷ scope)) part.emits in
-      subst (λ (y : Stmt). IsLong (stmt_code places y scope)) (sym e) (for-grown counter count kind body scope (subst (λ (k : ℕ). 2 ^ 18 ≤ loop_size (is_laid_out kind) count k) n (subst (λ (b : Bool). 2 ^ 18 ≤ loop_size b count (length inner)) el long)))
+      subst (λ (y : Stmt). IsLong (stmt_code places y scope)) (sym e) (for-grown counter count kind body scope
+      (subst (λ (k : ℕ). 2 ^ 18 ≤ loop_size (is_laid_out kind) count k) n (subst (λ (b : Bool). 2 ^ 18 ≤ loop_size b count (length inner)) el long)))
 
   -- a fault of the choice of its code
-  pub for-passed : {T : Type 0} (result : Result T CodeFault) (fault : CodeFault) (own body x : Stmt) (counter : Counter) (count r : ℕ) (kind : LoopKind) (laid : Bool) (scope : List Counter) (inner start turns slice : List ℕ)
-      → IsErrAnd result (λ error. error ≡ fault) → own ≡ s.For counter count kind body → x ≡ body → laid ≡ is_laid_out kind → r ≡ seat (length scope) → EmitsStmt [] inner places body (counter ∷ scope)
+  pub for-passed : {T : Type 0} (result : Result T CodeFault) (fault : CodeFault) (own body x : Stmt) (counter : Counter) (count r : ℕ) (kind : LoopKind)
+      (laid : Bool) (scope : List Counter) (inner start turns slice : List ℕ)
+      → IsErrAnd result (λ error. error ≡ fault) → own ≡ s.For counter count kind body → x ≡ body → laid ≡ is_laid_out kind → r ≡ seat (length scope)
+      → EmitsStmt [] inner places body (counter ∷ scope)
       → ((insns : List Insn) → Emits [] inner insns → Emits start turns (turns_code laid r count insns)) → start ≡ [] → slice ≡ turns
       → IsChosenFault places scope counter count kind x slice fault → IfErr result (IsStmtFault places own scope)
   for-passed result fault own body x counter count r kind laid scope inner start turns slice from e ex el er part loop e0 es is =
@@ -171,7 +186,8 @@ module _ (places : Places) where
       (passed result fault from (λ long. subst IsLong (sym (code-for places counter count kind body scope)) (long plain made))
       (λ none fits. let k = (for-is counter count kind body scope).room fits in let seats = k.1.1 in none (k.0, (k.1.0, omega (arith, seats)))) own-fault)
 
-  pub for-seatless : (own body : Stmt) (counter : Counter) (count : ℕ) (kind : LoopKind) (scope : List Counter) → own ≡ s.For counter count kind body → 14 ≤ length scope
+  pub for-seatless : (own body : Stmt) (counter : Counter) (count : ℕ) (kind : LoopKind) (scope : List Counter) → own ≡ s.For counter count kind body
+      → 14 ≤ length scope
       → FitsStmt places own (length scope) → ⊥
   for-seatless own body counter count kind scope e many is =
       let d = ap depth e ∙ depth_for counter count kind body in let seats = is.1.1 in omega (arith, d, many, seats)
@@ -185,7 +201,8 @@ module _ (places : Places) where
       let l = bind-length scope whole extent (seat (length scope)) (stmt_code places body (counter ∷ scope)) in
       omega (arith, e, l)
 
-  bind-is : (counter : Counter) (whole : Whole) (extent : ℕ) (body : Stmt) (scope : List Counter) → IsPart body (counter ∷ scope) (s.Bind counter whole extent body) scope
+  bind-is : (counter : Counter) (whole : Whole) (extent : ℕ) (body : Stmt) (scope : List Counter)
+      → IsPart body (counter ∷ scope) (s.Bind counter whole extent body) scope
   bind-is counter whole extent body scope = record {
     long = let l = bind-grown counter whole extent body scope in
         grown (stmt_code places body (counter ∷ scope)) (stmt_code places (s.Bind counter whole extent body) scope) (omega (arith, l));
@@ -193,11 +210,13 @@ module _ (places : Places) where
         less-fits body (s.Bind counter whole extent body) (length (counter ∷ scope)) (length scope) (omega (arith, g)) (omega (arith, d));
   }
 
-  pub bind-part : (own body x : Stmt) (counter : Counter) (whole : Whole) (extent : ℕ) (scope view items : List Counter) → own ≡ s.Bind counter whole extent body → x ≡ body → view ≡ items
+  pub bind-part : (own body x : Stmt) (counter : Counter) (whole : Whole) (extent : ℕ) (scope view items : List Counter)
+      → own ≡ s.Bind counter whole extent body → x ≡ body → view ≡ items
       → items ≡ counter ∷ scope → IsPart x view own scope
   bind-part own body x counter whole extent scope view items e ex ev ei = whole-is own e (of-same x view ex (ev ∙ ei) (bind-is counter whole extent body scope))
 
-  pub bind-long : (own body : Stmt) (counter : Counter) (whole : Whole) (extent : ℕ) (scope : List Counter) (inner : List ℕ) → own ≡ s.Bind counter whole extent body
+  pub bind-long : (own body : Stmt) (counter : Counter) (whole : Whole) (extent : ℕ) (scope : List Counter) (inner : List ℕ)
+      → own ≡ s.Bind counter whole extent body
       → EmitsStmt [] inner places body (counter ∷ scope) → 2 ^ 18 ≤ length inner + 4 → IsLong (stmt_code places own scope)
   bind-long own body counter whole extent scope inner e part long =
       let n = emits-length inner (stmt_code places body (counter ∷ scope)) part.emits in
@@ -205,14 +224,16 @@ module _ (places : Places) where
       let l = bind-grown counter whole extent body scope in
       omega (arith, n, is, l, long)
 
-  pub bind-seatless : (own body : Stmt) (counter : Counter) (whole : Whole) (extent : ℕ) (scope : List Counter) → own ≡ s.Bind counter whole extent body → 14 ≤ length scope
+  pub bind-seatless : (own body : Stmt) (counter : Counter) (whole : Whole) (extent : ℕ) (scope : List Counter) → own ≡ s.Bind counter whole extent body
+      → 14 ≤ length scope
       → FitsStmt places own (length scope) → ⊥
   bind-seatless own body counter whole extent scope e many is =
       let d = ap depth e ∙ depth_bind counter whole extent body in let seats = is.1.1 in omega (arith, d, many, seats)
 
   -- ---- a task
 
-  pub task-passed : {T : Type 0} (r : Result T CodeFault) (fault : CodeFault) (phase : Phase) (ticket : ℕ) (scope items : List Counter) → IsErrAnd r (λ error. error ≡ fault)
+  pub task-passed : {T : Type 0} (r : Result T CodeFault) (fault : CodeFault) (phase : Phase) (ticket : ℕ) (scope items : List Counter)
+      → IsErrAnd r (λ error. error ≡ fault)
       → scope ≡ items → items ≡ task_scope phase.counter → IsStmtFault places phase.body scope fault → IfErr r (IsCodeFault phase places ticket)
   task-passed r fault phase ticket scope items from e f is =
       let own = subst (λ (z : List Counter). IsStmtFault places phase.body z fault) (e ∙ f) is in

@@ -37,13 +37,17 @@ module _ (places : Places) where
   unfolding coded
   coded-sequence first second = ap of (sym (rolls-Sequence first second)) ∙ fold-roll-Stmt Coded (coded_at places) (layer.Sequence first second)
 
-  coded-for : (counter : Counter) (count : ℕ) (kind : LoopKind) (body : Stmt) → coded places (s.For counter count kind body) ≡ coded_at places (layer.For counter count kind (of body))
+  coded-for : (counter : Counter) (count : ℕ) (kind : LoopKind) (body : Stmt) → coded places (s.For counter count kind body)
+      ≡ coded_at places (layer.For counter count kind (of body))
   unfolding coded
-  coded-for counter count kind body = ap of (sym (rolls-For counter count kind body)) ∙ fold-roll-Stmt Coded (coded_at places) (layer.For counter count kind body)
+  coded-for counter count kind body = ap of (sym (rolls-For counter count kind body))
+      ∙ fold-roll-Stmt Coded (coded_at places) (layer.For counter count kind body)
 
-  coded-bind : (counter : Counter) (whole : Whole) (extent : ℕ) (body : Stmt) → coded places (s.Bind counter whole extent body) ≡ coded_at places (layer.Bind counter whole extent (of body))
+  coded-bind : (counter : Counter) (whole : Whole) (extent : ℕ) (body : Stmt) → coded places (s.Bind counter whole extent body)
+      ≡ coded_at places (layer.Bind counter whole extent (of body))
   unfolding coded
-  coded-bind counter whole extent body = ap of (sym (rolls-Bind counter whole extent body)) ∙ fold-roll-Stmt Coded (coded_at places) (layer.Bind counter whole extent body)
+  coded-bind counter whole extent body = ap of (sym (rolls-Bind counter whole extent body))
+      ∙ fold-roll-Stmt Coded (coded_at places) (layer.Bind counter whole extent body)
 
   abbrev IsOwn : Stmt → Type 0
   IsOwn statement = (of statement).own ≡ statement
@@ -69,14 +73,16 @@ module _ (places : Places) where
   pub code-store : (store : Store) (scope : List Counter) → stmt_code places (s.Store store) scope ≡ store_code places scope store
   code-store store scope = ap (λ (c : Coded). c.code scope) (coded-store store)
 
-  pub code-sequence : (first second : Stmt) (scope : List Counter) → stmt_code places (s.Sequence first second) scope ≡ stmt_code places first scope ++ stmt_code places second scope
+  pub code-sequence : (first second : Stmt) (scope : List Counter) → stmt_code places (s.Sequence first second) scope ≡ stmt_code places first scope
+      ++ stmt_code places second scope
   code-sequence first second scope = ap (λ (c : Coded). c.code scope) (coded-sequence first second)
 
   pub code-for : (counter : Counter) (count : ℕ) (kind : LoopKind) (body : Stmt) (scope : List Counter) → stmt_code places (s.For counter count kind body) scope
       ≡ code_chosen places scope counter count body (in_turn scope counter count kind body) (group_collected count kind body)
   code-for counter count kind body scope =
       let plain = in_turn scope counter count kind body in
-      ap (λ (c : Coded). c.code scope) (coded-for counter count kind body) ∙ ap (λ b. code_chosen places scope counter count b plain (group_collected count kind b)) (own-is body)
+      ap (λ (c : Coded). c.code scope) (coded-for counter count kind body)
+      ∙ ap (λ b. code_chosen places scope counter count b plain (group_collected count kind b)) (own-is body)
 
   pub code-bind : (counter : Counter) (whole : Whole) (extent : ℕ) (body : Stmt) (scope : List Counter)
       → stmt_code places (s.Bind counter whole extent body) scope ≡ bind_code scope whole extent (seat (length scope)) (stmt_code places body (counter ∷ scope))
@@ -87,28 +93,34 @@ module _ (places : Places) where
   pub fits-store : (store : Store) (scope : List Counter) → fits places (s.Store store) scope ≡ fits_store places scope store
   unfolding fits
   fits-store store scope =
-      ap (λ own. fits places own scope) (sym (rolls-Store store)) ∙ ap (λ (made : Tested). made scope) (fold-roll-Stmt Tested (fits_at places) (layer.Store store))
+      ap (λ own. fits places own scope) (sym (rolls-Store store))
+      ∙ ap (λ (made : Tested). made scope) (fold-roll-Stmt Tested (fits_at places) (layer.Store store))
 
-  pub fits-sequence : (first second : Stmt) (scope : List Counter) → fits places (s.Sequence first second) scope ≡ (fits places first scope && fits places second scope)
+  pub fits-sequence : (first second : Stmt) (scope : List Counter) → fits places (s.Sequence first second) scope ≡ (fits places first scope
+      && fits places second scope)
   unfolding fits
   fits-sequence first second scope =
-      ap (λ own. fits places own scope) (sym (rolls-Sequence first second)) ∙ ap (λ (made : Tested). made scope) (fold-roll-Stmt Tested (fits_at places) (layer.Sequence first second))
+      ap (λ own. fits places own scope) (sym (rolls-Sequence first second))
+      ∙ ap (λ (made : Tested). made scope) (fold-roll-Stmt Tested (fits_at places) (layer.Sequence first second))
 
   pub fits-for : (counter : Counter) (count : ℕ) (kind : LoopKind) (body : Stmt) (scope : List Counter)
       → fits places (s.For counter count kind body) scope ≡ (has_seat scope && (is_word count && fits places body (counter ∷ scope)))
   unfolding fits
   fits-for counter count kind body scope =
-      ap (λ own. fits places own scope) (sym (rolls-For counter count kind body)) ∙ ap (λ (made : Tested). made scope) (fold-roll-Stmt Tested (fits_at places) (layer.For counter count kind body))
+      ap (λ own. fits places own scope) (sym (rolls-For counter count kind body))
+      ∙ ap (λ (made : Tested). made scope) (fold-roll-Stmt Tested (fits_at places) (layer.For counter count kind body))
 
   pub fits-bind : (counter : Counter) (whole : Whole) (extent : ℕ) (body : Stmt) (scope : List Counter)
       → fits places (s.Bind counter whole extent body) scope ≡ (has_seat scope && (fits_whole whole && (is_word extent && fits places body (counter ∷ scope))))
   unfolding fits
   fits-bind counter whole extent body scope =
-      ap (λ own. fits places own scope) (sym (rolls-Bind counter whole extent body)) ∙ ap (λ (made : Tested). made scope) (fold-roll-Stmt Tested (fits_at places) (layer.Bind counter whole extent body))
+      ap (λ own. fits places own scope) (sym (rolls-Bind counter whole extent body))
+      ∙ ap (λ (made : Tested). made scope) (fold-roll-Stmt Tested (fits_at places) (layer.Bind counter whole extent body))
 
   -- ---- turns
 
-  pub turns-store : (store : Store) (scope : List Counter) (values : Values) → stmt_turns places (s.Store store) scope values ≡ length (store_code places scope store)
+  pub turns-store : (store : Store) (scope : List Counter) (values : Values) → stmt_turns places (s.Store store) scope values
+      ≡ length (store_code places scope store)
   turns-store store scope values = ap (λ (c : Coded). c.turns scope values) (coded-store store)
 
   pub turns-sequence : (first second : Stmt) (scope : List Counter) (values : Values)
@@ -116,16 +128,20 @@ module _ (places : Places) where
   turns-sequence first second scope values = ap (λ (c : Coded). c.turns scope values) (coded-sequence first second)
 
   abbrev pub turns_in_turn : List Counter → Counter → ℕ → LoopKind → Stmt → Values → ℕ
-  turns_in_turn scope counter count kind body values = turns_of (is_laid_out kind) count (λ turn. stmt_turns places body (counter ∷ scope) (with counter turn values))
+  turns_in_turn scope counter count kind body values = turns_of (is_laid_out kind) count (λ turn. stmt_turns places body (counter ∷ scope)
+      (with counter turn values))
 
-  pub turns-for : (counter : Counter) (count : ℕ) (kind : LoopKind) (body : Stmt) (scope : List Counter) (values : Values) → stmt_turns places (s.For counter count kind body) scope values
+  pub turns-for : (counter : Counter) (count : ℕ) (kind : LoopKind) (body : Stmt) (scope : List Counter) (values : Values)
+      → stmt_turns places (s.For counter count kind body) scope values
       ≡ turns_chosen places scope counter count body values (turns_in_turn scope counter count kind body values) (group_collected count kind body)
   turns-for counter count kind body scope values =
       let plain = in_turn scope counter count kind body in
       let n = turns_in_turn scope counter count kind body values in
-      ap (λ (c : Coded). c.turns scope values) (coded-for counter count kind body) ∙ ap (λ b. turns_chosen places scope counter count b values n (group_collected count kind b)) (own-is body)
+      ap (λ (c : Coded). c.turns scope values) (coded-for counter count kind body)
+      ∙ ap (λ b. turns_chosen places scope counter count b values n (group_collected count kind b)) (own-is body)
 
   pub turns-bind : (counter : Counter) (whole : Whole) (extent : ℕ) (body : Stmt) (scope : List Counter) (values : Values)
       → stmt_turns places (s.Bind counter whole extent body) scope values
-      ≡ length (whole_code scope whole (seat (length scope))) + (if nat_lt (whole_value whole values) extent then 3 + stmt_turns places body (counter ∷ scope) (with counter (whole_value whole values) values) else 4)
+      ≡ length (whole_code scope whole (seat (length scope))) + (if nat_lt (whole_value whole values) extent then 3 + stmt_turns places body (counter ∷ scope)
+      (with counter (whole_value whole values) values) else 4)
   turns-bind counter whole extent body scope values = ap (λ (c : Coded). c.turns scope values) (coded-bind counter whole extent body)

@@ -2,7 +2,8 @@
 -- premise of it is one that nothing meets. This project's own.
 --
 -- Task t stores 7 + t at column t of the only buffer, which lies behind the phase's two words.
-use Rattle.std.specs.Prelude.{◌%◌, ◌≡◌, ◌<◌, ℕ, ◌+◌, ◌*◌, ◌-◌, ◌/◌, ◌==◌, ◌&&◌, nat_lt, if◌then◌else◌, Bool, false, List, [], ◌∷◌, length, replicate, Some, None}
+use Rattle.std.specs.Prelude.{◌%◌, ◌≡◌, ◌<◌, ℕ, ◌+◌, ◌*◌, ◌-◌, ◌/◌, ◌==◌, ◌&&◌, nat_lt, if◌then◌else◌, Bool, false, List, [], ◌∷◌, length, replicate, Some}
+use Rattle.std.specs.Prelude.{None}
 use Rattle.memory.specs.Access.{text_start, word_at}
 use Rattle.halide_pipeline.specs.declared.expressions.Source.TheVariants as sources
 use Rattle.halide_pipeline.specs.Pixel.{Planes}

@@ -123,7 +123,8 @@ module _ (places : Places) (bounds : List Bound) where
         ∙ ap (λ l. loads reads values x ++ l) (ry.same.loads_are reads values below parts.1) ∙ sym (loads_binary reads values o x y)
 
   module _ (o : Operation) (x y : Expr) (a b : Ranged) (rx : IsRanged places bounds x a) (ry : IsRanged places bounds y b) where
-    pub taken-first : ((v w : ℕ) → LiesIn a.range v → LiesIn b.range w → ((a.is_word && b.is_word) ≡ true → (v < 2 ^ 32) × (w < 2 ^ 32)) → word.applied o v w ≡ v)
+    pub taken-first : ((v w : ℕ) → LiesIn a.range v → LiesIn b.range w → ((a.is_word && b.is_word) ≡ true → (v < 2 ^ 32) × (w < 2 ^ 32))
+        → word.applied o v w ≡ v)
         → ((reads : Reads) (values : Values) → loads reads values b.e ≡ []) → IsRanged places bounds (e.Binary o x y) a
     taken-first is leaf = record {
       same = record {
@@ -173,7 +174,8 @@ module _ (places : Places) (bounds : List Bound) where
           };
           lies = λ reads values below bytes.
               subst (λ n. LiesIn range n) (sym (value_binary reads values o x y))
-              (l (value reads values x) (value reads values y) (lies-x o x y a b rx ry reads values below bytes) (lies-y o x y a b rx ry reads values below bytes));
+              (l (value reads values x) (value reads values y) (lies-x o x y a b rx ry reads values below bytes) (lies-y o x y a b rx ry reads values below
+              bytes));
           word = λ reads values below bytes w.
               let k = and_parts (a.is_word && b.is_word) is_choice (sym ew ∙ w) in
               let both = words-both o x y a b rx ry reads values below bytes k.0 in
@@ -225,7 +227,8 @@ module _ (places : Places) (bounds : List Bound) where
   pub ranged-divide : (own x gx made : Expr) (c : ℕ) (range : Range) → own ≡ e.Divide x c → gx ≡ x → IsSame places bounds gx made
       → ((v : ℕ) → LiesIn range v) → IsRanged places bounds own (record { e = e.Divide made c; range = range; is_word = false })
   ranged-divide own x gx made c range is ex same l =
-      subst (λ t. IsRanged places bounds t (record { e = e.Divide made c; range = range; is_word = false })) (sym (is ∙ ap (λ t. e.Divide t c) (sym ex))) (record {
+      subst (λ t. IsRanged places bounds t (record { e = e.Divide made c; range = range; is_word = false })) (sym (is ∙ ap (λ t. e.Divide t c) (sym ex)))
+      (record {
         same = record {
           value_is = λ reads values below bytes.
               let inner = subst (λ k. AreBytesAt places reads k) (loads_divide reads values gx c) bytes in
@@ -241,7 +244,8 @@ module _ (places : Places) (bounds : List Bound) where
   pub ranged-remainder : (own x gx made : Expr) (c : ℕ) (range : Range) → own ≡ e.Remainder x c → gx ≡ x → IsSame places bounds gx made
       → ((v : ℕ) → LiesIn range v) → IsRanged places bounds own (record { e = e.Remainder made c; range = range; is_word = false })
   ranged-remainder own x gx made c range is ex same l =
-      subst (λ t. IsRanged places bounds t (record { e = e.Remainder made c; range = range; is_word = false })) (sym (is ∙ ap (λ t. e.Remainder t c) (sym ex))) (record {
+      subst (λ t. IsRanged places bounds t (record { e = e.Remainder made c; range = range; is_word = false })) (sym (is ∙ ap (λ t. e.Remainder t c) (sym ex)))
+      (record {
         same = record {
           value_is = λ reads values below bytes.
               let inner = subst (λ k. AreBytesAt places reads k) (loads_remainder reads values gx c) bytes in

@@ -60,7 +60,8 @@ up-minimum v n sv sn l low =
     let g = before-level v sv low in
     elim (cases_lt (level ((v + 4294967295) % 2 ^ 32)) (level n)) [
       | inl k ↦ rw (lt-ltb (level ((v + 4294967295) % 2 ^ 32)) (level n) k) (rw (le-ltb (level n) (level v) (omega (arith, g, k))) (omega (arith, sv)))
-      | inr k ↦ rw (le-ltb (level ((v + 4294967295) % 2 ^ 32)) (level n) k) (rw (lt-ltb (level n) (level v) (omega (arith, g, k))) (omega (arith, sv, sn, l, g, k)))
+      | inr k ↦ rw (le-ltb (level ((v + 4294967295) % 2 ^ 32)) (level n) k) (rw (lt-ltb (level n) (level v) (omega (arith, g, k)))
+          (omega (arith, sv, sn, l, g, k)))
     ]
 
 -- ---- sums
@@ -155,7 +156,8 @@ module _ (own : Linear) (range : Range) (number : ℕ) (small : number < 2 ^ 32)
     none = down.none;
   }
 
-  pub lesser-up : (before : Linear) (made : Expr) → range.high ≤ level number + 1 → 1 ≤ range.low → IsMore own 4294967295 before → IsSteppedUp before number made
+  pub lesser-up : (before : Linear) (made : Expr) → range.high ≤ level number + 1 → 1 ≤ range.low → IsMore own 4294967295 before
+      → IsSteppedUp before number made
       → IsLesser own range number made
   lesser-up before made l low more up = record {
     value_is = λ reads values lies.

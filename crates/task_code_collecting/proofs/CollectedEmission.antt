@@ -34,7 +34,8 @@ use Rattle.task_code_lanes.specs.declared.groups.Group.{Group}
 use Rattle.task_code_lanes.specs.Groups.{registers, slot, vtype_of}
 use Rattle.task_code_collecting.specs.Collected.{Collected, collected, collecting, pixel_code, is_one_store, round_fits, one_round_code, collected_code}
 use Rattle.task_code_collecting.specs.Faults.{FitsRound, EmitsRound, IsRoundFault, EmitsCollected}
-use Rattle.task_code_collecting.proofs.Unrolled.{one-store-sequence, one-store-for, one-store-bind, collected-store, collected-bind, round-fits-store, round-fits-bind}
+use Rattle.task_code_collecting.proofs.Unrolled.{one-store-sequence, one-store-for, one-store-bind, collected-store, collected-bind, round-fits-store}
+use Rattle.task_code_collecting.proofs.Unrolled.{round-fits-bind}
 
 -- ---- tests
 
@@ -48,24 +49,29 @@ is-equal : (n k : ℕ) → n ≡ k → (n == k) ≡ true
 is-equal n k e = grind (arith, nat_tests)
 
 room-of : {old new : List ℕ} (places : Places) (own : Deep) → EmitsDeep old new places.frames own 0 → has_room places own ≡ true
-room-of places own x = let r = x.room in and_from own.own.is_word (nat_le own.depth (frame_words places.frames)) x.is_word (room-test own.depth (frame_words places.frames) (omega (arith, r)))
+room-of places own x = let r = x.room in and_from own.own.is_word (nat_le own.depth (frame_words places.frames)) x.is_word
+    (room-test own.depth (frame_words places.frames) (omega (arith, r)))
 
-pub store-fits : (places : Places) (scope : List Counter) (store : Store) {a b c d e f : List ℕ} → EmitsDeep a b places.frames (deep places scope store.x) 0 → EmitsDeep c d places.frames (deep places scope store.y) 0
+pub store-fits : (places : Places) (scope : List Counter) (store : Store) {a b c d e f : List ℕ} → EmitsDeep a b places.frames (deep places scope store.x) 0
+    → EmitsDeep c d places.frames (deep places scope store.y) 0
     → EmitsDeep e f places.frames (deep places scope store.value) 0 → fits_store places scope store ≡ true
 store-fits places scope store x y v =
     and_from (has_room places (deep places scope store.x)) _ (room-of places (deep places scope store.x) x)
-    (and_from (has_room places (deep places scope store.y)) (has_room places (deep places scope store.value)) (room-of places (deep places scope store.y) y) (room-of places (deep places scope store.value) v))
+    (and_from (has_room places (deep places scope store.y)) (has_room places (deep places scope store.value)) (room-of places (deep places scope store.y) y)
+    (room-of places (deep places scope store.value) v))
 
 -- ---- lengths
 
 pub bind-length : (scope : List Counter) (whole : Whole) (extent r : ℕ) (body : List Insn) → length body + 4 ≤ length (bind_code scope whole extent r body)
 bind-length scope whole extent r body =
-    let l : length (bind_code scope whole extent r body) ≡ length (whole_code scope whole r) + length (test r extent (length body + 1) ++ body) = length-append (whole_code scope whole r) _ in
+    let l : length (bind_code scope whole extent r body) ≡ length (whole_code scope whole r) + length (test r extent (length body + 1) ++ body) =
+    length-append (whole_code scope whole r) _ in
     omega (arith, l)
 
 -- what is around the rounds
 pub loop-length : (group : Group) (r n : ℕ) (body : List Insn)
-    → length (Vector (v.Vsetivli 0 0 (vtype_of group)) ∷ (loop_code r n body ++ (Vector (v.StoreElements Bits32 (slot group 0) 0 (addressings.Indexed (slot group 1)) true) ∷ []))) ≡ length body + 9
+    → length (Vector (v.Vsetivli 0 0 (vtype_of group))
+    ∷ (loop_code r n body ++ (Vector (v.StoreElements Bits32 (slot group 0) 0 (addressings.Indexed (slot group 1)) true) ∷ []))) ≡ length body + 9
 loop-length group r n body =
     let l = length-append (loop_code r n body) (Vector (v.StoreElements Bits32 (slot group 0) 0 (addressings.Indexed (slot group 1)) true) ∷ []) in
     let k = length-append body (loop_tail r (length body)) in
@@ -80,8 +86,10 @@ less-room frames m n word l room = elim room [
 
 -- ---- one pixel's lane
 
-pub collecting-emitted : (group : Group) (r : ℕ) (c0 c1 c2 c3 c4 c5 c6 : List ℕ) (a d e : ℕ) → a ≡ slot group 2 → d ≡ slot group 0 → e ≡ slot group 1 → Emits c0 c1 (AluImm alu_imms.Addi 14 r (pos 1) ∷ [])
-    → Emits c1 c2 (Vector (v.Vsetvli 0 14 (vtype_of group)) ∷ []) → Emits c2 c3 (Vector (v.ElementNumbers a true) ∷ []) → Emits c3 c4 (Vector (v.CompareVx compare_vxs.Vmseq 0 a r true) ∷ [])
+pub collecting-emitted : (group : Group) (r : ℕ) (c0 c1 c2 c3 c4 c5 c6 : List ℕ) (a d e : ℕ) → a ≡ slot group 2 → d ≡ slot group 0 → e ≡ slot group 1
+    → Emits c0 c1 (AluImm alu_imms.Addi 14 r (pos 1) ∷ [])
+    → Emits c1 c2 (Vector (v.Vsetvli 0 14 (vtype_of group)) ∷ []) → Emits c2 c3 (Vector (v.ElementNumbers a true) ∷ [])
+    → Emits c3 c4 (Vector (v.CompareVx compare_vxs.Vmseq 0 a r true) ∷ [])
     → Emits c4 c5 (Vector (v.MergeVx d d 20) ∷ []) → Emits c5 c6 (Vector (v.MergeVx e e 15) ∷ []) → Emits c0 c6 (collecting group r)
 collecting-emitted group r c0 c1 c2 c3 c4 c5 c6 a d e ea ed ee one two three four five six =
     emits_then one (emits_then two
@@ -97,15 +105,18 @@ no-sequence own first second e is = absurd (true≢false (sym is ∙ ap is_one_s
 pub no-for : (own body : Stmt) (counter : Counter) (count : ℕ) (kind : LoopKind) → own ≡ s.For counter count kind body → is_one_store own ≡ true → ⊥
 no-for own body counter count kind e is = absurd (true≢false (sym is ∙ ap is_one_store e ∙ one-store-for counter count kind body))
 
-pub body-one : (own body x : Stmt) (counter : Counter) (whole : Whole) (extent : ℕ) → own ≡ s.Bind counter whole extent body → x ≡ body → is_one_store own ≡ true → is_one_store x ≡ true
+pub body-one : (own body x : Stmt) (counter : Counter) (whole : Whole) (extent : ℕ) → own ≡ s.Bind counter whole extent body → x ≡ body
+    → is_one_store own ≡ true → is_one_store x ≡ true
 body-one own body x counter whole extent e ex is = ap is_one_store ex ∙ sym (one-store-bind counter whole extent body) ∙ sym (ap is_one_store e) ∙ is
 
 -- a body is a smaller tree
 body-smaller : (counter : Counter) (whole : Whole) (extent : ℕ) (body : Stmt) → size-Stmt body < size-Stmt (s.Bind counter whole extent body)
 body-smaller counter whole extent body = let h = sized-Bind counter whole extent body in omega (arith, h)
 
-pub smaller : (own body x : Stmt) (counter : Counter) (whole : Whole) (extent : ℕ) → own ≡ s.Bind counter whole extent body → x ≡ body → size-Stmt x < size-Stmt own
-smaller own body x counter whole extent e ex = subst (λ y. size-Stmt x < size-Stmt y) (sym e) (subst (λ y. size-Stmt y < size-Stmt (s.Bind counter whole extent body)) (sym ex) (body-smaller counter whole extent body))
+pub smaller : (own body x : Stmt) (counter : Counter) (whole : Whole) (extent : ℕ) → own ≡ s.Bind counter whole extent body → x ≡ body
+    → size-Stmt x < size-Stmt own
+smaller own body x counter whole extent e ex = subst (λ y. size-Stmt x < size-Stmt y) (sym e)
+    (subst (λ y. size-Stmt y < size-Stmt (s.Bind counter whole extent body)) (sym ex) (body-smaller counter whole extent body))
 
 module _ (group : Group) (places : Places) (r : ℕ) where
   abbrev code_of : Stmt → List Counter → List Insn
@@ -120,14 +131,16 @@ module _ (group : Group) (places : Places) (r : ℕ) where
 
   -- ---- what is appended
 
-  pub store-emitted : (scope : List Counter) (own : Stmt) (store : Store) (c0 c1 c2 : List ℕ) → own ≡ s.Store store → Emits c0 c1 (pixel_code places scope store) × (fits_store places scope store ≡ true)
+  pub store-emitted : (scope : List Counter) (own : Stmt) (store : Store) (c0 c1 c2 : List ℕ) → own ≡ s.Store store
+      → Emits c0 c1 (pixel_code places scope store) × (fits_store places scope store ≡ true)
       → Emits c1 c2 (collecting group r) → EmitsRound c0 c2 group places r own scope
   store-emitted scope own store c0 c1 c2 e x last =
       subst (λ z. EmitsRound c0 c2 group places r z scope) (sym e)
       (record { emits = emits-is (emits_then x.0 last) (sym (code-store store scope)); fits = round-fits-store places store scope ∙ x.1 })
 
   -- a test's body, emitted apart
-  pub inner-emitted : (start made slice : List ℕ) (view items wanted : List Counter) (x body : Stmt) → start ≡ [] → slice ≡ made → view ≡ items → items ≡ wanted → x ≡ body
+  pub inner-emitted : (start made slice : List ℕ) (view items wanted : List Counter) (x body : Stmt) → start ≡ [] → slice ≡ made → view ≡ items → items ≡ wanted
+      → x ≡ body
       → EmitsRound start made group places r x view → EmitsRound [] slice group places r body wanted
   inner-emitted start made slice view items wanted x body es em ev ew ex a =
       subst (λ z. EmitsRound [] slice group places r body z) (ev ∙ ew)
@@ -137,35 +150,48 @@ module _ (group : Group) (places : Places) (r : ℕ) where
 
   pub bind-emitted : (scope : List Counter) (own body : Stmt) (counter : Counter) (whole : Whole) (extent h : ℕ) (inner c0 c1 : List ℕ)
       → own ≡ s.Bind counter whole extent body → h ≡ seat (length scope) → length scope < 14 → EmitsRound [] inner group places r body (counter ∷ scope)
-      → ((insns : List Insn) → Emits [] inner insns → Emits c0 c1 (bind_code scope whole extent h insns)) × ((fits_whole whole ≡ true) × (extent < 2 ^ 32)) → EmitsRound c0 c1 group places r own scope
+      → ((insns : List Insn) → Emits [] inner insns → Emits c0 c1 (bind_code scope whole extent h insns)) × ((fits_whole whole ≡ true) × (extent < 2 ^ 32))
+      → EmitsRound c0 c1 group places r own scope
   bind-emitted scope own body counter whole extent h inner c0 c1 e eh few part bound =
       let code = bound.0 (code_of body (counter ∷ scope)) part.emits in
       subst (λ z. EmitsRound c0 c1 group places r z scope) (sym e) (record {
-        emits = emits-is (subst (λ q. Emits c0 c1 (bind_code scope whole extent q (code_of body (counter ∷ scope)))) eh code) (sym (code-bind counter whole extent body scope));
+        emits = emits-is (subst (λ q. Emits c0 c1 (bind_code scope whole extent q (code_of body (counter ∷ scope)))) eh code)
+            (sym (code-bind counter whole extent body scope));
         fits = round-fits-bind places counter whole extent body scope
-            ∙ and_from (has_seat scope) _ (seat-test (length scope) few) (and_from (fits_whole whole) _ bound.1.0 (and_from (is_word extent) (round_fits places body (counter ∷ scope)) (word-test extent bound.1.1) part.fits));
+            ∙ and_from (has_seat scope) _ (seat-test (length scope) few) (and_from (fits_whole whole) _ bound.1.0 (and_from (is_word extent)
+            (round_fits places body (counter ∷ scope)) (word-test extent bound.1.1) part.fits));
       })
 
   -- ---- what is too long or too deep
 
-  pub no-store : (own : Stmt) (store : Store) (scope : List Counter) → own ≡ s.Store store → (FitsStore places store → ⊥) → FitsRound places own (length scope) → ⊥
+  pub no-store : (own : Stmt) (store : Store) (scope : List Counter) → own ≡ s.Store store → (FitsStore places store → ⊥) → FitsRound places own (length scope)
+      → ⊥
   no-store own store scope e none is =
       none (is.0, subst (λ (n : ℕ). HasRoom places.frames n 0) (ap greatest_need e ∙ greatest_store store) is.1.0)
 
-  bind-grown : (counter : Counter) (whole : Whole) (extent : ℕ) (body : Stmt) (scope : List Counter) → length (code_of body (counter ∷ scope)) + 4 ≤ length (code_of (s.Bind counter whole extent body) scope)
+  bind-grown : (counter : Counter) (whole : Whole) (extent : ℕ) (body : Stmt) (scope : List Counter)
+      → length (code_of body (counter ∷ scope)) + 4 ≤ length (code_of (s.Bind counter whole extent body) scope)
   bind-grown counter whole extent body scope =
       let e = ap length (code-bind counter whole extent body scope) in
       let l = bind-length scope whole extent (seat (length scope)) (code_of body (counter ∷ scope)) in
       omega (arith, e, l)
 
-  body-fits : (counter : Counter) (whole : Whole) (extent : ℕ) (body : Stmt) (scope : List Counter) → FitsRound places (s.Bind counter whole extent body) (length scope) → FitsRound places body (length (counter ∷ scope))
+  body-fits : (counter : Counter) (whole : Whole) (extent : ℕ) (body : Stmt) (scope : List Counter)
+      → FitsRound places (s.Bind counter whole extent body) (length scope) → FitsRound places body (length (counter ∷ scope))
   body-fits counter whole extent body scope is =
       let g = greatest_bind counter whole extent body in
       let d = depth_bind counter whole extent body in
-      let seats = is.1.1 in
-      (is.0, (less-room places.frames (greatest_need (s.Bind counter whole extent body)) (greatest_need body) 0 (omega (arith, g)) is.1.0, omega (arith, d, seats)))
+      let seats = is.1.1 in (
+        is.0,
+        (
+          less-room places.frames (greatest_need (s.Bind counter whole extent body)) (greatest_need body) 0 (omega (arith, g)) is.1.0,
+          omega
+              (arith, d, seats),
+        ),
+      )
 
-  pub part-passed : {T : Type 0} (result : Result T CodeFault) (fault : CodeFault) (own body x : Stmt) (counter : Counter) (whole : Whole) (extent : ℕ) (scope view items : List Counter)
+  pub part-passed : {T : Type 0} (result : Result T CodeFault) (fault : CodeFault) (own body x : Stmt) (counter : Counter) (whole : Whole) (extent : ℕ)
+      (scope view items : List Counter)
       → IsErrAnd result (λ error. error ≡ fault) → own ≡ s.Bind counter whole extent body → x ≡ body → view ≡ items → items ≡ counter ∷ scope
       → IsRoundFault group places r x view fault → IfErr result (IsRoundFault group places r own scope)
   part-passed result fault own body x counter whole extent scope view items from e ex ev ei is =
@@ -174,7 +200,8 @@ module _ (group : Group) (places : Places) (r : ℕ) where
       subst (λ z. IfErr result (IsRoundFault group places r z scope)) (sym e)
       (passed result fault from (λ long. omega (arith, l, long)) (λ none fits. none (body-fits counter whole extent body scope fits)) inside)
 
-  pub bind-long : (own body : Stmt) (counter : Counter) (whole : Whole) (extent : ℕ) (scope : List Counter) (inner : List ℕ) → own ≡ s.Bind counter whole extent body
+  pub bind-long : (own body : Stmt) (counter : Counter) (whole : Whole) (extent : ℕ) (scope : List Counter) (inner : List ℕ)
+      → own ≡ s.Bind counter whole extent body
       → EmitsRound [] inner group places r body (counter ∷ scope) → 2 ^ 18 ≤ length inner + 4 → IsLong (code_of own scope)
   bind-long own body counter whole extent scope inner e part long =
       let n = emits-length inner (code_of body (counter ∷ scope)) part.emits in
@@ -182,7 +209,8 @@ module _ (group : Group) (places : Places) (r : ℕ) where
       let l = bind-grown counter whole extent body scope in
       omega (arith, n, is, l, long)
 
-  pub bind-seatless : (own body : Stmt) (counter : Counter) (whole : Whole) (extent : ℕ) (scope : List Counter) → own ≡ s.Bind counter whole extent body → 14 ≤ length scope
+  pub bind-seatless : (own body : Stmt) (counter : Counter) (whole : Whole) (extent : ℕ) (scope : List Counter) → own ≡ s.Bind counter whole extent body
+      → 14 ≤ length scope
       → FitsRound places own (length scope) → ⊥
   bind-seatless own body counter whole extent scope e many is =
       let d = ap depth e ∙ depth_bind counter whole extent body in let seats = is.1.1 in omega (arith, d, many, seats)
@@ -201,9 +229,12 @@ module _ (group : Group) (places : Places) (scope : List Counter) (counter : Cou
       let l = all-length in
       omega (arith, n, l, long)
 
-  pub loop-emitted : (r p q : ℕ) (inner c0 c1 c2 c3 : List ℕ) → r ≡ seat (length scope) → length scope < 14 → count ≡ 4 * registers group → EmitsRound [] inner group places r body (counter ∷ scope)
-      → Emits c0 c1 (Vector (v.Vsetivli 0 0 (vtype_of group)) ∷ []) → ((insns : List Insn) → Emits [] inner insns → Emits c1 c2 (loop_code r count insns)) × (count < 2 ^ 32)
-      → p ≡ slot group 0 → q ≡ slot group 1 → Emits c2 c3 (Vector (v.StoreElements Bits32 p 0 (addressings.Indexed q) true) ∷ []) → EmitsCollected c0 c3 group places scope counter count body
+  pub loop-emitted : (r p q : ℕ) (inner c0 c1 c2 c3 : List ℕ) → r ≡ seat (length scope) → length scope < 14 → count ≡ 4 * registers group
+      → EmitsRound [] inner group places r body (counter ∷ scope)
+      → Emits c0 c1 (Vector (v.Vsetivli 0 0 (vtype_of group)) ∷ []) → ((insns : List Insn) → Emits [] inner insns → Emits c1 c2 (loop_code r count insns))
+      × (count < 2 ^ 32)
+      → p ≡ slot group 0 → q ≡ slot group 1 → Emits c2 c3 (Vector (v.StoreElements Bits32 p 0 (addressings.Indexed q) true) ∷ [])
+      → EmitsCollected c0 c3 group places scope counter count body
   loop-emitted r p q inner c0 c1 c2 c3 er few ec part first loop ep eq last =
       let own = subst (λ k. EmitsRound [] inner group places k body (counter ∷ scope)) er part in
       let code = one_round_code group places scope counter body in
@@ -212,5 +243,6 @@ module _ (group : Group) (places : Places) (scope : List Counter) (counter : Cou
       (subst (λ k. Emits c2 c3 (Vector (v.StoreElements Bits32 k 0 (addressings.Indexed q) true) ∷ [])) ep last) in
       record {
         emits = emits_then first (emits_then rounds end);
-        fits = and_from (has_seat scope) _ (seat-test (length scope) few) (and_from (count == 4 * registers group) (round_fits places body (counter ∷ scope)) (is-equal count (4 * registers group) ec) own.fits);
+        fits = and_from (has_seat scope) _ (seat-test (length scope) few) (and_from (count == 4 * registers group) (round_fits places body (counter ∷ scope))
+            (is-equal count (4 * registers group) ec) own.fits);
       }

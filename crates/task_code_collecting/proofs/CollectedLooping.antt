@@ -106,8 +106,17 @@ module _ (own : Setting) (good : IsSetting own) (group : Group) (r : ℕ) (body 
     each : (k : ℕ) → k < count → Held funcs k f
     none : (k : ℕ) → count ≤ k → k < n → effects funcs k ≡ None
 
-  held-same : (funcs : Planes) (k : ℕ) (f g : ℕ → ℕ) → g (lane (slot group 0) k) ≡ f (lane (slot group 0) k) → g (lane (slot group 1) k) ≡ f (lane (slot group 1) k) → Held funcs k f → Held funcs k g
-  held-same funcs k f g e0 e1 a = record { stored = a.stored; is = a.is; written = a.written; small = a.small; pixel_is = e0 ∙ a.pixel_is; address_is = e1 ∙ a.address_is }
+  held-same : (funcs : Planes) (k : ℕ) (f g : ℕ → ℕ) → g (lane (slot group 0) k) ≡ f (lane (slot group 0) k)
+      → g (lane (slot group 1) k) ≡ f (lane (slot group 1) k) → Held funcs k f → Held funcs k g
+  held-same funcs k f g e0 e1 a = record {
+    stored = a.stored;
+    is = a.is;
+    written = a.written;
+    small = a.small;
+    pixel_is = e0 ∙ a.pixel_is;
+    address_is = e1
+        ∙ a.address_is;
+  }
 
   gathered-stay : (funcs : Planes) (n : ℕ) (f g : ℕ → ℕ) → SameLanes f g → Gathered funcs n f → Gathered funcs n g
   gathered-stay funcs n f g same a = record {
@@ -128,7 +137,8 @@ module _ (own : Setting) (good : IsSetting own) (group : Group) (r : ℕ) (body 
   }
 
   -- one more round
-  module _ (funcs : Planes) (total_rounds : ℕ) (up : (k : ℕ) → k + 1 < total_rounds → (rounds (reads_of own.inputs funcs) body).steps_up (at k) (at (k + 1)) ≡ true) (i : ℕ) (less : i < total_rounds) (f : ℕ → ℕ) (a : Gathered funcs i f) where
+  module _ (funcs : Planes) (total_rounds : ℕ) (up : (k : ℕ) → k + 1 < total_rounds → (rounds (reads_of own.inputs funcs) body).steps_up (at k) (at (k + 1))
+      ≡ true) (i : ℕ) (less : i < total_rounds) (f : ℕ → ℕ) (a : Gathered funcs i f) where
     last-or : (j : ℕ) → j < suc i → (j < i) ⊎ (j ≡ i)
     last-or j b = elim (cases_lt j i) [ inl l ↦ inl l | inr m ↦ inr (omega (arith, b, m)) ]
 
@@ -148,7 +158,8 @@ module _ (own : Setting) (good : IsSetting own) (group : Group) (r : ℕ) (body 
     all-stored e is = elim (cases_lt a.count i) [
       | inl l ↦
           let d : a.count + (i - a.count) ≡ i = omega (arith, l) in
-          let s = all-before (reads_of own.inputs funcs) body at total_rounds up (i - a.count) a.count (omega (arith, d, less)) (subst (λ k. Stored (effects funcs k)) (sym d) (record { stored = e; is = is })) in
+          let s = all-before (reads_of own.inputs funcs) body at total_rounds up (i - a.count) a.count (omega (arith, d, less))
+          (subst (λ k. Stored (effects funcs k)) (sym d) (record { stored = e; is = is })) in
           absurd (none-some (sym (a.none a.count (omega arith) l) ∙ s.is))
       | inr m ↦ (let q = a.few in omega (arith, m, q))
     ]
@@ -162,7 +173,15 @@ module _ (own : Setting) (good : IsSetting own) (group : Group) (r : ℕ) (body 
           has = b.marks.has;
           each = λ j lj. elim (last-or j lj) [
             | inl l ↦ held-same funcs j f after (b.marks.pixels_stay j l) (b.marks.addresses_stay j l) (a.each j (omega (arith, l, c)))
-            | inr q ↦ subst (λ k. Held funcs k after) (sym q) (record { stored = e; is = is; written = b.written; small = b.small; pixel_is = b.marks.pixel_is; address_is = b.marks.address_is })
+            | inr q ↦ subst (λ k. Held funcs k after) (sym q) (record {
+              stored = e;
+              is = is;
+              written = b.written;
+              small = b.small;
+              pixel_is =
+                  b.marks.pixel_is;
+              address_is = b.marks.address_is;
+            })
           ];
           none = λ j low high. absurd (omega (arith, low, high));
         }
@@ -206,7 +225,8 @@ module _ (own : Setting) (good : IsSetting own) (group : Group) (r : ℕ) (body 
     can : (k : ℕ) → k < m → own.written func (x k) (y k) ≡ true
     can k b =
         let h = held k b in
-        subst (λ (e : Effect). own.written func e.x e.y ≡ true) (sym (made-is k h.stored h.is)) (subst (λ z. own.written z h.stored.x h.stored.y ≡ true) (of.is (at k) h.stored h.is) h.written)
+        subst (λ (e : Effect). own.written func e.x e.y ≡ true) (sym (made-is k h.stored h.is)) (subst (λ z. own.written z h.stored.x h.stored.y ≡ true)
+        (of.is (at k) h.stored h.is) h.written)
 
     small : (k : ℕ) → k < m → pixel k < 2 ^ 32
     small k b = let h = held k b in subst (λ (e : Effect). e.pixel < 2 ^ 32) (sym (made-is k h.stored h.is)) h.small
@@ -294,7 +314,8 @@ module _ (own : Setting) (good : IsSetting own) (group : Group) (r : ℕ) (body 
           let ex = ap (λ (e : Effect). e.x) e ∙ h.x_is in
           let ey = ap (λ (e : Effect). e.y) e ∙ h.y_is in
           row-touched own good func m few x y pixel can small h.round byte b
-          (subst (λ z. IsOf w own.places z (x h.round) (y h.round) byte) (sym ef) (subst (λ z. IsOf w own.places g z (y h.round) byte) (sym ex) (subst (λ z. IsOf w own.places g i z byte) (sym ey) is)))
+          (subst (λ z. IsOf w own.places z (x h.round) (y h.round) byte) (sym ef) (subst (λ z. IsOf w own.places g z (y h.round) byte) (sym ex)
+          (subst (λ z. IsOf w own.places g i z byte) (sym ey) is)))
       | inr q ↦ absurd (none-some (sym (a.none h.round q h.below) ∙ h.is))
     ]
 
@@ -314,8 +335,10 @@ module _ (own : Setting) (good : IsSetting own) (group : Group) (r : ℕ) (body 
         let can_write : AllWritable w Word (f vl_number) spots = subst (λ k. AllWritable w Word k spots) (sym count) writable in
         let where-is : (k : ℕ) → k < f vl_number → lanes.add 32 (f 0) (f (lane (slot group 1) k)) ≡ spots k = λ k b. reached k (omega (arith, b, count)) in
         let left-is : stored_lanes memory Word (f vl_number) spots (λ k. f (lane (slot group 0) k)) ≡ stored_lanes memory Word m spots pixel =
-        ap (λ k. stored_lanes memory Word k spots (λ k. f (lane (slot group 0) k))) count ∙ lanes-same memory m spots (λ k. f (lane (slot group 0) k)) pixel pixel-there in
-        let line = stores w f memory holds.size (registers group) a.has.configured (addressings.Indexed (slot group 1)) (slot group 0) 0 spots lies0.is_group (omega arith) lies1.is_group where-is can_write in
+        ap (λ k. stored_lanes memory Word k spots (λ k. f (lane (slot group 0) k))) count ∙ lanes-same memory m spots (λ k. f (lane (slot group 0) k)) pixel
+        pixel-there in
+        let line = stores w f memory holds.size (registers group) a.has.configured (addressings.Indexed (slot group 1)) (slot group 0) 0 spots lies0.is_group
+        (omega arith) lies1.is_group where-is can_write in
         let row = row-holds own good func m few x y pixel can small m (omega arith) memory funcs holds in
         record {
           after = f;
@@ -326,14 +349,16 @@ module _ (own : Setting) (good : IsSetting own) (group : Group) (r : ℕ) (body 
           elsewhere = row.elsewhere;
           are_bytes = row.are_bytes;
           writes = λ g i j byte from h is s.
-              stores-write w f memory holds.size (registers group) a.has.configured (addressings.Indexed (slot group 1)) (slot group 0) 0 spots lies0.is_group (omega arith) lies1.is_group where-is can_write from byte s.0
+              stores-write w f memory holds.size (registers group) a.has.configured (addressings.Indexed (slot group 1)) (slot group 0) 0 spots lies0.is_group
+              (omega arith) lies1.is_group where-is can_write from byte s.0
               (subst (λ k. is_in byte (touched (accesses_to Word k spots)) ≡ true) (sym count) (touches i j byte g h is));
         }
 
 -- ---- the loop
 
 module _ (own : Setting) (good : IsSetting own) (group : Group) (counter : Counter) (count : ℕ) (body : Stmt) (scope : List Counter) (values : Values)
-    (fit : collected_fits group own.places scope counter count body ≡ true) (sound : SoundIn own (For counter count Vectorized body) values) (runs : RunsIn own (For counter count Vectorized body) values) where
+    (fit : collected_fits group own.places scope counter count body ≡ true) (sound : SoundIn own (For counter count Vectorized body) values)
+    (runs : RunsIn own (For counter count Vectorized body) values) where
   abbrev u : World
   u = own.world
 
@@ -386,69 +411,94 @@ module _ (own : Setting) (good : IsSetting own) (group : Group) (counter : Count
   abbrev effect_of : Planes → ℕ → Option Effect
   effect_of funcs k = effect (reads_of own.inputs funcs) body (at k)
 
-  module _ (funcs : Planes) (facts : Apart funcs) (f : ℕ → ℕ) (memory : List ℕ) (holds : HoldsFuncs own memory funcs) (knows : Knows u own.harts scope values f) where
-    steps : (k : ℕ) → k + 1 < count → (rounds (reads_of own.inputs funcs) body).steps_up (at k) (at (k + 1)) ≡ true
-    steps k b = each-turn (count - 1) (λ round. (rounds (reads_of own.inputs funcs) body).steps_up (at round) (at (round + 1))) facts.up k (omega (arith, b))
+  module _ (funcs : Planes) (facts : Apart funcs) (f : ℕ → ℕ) (memory : List ℕ) (holds : HoldsFuncs own memory funcs) (knows : Knows u own.harts scope values f)
+    where
+      steps : (k : ℕ) → k + 1 < count → (rounds (reads_of own.inputs funcs) body).steps_up (at k) (at (k + 1)) ≡ true
+      steps k b = each-turn (count - 1) (λ round. (rounds (reads_of own.inputs funcs) body).steps_up (at round) (at (round + 1))) facts.up k (omega (arith, b))
 
-    -- no lane is configured
-    abbrev f1 : ℕ → ℕ
-    f1 = configure f 0 (vtype_of group)
+      -- no lane is configured
+      abbrev f1 : ℕ → ℕ
+      f1 = configure f 0 (vtype_of group)
 
-    kept-low : (q : ℕ) → Kept (length scope) q → f1 q ≡ f q
-    kept-low q kept = configured-others f 0 (vtype_of group) q (let z = kept-safe (length scope) q kept in let o = z.outside in omega (arith, o))
+      kept-low : (q : ℕ) → Kept (length scope) q → f1 q ≡ f q
+      kept-low q kept = configured-others f 0 (vtype_of group) q (let z = kept-safe (length scope) q kept in let o = z.outside in omega (arith, o))
 
-    abbrev first : Does own (Vector (v.Vsetivli 0 0 (vtype_of group)) ∷ []) 1 f memory (length scope) funcs no_hits
-    first = still own (λ from. from) _ _ f1 holds kept-low (λ from s.
-        subst (λ k. Path u from (from + 4) 1 f memory (configure f k (vtype_of group)) memory) (zero-least (most_elements (vtype_of group))) (configure-at u f memory holds.size 0 (vtype_of group) (supported group) from s))
+      abbrev first : Does own (Vector (v.Vsetivli 0 0 (vtype_of group)) ∷ []) 1 f memory (length scope) funcs no_hits
+      first = still own (λ from. from) _ _ f1 holds kept-low (λ from s.
+          subst (λ k. Path u from (from + 4) 1 f memory (configure f k (vtype_of group)) memory) (zero-least (most_elements (vtype_of group)))
+          (configure-at u f memory holds.size 0 (vtype_of group) (supported group) from s))
 
-    begun : Gathered own good group c body at funcs 0 f1
-    begun = record { count = 0; few = omega arith; has = has-lanes group f 0 (omega arith); each = λ k b. absurd (omega (arith, b)); none = λ k low high. absurd (omega (arith, high)) }
+      begun : Gathered own good group c body at funcs 0 f1
+      begun = record {
+        count = 0;
+        few = omega arith;
+        has = has-lanes group f 0 (omega arith);
+        each = λ k b. absurd (omega (arith, b));
+        none =
+            λ k low high. absurd (omega (arith, high));
+      }
 
-    -- Where buffers hold what they held at first, each round adds its pixel.
-    record Same (p : Planes) (n : ℕ) (g : ℕ → ℕ) : Type 0 where
-      same : p ≡ funcs
-      gathered : Gathered own good group c body at funcs n g
+      -- Where buffers hold what they held at first, each round adds its pixel.
+      record Same (p : Planes) (n : ℕ) (g : ℕ → ℕ) : Type 0 where
+        same : p ≡ funcs
+        gathered : Gathered own good group c body at funcs n g
 
-    round : (i : ℕ) (g : ℕ → ℕ) (left : List ℕ) (p : Planes) → i < count → HoldsFuncs own left p → Knows u own.harts (counter ∷ scope) (at i) g → Same p i g
-        → Marked own (Same p (suc i)) (one_round_code group own.places scope counter body) (λ from. from) (λ from. end from (one_round_code group own.places scope counter body))
-        ((collected group own.places c body).turns (counter ∷ scope) (at i)) g left (suc (length scope)) p no_hits
-    round i g left p l there known a =
-        let e : g c ≡ i = ap g (sym own-seat) ∙ known.counters counter ∙ stands i in
-        let b = follows own good group c body (counter ∷ scope) (at i) i (let k = count-is in omega (arith, l, k)) (at-counter (record { number = length scope; below = omega arith; is = refl })) body-fits (each-sound i l)
-        g g left p there known e (λ q high. refl) in
-        record {
-          went = b.went;
-          mark = record {
-            same = a.same;
-            gathered = grows own good group c body at funcs count steps i l g a.gathered b.went.after (effect_of funcs i) refl
-                (subst (λ (z : Planes). Collects own good group c i g (effect_of z i) b.went.after) a.same b.mark);
-          };
-        }
+      round : (i : ℕ) (g : ℕ → ℕ) (left : List ℕ) (p : Planes) → i < count → HoldsFuncs own left p → Knows u own.harts (counter ∷ scope) (at i) g → Same p i g
+          → Marked own (Same p (suc i)) (one_round_code group own.places scope counter body) (λ from. from) (λ from. end from (one_round_code group own.places
+          scope counter body))
+          ((collected group own.places c body).turns (counter ∷ scope) (at i)) g left (suc (length scope)) p no_hits
+      round i g left p l there known a =
+          let e : g c ≡ i = ap g (sym own-seat) ∙ known.counters counter ∙ stands i in
+          let b = follows own good group c body (counter ∷ scope) (at i) i (let k = count-is in omega (arith, l, k))
+          (at-counter (record { number = length scope; below = omega arith; is = refl })) body-fits (each-sound i l)
+          g g left p there known e (λ q high. refl) in
+          record {
+            went = b.went;
+            mark = record {
+              same = a.same;
+              gathered = grows own good group c body at funcs count steps i l g a.gathered b.went.after (effect_of funcs i) refl
+                  (subst (λ (z : Planes). Collects own good group c i g (effect_of z i) b.went.after) a.same b.mark);
+            };
+          }
 
-    looped : Marked own (Gathered own good group c body at funcs count) (loop_code c count (one_round_code group own.places scope counter body)) (λ from. from) (λ from. end from (loop_code c count (one_round_code group own.places scope counter body)))
-        (1 + (total count (λ i. 3 + ((collected group own.places c body).turns (counter ∷ scope) (at i) + 2)) + 4)) f1 memory (length scope) funcs no_hits
-    looped =
-        let e = count-few in
-        let a = loop-goes own scope values few counter count (omega (arith, e)) (one_round_code group own.places scope counter body) (λ i. (collected group own.places c body).turns (counter ∷ scope) (at i))
-        (λ i p. p) (λ i p. no_hits) Same (λ p i g h same b. record { same = b.same; gathered = gathered-stay own good group c body at funcs i g h same b.gathered }) round
-        (λ i p. no_hits) (λ p func x y h. h) (λ i p func x y h. inl h) f1 memory funcs holds (knows-still u own.harts scope values f f1 knows kept-low) (record { same = refl; gathered = begun }) in
-        record { went = went-is own refl (no-turns count funcs) a.went; mark = a.mark.gathered }
+      looped : Marked own (Gathered own good group c body at funcs count) (loop_code c count (one_round_code group own.places scope counter body))
+          (λ from. from)
+          (λ from. end from (loop_code c count (one_round_code group own.places scope counter body)))
+          (1 + (total count (λ i. 3 + ((collected group own.places c body).turns (counter ∷ scope) (at i) + 2)) + 4)) f1 memory (length scope) funcs no_hits
+      looped =
+          let e = count-few in
+          let a = loop-goes own scope values few counter count (omega (arith, e)) (one_round_code group own.places scope counter body)
+          (λ i. (collected group own.places c body).turns (counter ∷ scope) (at i))
+          (λ i p. p) (λ i p. no_hits) Same (λ p i g h same b. record {
+            same = b.same;
+            gathered = gathered-stay own good group c body at funcs i g h same
+                b.gathered;
+          }) round
+          (λ i p. no_hits) (λ p func x y h. h) (λ i p func x y h. inl h) f1 memory funcs holds (knows-still u own.harts scope values f f1 knows kept-low)
+          (record { same = refl; gathered = begun }) in
+          record { went = went-is own refl (no-turns count funcs) a.went; mark = a.mark.gathered }
 
-    loop-stores : Does own (collected_code group own.places scope counter count body) (collected_turns group own.places scope counter count body values) f memory (length scope) (laid own.points (effect_of funcs) count funcs) (effect_hits (effect_of funcs) count)
-    loop-stores =
-        let a = looped in
-        let ka = knows-still u own.harts scope values f a.went.after knows (λ q kept. a.went.keeps q kept ∙ kept-low q kept) in
-        let b = stored-does own good group c body at funcs count values a.went.after a.mark (let q = a.mark.few in let e = count-few in omega (arith, q, e)) ka.none
-        (loop-runs own counter count body values runs (reads_of own.inputs funcs) facts.one funcs holds.are_words) a.went.left a.went.holds (length scope) in
-        went-hits own (λ func x y hit. inr (inr hit)) (does-then own first (does-then own a.went b))
+      loop-stores : Does own (collected_code group own.places scope counter count body) (collected_turns group own.places scope counter count body values) f
+          memory (length scope) (laid own.points (effect_of funcs) count funcs) (effect_hits (effect_of funcs) count)
+      loop-stores =
+          let a = looped in
+          let ka = knows-still u own.harts scope values f a.went.after knows (λ q kept. a.went.keeps q kept ∙ kept-low q kept) in
+          let b = stored-does own good group c body at funcs count values a.went.after a.mark (let q = a.mark.few in let e = count-few in omega (arith, q, e))
+          ka.none
+          (loop-runs own counter count body values runs (reads_of own.inputs funcs) facts.one funcs holds.are_words) a.went.left a.went.holds (length scope) in
+          went-hits own (λ func x y hit. inr (inr hit)) (does-then own first (does-then own a.went b))
 
-  pub loop-does : (f : ℕ → ℕ) (memory : List ℕ) (funcs : Planes) → may_be_at_once (reads_of own.inputs funcs) (For counter count Vectorized body) values ≡ true → HoldsFuncs own memory funcs → Knows u own.harts scope values f
-      → Does own (collected_code group own.places scope counter count body) (collected_turns group own.places scope counter count body values) f memory (length scope)
-      (run own.points own.inputs (For counter count Vectorized body) values funcs) (λ func x y. stored_points own (For counter count Vectorized body) values funcs func x y ≡ true)
+  pub loop-does : (f : ℕ → ℕ) (memory : List ℕ) (funcs : Planes) → may_be_at_once (reads_of own.inputs funcs) (For counter count Vectorized body) values ≡ true
+      → HoldsFuncs own memory funcs → Knows u own.harts scope values f
+      → Does own (collected_code group own.places scope counter count body) (collected_turns group own.places scope counter count body values) f memory
+      (length scope)
+      (run own.points own.inputs (For counter count Vectorized body) values funcs) (λ func x y. stored_points own (For counter count Vectorized body) values
+      funcs func x y ≡ true)
   loop-does f memory funcs once holds knows =
       let a = apart-parts funcs once in
       let same = run_for own.points own.inputs counter count Vectorized body values funcs ∙ in_turn own.points own.inputs body at funcs count a.one a.apart in
-      went-hits own (λ func x y h. hits-at-once own.points own.inputs body at funcs a.one count a.apart func x y (sym (hit-for own.points own.inputs func x y counter count Vectorized body values funcs) ∙ h))
+      went-hits own (λ func x y h. hits-at-once own.points own.inputs body at funcs a.one count a.apart func x y
+      (sym (hit-for own.points own.inputs func x y counter count Vectorized body values funcs) ∙ h))
       (went-is own refl (sym same) (loop-stores funcs a f memory holds knows))
 
 pub loops-collected : LoopsAreCollected

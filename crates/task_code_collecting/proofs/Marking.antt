@@ -90,7 +90,8 @@ module _ (w : World) (m : List ℕ) (l : length m ≡ w.size) (group : Group) wh
     count-is = least-is (f1 14) i (most_elements (vtype_of group)) f1-is (let e = most group in omega (arith, e, few))
 
     line2 : Line w (Vector (v.Vsetvli 0 14 (vtype_of group)) ∷ []) f1 m f2 m
-    line2 = subst (λ c. Line w (Vector (v.Vsetvli 0 14 (vtype_of group)) ∷ []) f1 m (configure f1 c (vtype_of group)) m) count-is (configure-by w f1 m l 14 (vtype_of group) (omega arith) (omega arith) (supported group))
+    line2 = subst (λ c. Line w (Vector (v.Vsetvli 0 14 (vtype_of group)) ∷ []) f1 m (configure f1 c (vtype_of group)) m) count-is (configure-by w f1 m l 14
+        (vtype_of group) (omega arith) (omega arith) (supported group))
 
     has2 : HasLanes group (suc i) f2
     has2 = has-lanes group f1 (suc i) (omega (arith, few))
@@ -123,7 +124,8 @@ module _ (w : World) (m : List ℕ) (l : length m ≡ w.size) (group : Group) wh
     i4 : Sets (Vector (v.CompareVx compare_vxs.Vmseq 0 u r true) ∷ []) i3.after 32 (λ k. one_if (k == i))
     i4 = writes w m l group (suc i) (λ k. one_if (k == i)) (λ k. one_if (i3.after (lane u k) == (i3.after r % 2 ^ 32))) has3
         (masks.compare-vx w i3.after m l g has3.configured compare_vxs.Vmseq u r lies2.is_group low)
-        (λ k b. ap (λ p. one_if (p == (i3.after r % 2 ^ 32))) (i3.value k b) ∙ ap (λ p. one_if (k == p)) (word-is (i3.after r) i (scalar3 r low apart ∙ er) (let c = i-small in omega (arith, c))))
+        (λ k b. ap (λ p. one_if (p == (i3.after r % 2 ^ 32))) (i3.value k b) ∙ ap (λ p. one_if (k == p)) (word-is (i3.after r) i (scalar3 r low apart
+        ∙ er) (let c = i-small in omega (arith, c))))
 
     has4 : HasLanes group (suc i) i4.after
     has4 = writes-lanes w m l group (suc i) i4 has3
@@ -138,7 +140,8 @@ module _ (w : World) (m : List ℕ) (l : length m ≡ w.size) (group : Group) wh
     stack4 : (d k : ℕ) → d + g ≤ u → k < suc i → i4.after (lane d k) ≡ f (lane d k)
     stack4 d k under b =
         let top = lies2.high in
-        i4.below (lane d k) (omega (arith, under, top, b, few)) ∙ i3.below (lane d k) (omega (arith, under, b, few)) ∙ configured-lane f1 (suc i) (vtype_of group) (lane d k) (omega arith)
+        i4.below (lane d k) (omega (arith, under, top, b, few)) ∙ i3.below (lane d k) (omega (arith, under, b, few))
+        ∙ configured-lane f1 (suc i) (vtype_of group) (lane d k) (omega arith)
         ∙ f1-others (lane d k) (λ e. omega (arith, e))
 
     abbrev s0 : ℕ
@@ -149,12 +152,14 @@ module _ (w : World) (m : List ℕ) (l : length m ≡ w.size) (group : Group) wh
 
     -- the pixel
     i5 : Sets (Vector (v.MergeVx s0 s0 20) ∷ []) i4.after s0 (λ k. if one_if (k == i) == 0 then f (lane s0 k) else pixel)
-    i5 = writes w m l group (suc i) (λ k. if one_if (k == i) == 0 then f (lane s0 k) else pixel) (λ k. if i4.after (bit k) == 0 then i4.after (lane s0 k) else i4.after 20 % 2 ^ 32) has4
+    i5 = writes w m l group (suc i) (λ k. if one_if (k == i) == 0 then f (lane s0 k) else pixel) (λ k. if i4.after (bit k) == 0 then i4.after (lane s0 k)
+        else i4.after 20 % 2 ^ 32) has4
         (masks.merge-vx w i4.after m l g has4.configured s0 s0 20 lies0.is_group lies0.is_group (omega arith))
         (λ k b.
         ap (λ z. if z == 0 then i4.after (lane s0 k) else i4.after 20 % 2 ^ 32) (bit4 k b)
         ∙ ap (λ z. if one_if (k == i) == 0 then z else i4.after 20 % 2 ^ 32) (stack4 s0 k (let e = lies0.next in let o = lies1.next in omega (arith, e, o)) b)
-        ∙ ap (λ z. if one_if (k == i) == 0 then f (lane s0 k) else z) (word-is (i4.after 20) pixel (scalar4 20 (omega arith) (λ e. omega (arith, e)) ∙ ep) small_pixel))
+        ∙ ap (λ z. if one_if (k == i) == 0 then f (lane s0 k) else z) (word-is (i4.after 20) pixel (scalar4 20 (omega arith) (λ e. omega (arith, e))
+        ∙ ep) small_pixel))
 
     has5 : HasLanes group (suc i) i5.after
     has5 = writes-lanes w m l group (suc i) i5 has4
@@ -170,12 +175,14 @@ module _ (w : World) (m : List ℕ) (l : length m ≡ w.size) (group : Group) wh
 
     -- and its address
     i6 : Sets (Vector (v.MergeVx s1 s1 15) ∷ []) i5.after s1 (λ k. if one_if (k == i) == 0 then f (lane s1 k) else address)
-    i6 = writes w m l group (suc i) (λ k. if one_if (k == i) == 0 then f (lane s1 k) else address) (λ k. if i5.after (bit k) == 0 then i5.after (lane s1 k) else i5.after 15 % 2 ^ 32) has5
+    i6 = writes w m l group (suc i) (λ k. if one_if (k == i) == 0 then f (lane s1 k) else address) (λ k. if i5.after (bit k) == 0 then i5.after (lane s1 k)
+        else i5.after 15 % 2 ^ 32) has5
         (masks.merge-vx w i5.after m l g has5.configured s1 s1 15 lies1.is_group lies1.is_group (omega arith))
         (λ k b.
         ap (λ z. if z == 0 then i5.after (lane s1 k) else i5.after 15 % 2 ^ 32) (bit5 k b)
         ∙ ap (λ z. if one_if (k == i) == 0 then z else i5.after 15 % 2 ^ 32) (stack5 k b)
-        ∙ ap (λ z. if one_if (k == i) == 0 then f (lane s1 k) else z) (word-is (i5.after 15) address (scalar5 15 (omega arith) (λ e. omega (arith, e)) ∙ ea) small_address))
+        ∙ ap (λ z. if one_if (k == i) == 0 then f (lane s1 k) else z) (word-is (i5.after 15) address (scalar5 15 (omega arith) (λ e. omega (arith, e))
+        ∙ ea) small_address))
 
     first0 : (k : ℕ) → k < suc i → i6.after (lane s0 k) ≡ (if one_if (k == i) == 0 then f (lane s0 k) else pixel)
     first0 k b = i6.below (lane s0 k) (let e = lies0.next in omega (arith, e, b, few)) ∙ i5.value k b

@@ -28,7 +28,8 @@ of_some other None = other
 of_some other (Some own) = own
 
 up-to : (a b c : ℕ) → nat_le a b ≡ true → nat_lt b c ≡ true → nat_lt a c ≡ true
-up-to a b c t u = let l : a ≤ b = grind (arith, nat_tests) in let m : b < c = grind (arith, nat_tests) in let n : a < c = omega (arith, l, m) in grind (arith, nat_tests, n)
+up-to a b c t u = let l : a ≤ b = grind (arith, nat_tests) in let m : b < c = grind (arith, nat_tests) in let n : a < c = omega (arith, l, m) in
+    grind (arith, nat_tests, n)
 
 -- what is stored, if anything is
 pub record Stored (own : Option Effect) : Type 0 where
@@ -46,20 +47,24 @@ module _ (reads : Reads) where
   none-stored : (statement : Stmt) → ((values : Values) → effect reads statement values ≡ None) → OfFunc statement
   none-stored statement none = record { func = 0; is = λ values own e. absurd (none-some (sym (none values) ∙ e)) }
 
-  by-pass : (t : Bool) (inner : Option Effect) (own : Effect) (func : ℕ) → ((e : Effect) → inner ≡ Some e → e.func ≡ func) → cond t inner None ≡ Some own → own.func ≡ func
+  by-pass : (t : Bool) (inner : Option Effect) (own : Effect) (func : ℕ) → ((e : Effect) → inner ≡ Some e → e.func ≡ func) → cond t inner None ≡ Some own
+      → own.func ≡ func
   by-pass true inner own func is e = is own e
   by-pass false inner own func is e = absurd (none-some e)
 
   func-by-layer : (X : Type 0) (part : X → Stmt) → ((p : X) → OfFunc (part p)) → (l : Stmt-F X) → OfFunc (roll-Stmt (map-Stmt X Stmt part l))
   func-by-layer X part of (layer.Store store) = subst OfFunc (sym (rolls-Store store))
       (record { func = store.func; is = λ values own e. sym (ap (λ o. (of_some own o).func) (sym (effect_store reads store values) ∙ e)) })
-  func-by-layer X part of (layer.Sequence a b) = subst OfFunc (sym (rolls-Sequence (part a) (part b))) (none-stored (s.Sequence (part a) (part b)) (effect_sequence reads (part a) (part b)))
-  func-by-layer X part of (layer.For counter count kind a) = subst OfFunc (sym (rolls-For counter count kind (part a))) (none-stored (s.For counter count kind (part a)) (effect_for reads counter count kind (part a)))
+  func-by-layer X part of (layer.Sequence a b) = subst OfFunc (sym (rolls-Sequence (part a) (part b))) (none-stored (s.Sequence (part a) (part b))
+      (effect_sequence reads (part a) (part b)))
+  func-by-layer X part of (layer.For counter count kind a) = subst OfFunc (sym (rolls-For counter count kind (part a)))
+      (none-stored (s.For counter count kind (part a)) (effect_for reads counter count kind (part a)))
   func-by-layer X part of (layer.Bind counter whole extent a) = subst OfFunc (sym (rolls-Bind counter whole extent (part a)))
       (record {
         func = (of a).func;
         is = λ values own e.
-            by-pass (nat_lt (whole_value whole values) extent) (effect reads (part a) (with counter (whole_value whole values) values)) own (of a).func (λ i k. (of a).is (with counter (whole_value whole values) values) i k)
+            by-pass (nat_lt (whole_value whole values) extent) (effect reads (part a) (with counter (whole_value whole values) values)) own (of a).func
+            (λ i k. (of a).is (with counter (whole_value whole values) values) i k)
             (sym (effect_bind reads counter whole extent (part a) values) ∙ e);
       })
 
@@ -70,17 +75,28 @@ module _ (reads : Reads) where
 
   -- What stores in the next round stores in this one.
   abbrev PassesOn : Stmt → Type 0
-  PassesOn statement = (now next : Values) → (rounds reads statement).steps_up now next ≡ true → Stored (effect reads statement next) → Stored (effect reads statement now)
+  PassesOn statement = (now next : Values) → (rounds reads statement).steps_up now next ≡ true → Stored (effect reads statement next)
+      → Stored (effect reads statement now)
 
   never : (statement : Stmt) → ((values : Values) → effect reads statement values ≡ None) → PassesOn statement
   never statement none now next up a = absurd (none-some (sym (none next) ∙ a.is))
 
   store-passes : (store : Store) → PassesOn (s.Store store)
-  store-passes store now next up a = record { stored = record { func = store.func; x = value reads now store.x; y = value reads now store.y; pixel = value reads now store.value }; is = effect_store reads store now }
+  store-passes store now next up a = record {
+    stored = record {
+      func = store.func;
+      x = value reads now store.x;
+      y = value reads now store.y;
+      pixel =
+          value reads now store.value;
+    };
+    is = effect_store reads store now;
+  }
 
   bind-passes : (counter : Counter) (whole : Whole) (extent : ℕ) (body : Stmt) → PassesOn body → PassesOn (s.Bind counter whole extent body)
   bind-passes counter whole extent body on now next up a =
-      subst Stored (sym (effect_bind reads counter whole extent body now)) (by-next (nat_lt (whole_value whole next) extent) refl (subst Stored (effect_bind reads counter whole extent body next) a))
+      subst Stored (sym (effect_bind reads counter whole extent body now)) (by-next (nat_lt (whole_value whole next) extent) refl
+      (subst Stored (effect_bind reads counter whole extent body next) a))
     where
       now_in : Values
       now_in = with counter (whole_value whole now) now
@@ -94,17 +110,23 @@ module _ (reads : Reads) where
       up-is : (if nat_lt (whole_value whole next) extent then both else true) ≡ true
       up-is = sym (ap (λ (r : Rounds). r.steps_up now next) (rounds_bind reads counter whole extent body)) ∙ up
 
-      by-next : (t : Bool) → nat_lt (whole_value whole next) extent ≡ t → Stored (cond t (effect reads body next_in) None) → Stored (cond (nat_lt (whole_value whole now) extent) (effect reads body now_in) None)
+      by-next : (t : Bool) → nat_lt (whole_value whole next) extent ≡ t → Stored (cond t (effect reads body next_in) None)
+          → Stored (cond (nat_lt (whole_value whole now) extent) (effect reads body now_in) None)
       by-next false e b = absurd (none-some b.is)
       by-next true e b =
-          let k = and_parts (nat_le (whole_value whole now) (whole_value whole next)) ((rounds reads body).steps_up now_in next_in) (sym (ap (λ t. if t then both else true) e) ∙ up-is) in
-          subst (λ t. Stored (cond t (effect reads body now_in) None)) (sym (up-to (whole_value whole now) (whole_value whole next) extent k.0 e)) (on now_in next_in k.1 b)
+          let k = and_parts (nat_le (whole_value whole now) (whole_value whole next)) ((rounds reads body).steps_up now_in next_in)
+          (sym (ap (λ t. if t then both else true) e) ∙ up-is) in
+          subst (λ t. Stored (cond t (effect reads body now_in) None)) (sym (up-to (whole_value whole now) (whole_value whole next) extent k.0 e))
+          (on now_in next_in k.1 b)
 
   passes-by-layer : (X : Type 0) (part : X → Stmt) → ((p : X) → PassesOn (part p)) → (l : Stmt-F X) → PassesOn (roll-Stmt (map-Stmt X Stmt part l))
   passes-by-layer X part on (layer.Store store) = subst PassesOn (sym (rolls-Store store)) (store-passes store)
-  passes-by-layer X part on (layer.Sequence a b) = subst PassesOn (sym (rolls-Sequence (part a) (part b))) (never (s.Sequence (part a) (part b)) (effect_sequence reads (part a) (part b)))
-  passes-by-layer X part on (layer.For counter count kind a) = subst PassesOn (sym (rolls-For counter count kind (part a))) (never (s.For counter count kind (part a)) (effect_for reads counter count kind (part a)))
-  passes-by-layer X part on (layer.Bind counter whole extent a) = subst PassesOn (sym (rolls-Bind counter whole extent (part a))) (bind-passes counter whole extent (part a) (on a))
+  passes-by-layer X part on (layer.Sequence a b) = subst PassesOn (sym (rolls-Sequence (part a) (part b))) (never (s.Sequence (part a) (part b))
+      (effect_sequence reads (part a) (part b)))
+  passes-by-layer X part on (layer.For counter count kind a) = subst PassesOn (sym (rolls-For counter count kind (part a)))
+      (never (s.For counter count kind (part a)) (effect_for reads counter count kind (part a)))
+  passes-by-layer X part on (layer.Bind counter whole extent a) = subst PassesOn (sym (rolls-Bind counter whole extent (part a))) (bind-passes counter whole
+      extent (part a) (on a))
 
   pub passes-on : (statement : Stmt) → PassesOn statement
   passes-on = ind-Stmt PassesOn (λ l t is. subst (λ (k : Stmt-F Stmt). PassesOn (roll-Stmt k)) is (passes-by-layer _ (λ e. e.0) (λ e. e.1) t))
@@ -115,4 +137,5 @@ module _ (reads : Reads) where
   all-before body at n up zero j b a = let e : j + 0 ≡ j = omega arith in subst (λ k. Stored (effect reads body (at k))) e a
   all-before body at n up (suc i) j b a =
       let e : j + suc i ≡ (j + i) + 1 = omega arith in
-      all-before body at n up i j (omega (arith, b)) (passes-on body (at (j + i)) (at ((j + i) + 1)) (up (j + i) (omega (arith, b))) (subst (λ k. Stored (effect reads body (at k))) e a))
+      all-before body at n up i j (omega (arith, b)) (passes-on body (at (j + i)) (at ((j + i) + 1)) (up (j + i) (omega (arith, b)))
+      (subst (λ k. Stored (effect reads body (at k))) e a))

@@ -22,5 +22,6 @@ LoopsAreCollected =
     → RunsIn own (For counter count Vectorized body) values
     → (f : ℕ → ℕ) (memory : List ℕ) (funcs : Planes) → may_be_at_once (reads_of own.inputs funcs) (For counter count Vectorized body) values ≡ true
     → HoldsFuncs own memory funcs → Knows own.world own.harts scope values f
-    → Done own (collected_code group own.places scope counter count body) (collected_turns group own.places scope counter count body values) scope values f memory
+    → Done own (collected_code group own.places scope counter count body) (collected_turns group own.places scope counter count body values) scope values f
+    memory
     (run own.points own.inputs (For counter count Vectorized body) values funcs) (stored_points own (For counter count Vectorized body) values funcs)

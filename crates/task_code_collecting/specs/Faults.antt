@@ -24,9 +24,11 @@ abbrev pub IsRoundFault : Group → Places → ℕ → Stmt → List Counter →
 IsRoundFault group places r body scope = IsFault (IsLong ((collected group places r body).code scope)) (FitsRound places body (length scope) → ⊥)
 
 -- and of a loop's code
-pub record EmitsCollected (old new : List ℕ) (group : Group) (places : Places) (scope : List Counter) (counter : Counter) (count : ℕ) (body : Stmt) : Type 0 where
-  pub emits : Emits old new (collected_code group places scope counter count body)
-  pub fits : collected_fits group places scope counter count body ≡ true
+pub record EmitsCollected (old new : List ℕ) (group : Group) (places : Places) (scope : List Counter) (counter : Counter) (count : ℕ) (body : Stmt) : Type 0
+  where
+    pub emits : Emits old new (collected_code group places scope counter count body)
+    pub fits : collected_fits group places scope counter count body ≡ true
 
 abbrev pub IsCollectedFault : Group → Places → List Counter → Counter → ℕ → Stmt → CodeFault → Type 0
-IsCollectedFault group places scope counter count body = IsFault (IsLong (collected_code group places scope counter count body)) (FitsRound places body (length scope + 1) → ⊥)
+IsCollectedFault group places scope counter count body = IsFault (IsLong (collected_code group places scope counter count body))
+    (FitsRound places body (length scope + 1) → ⊥)

@@ -236,7 +236,8 @@ module _ (places : Places) (scope : List Held) (own : Lanes) (k : ℕ) (in-stack
       → next ≡ k + 1 → last ≡ next + 1 → next + 1 < slots own.group
       → ((w : World) (m : List ℕ) (reads : Reads) (values : Values) (i : ℕ) → May x w m reads values i
       → May y1 w m reads values i × (May y2 w m reads values i × May y3 w m reads values i))
-      → ((reads : Reads) (values : Values) (i : ℕ) → says (worth y1 reads values i) (worth y2 reads values i) (worth y3 reads values i) ≡ worth x reads values i)
+      → ((reads : Reads) (values : Values) (i : ℕ) → says (worth y1 reads values i) (worth y2 reads values i) (worth y3 reads values i)
+      ≡ worth x reads values i)
       → Left c0 c1 k p1 → Left c1 c2 next p2 → Left c2 c3 last p3 → TurnsThree c3 c4 own.group k says → Left c0 c4 k x
   three-arm x y1 y2 y3 p1 p2 p3 says next last c0 c1 c2 c3 c4 e1 e2 e3 en el room can is first second third z =
       let elast : last ≡ k + 2 = omega (arith, en, el) in

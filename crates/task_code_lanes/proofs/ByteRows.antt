@@ -19,7 +19,8 @@ rest-small n = omega arith
 -- what lies at an address is a byte, where memory holds bytes
 pub byte-small : (text m : List ℕ) (a : ℕ) → AreBytes m → byte_at text m a < 256
 byte-small text m a are =
-    one-byte (nat_lt a data_start) (slice_index text ((a - text_start) / 4) / 256 ^ ((a - text_start) % 4) % 256) (slice_index m (a - data_start)) (rest-small _) (are (a - data_start))
+    one-byte (nat_lt a data_start) (slice_index text ((a - text_start) / 4) / 256 ^ ((a - text_start) % 4) % 256) (slice_index m (a - data_start))
+    (rest-small _) (are (a - data_start))
 
 module _ (w : World) (m : List ℕ) (l : length m ≡ w.size) (group : Group) (n : ℕ) (k : ℕ) (lies : SlotLies group k) where
   module _ (place : Place) (bytes : place.pixels ≡ pixels.Bytes) (x y pixel : ℕ → ℕ) (can : (i : ℕ) → i < n → LoadsAt w place m (x i) (y i) (pixel i)) where

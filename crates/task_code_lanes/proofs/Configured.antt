@@ -40,7 +40,8 @@ pub has-lanes : (group : Group) (f : ℕ → ℕ) (n : ℕ) → n ≤ 4 * regist
 has-lanes group f n few =
     let e = most group in
     record {
-      configured = subst (LanesConfigured (configure f n (vtype_of group))) (grouped group) (configured-lanes f n (vtype_of group) (supported group) (wide group) (omega (arith, few, e)));
+      configured = subst (LanesConfigured (configure f n (vtype_of group))) (grouped group) (configured-lanes f n (vtype_of group) (supported group)
+          (wide group) (omega (arith, few, e)));
       count = update-other (update f 32 n) 33 (vtype_of group) 32 (λ q. omega (arith, q)) ∙ update-same f 32 n;
     }
 

@@ -28,12 +28,15 @@ module _ (points : Points) where
   unfolding turns
   laid-same a b zero same funcs = refl
   laid-same a b (suc n) same funcs =
-      ap (λ e. put_effect points e (laid a n funcs)) (same n (omega arith)) ∙ ap (put_effect points (b n)) (laid-same a b n (λ k l. same k (omega (arith, l))) funcs)
+      ap (λ e. put_effect points e (laid a n funcs)) (same n (omega arith))
+      ∙ ap (put_effect points (b n)) (laid-same a b n (λ k l. same k (omega (arith, l))) funcs)
 
   -- rounds that store nothing leave all as it was
-  pub laid-cut : (own : ℕ → Option Effect) (k m : ℕ) → ((j : ℕ) → m ≤ j → j < k + m → own j ≡ None) → (funcs : Planes) → laid own (k + m) funcs ≡ laid own m funcs
+  pub laid-cut : (own : ℕ → Option Effect) (k m : ℕ) → ((j : ℕ) → m ≤ j → j < k + m → own j ≡ None) → (funcs : Planes)
+      → laid own (k + m) funcs ≡ laid own m funcs
   unfolding turns
   laid-cut own zero m none funcs = let e : 0 + m ≡ m = omega arith in ap (λ (k : ℕ). laid own k funcs) e
   laid-cut own (suc k) m none funcs =
       let e : suc k + m ≡ suc (k + m) = omega arith in
-      ap (λ (i : ℕ). laid own i funcs) e ∙ ap (λ e. put_effect points e (laid own (k + m) funcs)) (none (k + m) (omega arith) (omega arith)) ∙ laid-cut own k m (λ j low high. none j low (omega (arith, high))) funcs
+      ap (λ (i : ℕ). laid own i funcs) e ∙ ap (λ e. put_effect points e (laid own (k + m) funcs)) (none (k + m) (omega arith) (omega arith))
+      ∙ laid-cut own k m (λ j low high. none j low (omega (arith, high))) funcs

@@ -65,19 +65,24 @@ module _ (w : World) (m : List ℕ) (l : length m ≡ w.size) (group : Group) (n
     r = slot group k
 
     -- mask bits become lanes
-    pub flagged-leaves : (f : ℕ → ℕ) (t : ℕ → Bool) → Lanes w m l group n f → ((i : ℕ) → i < n → f (bit i) ≡ one_if (t i)) → Leaves w m l group n (flagged r) f k (λ i. one_if (t i))
+    pub flagged-leaves : (f : ℕ → ℕ) (t : ℕ → Bool) → Lanes w m l group n f → ((i : ℕ) → i < n → f (bit i) ≡ one_if (t i))
+        → Leaves w m l group n (flagged r) f k (λ i. one_if (t i))
     flagged-leaves f t has bits =
         let few = few-rounds w m l group n f has in
         let high = lies.high in
-        let i1 : Writes w m l group n (Vector (v.MoveVi r (pos 0)) ∷ []) f r (λ i. 0) = writes w m l group n (λ i. 0) (λ i. lanes.wrapped 32 (pos 0)) has (rows.move-vi w f m l g has.configured r (pos 0) lies.is_group) (λ i b. refl) in
+        let i1 : Writes w m l group n (Vector (v.MoveVi r (pos 0)) ∷ []) f r (λ i. 0) = writes w m l group n (λ i. 0) (λ i. lanes.wrapped 32 (pos 0)) has
+        (rows.move-vi w f m l g has.configured r (pos 0) lies.is_group) (λ i b. refl) in
         let has1 = writes-lanes w m l group n i1 has in
         let f1 = i1.after in
         let kept : (i : ℕ) → i < n → f1 (bit i) ≡ one_if (t i) = λ i b. i1.above (bit i) (omega (arith, high, few)) ∙ bits i b in
-        let i2 : Writes w m l group n (Vector (v.MergeVi r r (pos 1)) ∷ []) f1 r (λ i. one_if (t i)) = writes w m l group n (λ i. one_if (t i)) (λ i. if f1 (bit i) == 0 then f1 (lane r i) else lanes.wrapped 32 (pos 1)) has1 (masks.merge-vi w f1 m l g has1.configured r r (pos 1) lies.is_group lies.is_group)
+        let i2 : Writes w m l group n (Vector (v.MergeVi r r (pos 1)) ∷ []) f1 r (λ i. one_if (t i)) = writes w m l group n (λ i. one_if (t i))
+        (λ i. if f1 (bit i) == 0 then f1 (lane r i) else lanes.wrapped 32 (pos 1)) has1 (masks.merge-vi w f1 m l g has1.configured r r (pos 1) lies.is_group
+        lies.is_group)
         (λ i b. ap (λ z. if z == 0 then f1 (lane r i) else 1) (kept i b) ∙ ap (λ z. if one_if (t i) == 0 then z else 1) (i1.value i b) ∙ flag-is (t i)) in
         slot-first w m l group n k lies i1 (omega arith) (last w m l group n k lies i2)
 
-    pub compared-leaves : (o : CompareVvOp) (f : ℕ → ℕ) (a b : ℕ) (x y : ℕ → ℕ) (t : ℕ → Bool) → Lanes w m l group n f → IsGroup g a → IsGroup g b → Hold f a x → Hold f b y
+    pub compared-leaves : (o : CompareVvOp) (f : ℕ → ℕ) (a b : ℕ) (x y : ℕ → ℕ) (t : ℕ → Bool) → Lanes w m l group n f → IsGroup g a → IsGroup g b → Hold f a x
+        → Hold f b y
         → ((i : ℕ) → i < n → compare_vv o 32 (x i) (y i) ≡ t i) → Leaves w m l group n (compared o r a b) f k (λ i. one_if (t i))
     compared-leaves o f a b x y t has ia ib hx hy same =
         let i1 = compare-writes f has o a b x y ia ib hx hy in

@@ -32,7 +32,8 @@ module _ (w : World) (m : List ℕ) (l : length m ≡ w.size) (group : Group) (n
     pub below : (q : ℕ) → q < lane d 0 → after q ≡ f q
     pub above : (q : ℕ) → lane d n ≤ q → after q ≡ f q
 
-  pub writes : {is : List Insn} {f : ℕ → ℕ} {d : ℕ} (v new : ℕ → ℕ) → Lanes f → Line w is f m (write_lanes f d (f vl_number) new) m → ((i : ℕ) → i < n → new i ≡ v i) → Writes is f d v
+  pub writes : {is : List Insn} {f : ℕ → ℕ} {d : ℕ} (v new : ℕ → ℕ) → Lanes f → Line w is f m (write_lanes f d (f vl_number) new) m
+      → ((i : ℕ) → i < n → new i ≡ v i) → Writes is f d v
   writes {is} {f} {d} v new has line same =
       let e = has.count in
       record {
@@ -94,14 +95,16 @@ module _ (w : World) (m : List ℕ) (l : length m ≡ w.size) (group : Group) (n
       pub keeps : (q : ℕ) → IsKept group (k + 1) q → after q ≡ f q
 
     -- lanes of the slot are set, by a row that reads any group
-    pub slot-writes : {is : List Insn} {f : ℕ → ℕ} (v new : ℕ → ℕ) → Lanes f → Line w is f m (write_group f r (f vl_number) new) m → ((i : ℕ) → i < n → new i ≡ v i) → Writes is f r v
+    pub slot-writes : {is : List Insn} {f : ℕ → ℕ} (v new : ℕ → ℕ) → Lanes f → Line w is f m (write_group f r (f vl_number) new) m
+        → ((i : ℕ) → i < n → new i ≡ v i) → Writes is f r v
     slot-writes {is} {f} v new has line same =
         let e = has.count in
         let low = lies.is_group.above_mask in
         record {
           after = write_group f r (f vl_number) new;
           line = line;
-          value = λ i b. written-above f r (f vl_number) new (lane r i) low ∙ lanes-new f r (f vl_number) new (lane r i) i refl (omega (arith, e, b)) ∙ same i b;
+          value = λ i b. written-above f r (f vl_number) new (lane r i) low ∙ lanes-new f r (f vl_number) new (lane r i) i refl (omega (arith, e, b))
+              ∙ same i b;
           below = λ q b. written-above f r (f vl_number) new q low ∙ lanes-below f r (f vl_number) new q b;
           above = λ q b. written-above f r (f vl_number) new q low ∙ lanes-above f r (f vl_number) new q (omega (arith, e, b));
         }

@@ -92,7 +92,8 @@ module _ (other reads : Reads) (func x y : ℕ) (expected : Values → Bool) whe
   at-store store one values = record {
     misses =
         sound_store reads (all_but (point_of func x y)) all_points store values
-        ∙ ap (λ b. all_but (point_of func x y) store.func (value reads values store.x) (value reads values store.y) && b) (all-there (store_loads reads values store))
+        ∙ ap (λ b. all_but (point_of func x y) store.func (value reads values store.x) (value reads values store.y) && b)
+        (all-there (store_loads reads values store))
         ∙ with-true (all_but (point_of func x y) store.func (value reads values store.x) (value reads values store.y))
         ∙ sym (ap (λ e. not (is_at func x y e)) (effect_store reads store values));
     avoids = λ is.
@@ -108,14 +109,16 @@ module _ (other reads : Reads) (func x y : ℕ) (expected : Values → Bool) whe
         ∙ sym (ap (λ e. not (is_at func x y e)) (effect_bind reads counter whole extent body values));
     avoids = λ is.
         ap (λ e. is_at func x y e) (effect_bind reads counter whole extent body values)
-        ∙ avoided (nat_lt (whole_value whole values) extent) (sym (ap (λ (r : Runs). r.are_runs values) (runs_bind reads func x y expected counter whole extent body)) ∙ is);
+        ∙ avoided (nat_lt (whole_value whole values) extent) (sym (ap (λ (r : Runs). r.are_runs values) (runs_bind reads func x y expected counter whole extent
+        body)) ∙ is);
   }
     where
       inside : Values
       inside = with counter (whole_value whole values) values
 
       inner : Tells reads func x y expected body (with counter (whole_value whole values) values)
-      inner = told (sym (ap (λ (own : Rounds). own.is_one_store) (rounds_bind other counter whole extent body)) ∙ one) (with counter (whole_value whole values) values)
+      inner = told (sym (ap (λ (own : Rounds). own.is_one_store) (rounds_bind other counter whole extent body))
+          ∙ one) (with counter (whole_value whole values) values)
 
       missed : (t : Bool) → (if t then is_sound reads (all_but (point_of func x y)) all_points body (with counter (whole_value whole values) values) else true)
           ≡ not (is_at func x y (cond t (effect reads body (with counter (whole_value whole values) values)) None))
@@ -133,7 +136,8 @@ module _ (other reads : Reads) (func x y : ℕ) (expected : Values → Bool) whe
       (λ one. absurd (true≢false (sym one ∙ ap (λ (own : Rounds). own.is_one_store) (rounds_sequence other (part a) (part b)))))
   by-layer X part told (layer.For counter count kind a) = subst Told (sym (rolls-For counter count kind (part a)))
       (λ one. absurd (true≢false (sym one ∙ ap (λ (own : Rounds). own.is_one_store) (rounds_for other counter count kind (part a)))))
-  by-layer X part told (layer.Bind counter whole extent a) = subst Told (sym (rolls-Bind counter whole extent (part a))) (at-bind counter whole extent (part a) (told a))
+  by-layer X part told (layer.Bind counter whole extent a) = subst Told (sym (rolls-Bind counter whole extent (part a))) (at-bind counter whole extent (part a)
+      (told a))
 
   all-told : (statement : Stmt) → Told statement
   all-told = ind-Stmt Told (λ l t is. subst (λ (k : Stmt-F Stmt). Told (roll-Stmt k)) is (by-layer _ (λ e. e.0) (λ e. e.1) t))
@@ -154,7 +158,8 @@ StoreRuns own outside effects n = (func : ℕ) → own.in_runs func ≡ true →
 
 module _ (own : Setting) (outside : Values) where
   -- other rounds that store at the same points
-  pub same-runs : (a b : ℕ → Option Effect) (n m : ℕ) → ((func x y : ℕ) → HitBy b m func x y → HitBy a n func x y) → ((func x y : ℕ) → HitBy a n func x y → HitBy b m func x y)
+  pub same-runs : (a b : ℕ → Option Effect) (n m : ℕ) → ((func x y : ℕ) → HitBy b m func x y → HitBy a n func x y) → ((func x y : ℕ) → HitBy a n func x y
+      → HitBy b m func x y)
       → StoreRuns own outside a n → StoreRuns own outside b m
   same-runs a b n m back on stored func is = elim (stored func is) [
     | inl none ↦ inl (λ x y hit. none x y (back func x y hit))
@@ -236,8 +241,13 @@ module _ (own : Setting) (counter : Counter) (count : ℕ) (body : Stmt) (values
     is-hit x y hit = ap (is_at func x y) hit.is ∙ is-same func hit.stored.func x hit.stored.x y hit.stored.y hit.func_is hit.x_is hit.y_is
 
     -- the loop is the Func's own
-    its-own : ((x y : ℕ) → are_same (every count (λ round. (parts x y).misses (at round))) (not (own.run func x y values)) ≡ true) → StoreARun (λ x y. own.run func x y values) effects count func
-    its-own facts = record { each = λ x y hit. by-run x y hit (own.run func x y values) refl; all = λ x y t. found x y (one-fails count (λ round. (parts x y).misses (at round)) (tests x y ∙ ap not t)) }
+    its-own : ((x y : ℕ) → are_same (every count (λ round. (parts x y).misses (at round))) (not (own.run func x y values)) ≡ true)
+        → StoreARun (λ x y. own.run func x y values) effects count func
+    its-own facts = record {
+      each = λ x y hit. by-run x y hit (own.run func x y values) refl;
+      all =
+          λ x y t. found x y (one-fails count (λ round. (parts x y).misses (at round)) (tests x y ∙ ap not t));
+    }
       where
         tests : (x y : ℕ) → every count (λ round. (parts x y).misses (at round)) ≡ not (own.run func x y values)
         tests x y = same-tests (every count (λ round. (parts x y).misses (at round))) (not (own.run func x y values)) (facts x y)
@@ -260,7 +270,8 @@ module _ (own : Setting) (counter : Counter) (count : ℕ) (body : Stmt) (values
         true≢false (sym (is-hit x y hit) ∙ (told x y hit.round).avoids a)
 
     by-counter : (t : Bool)
-        → ((x y : ℕ) → (if t then are_same (every count (λ round. (parts x y).misses (at round))) (not (own.run func x y values)) else every count (λ turn. (parts x y).are_runs (at turn))) ≡ true)
+        → ((x y : ℕ) → (if t then are_same (every count (λ round. (parts x y).misses (at round))) (not (own.run func x y values)) else every count
+        (λ turn. (parts x y).are_runs (at turn))) ≡ true)
         → StoreNone effects count func ⊎ StoreARun (λ x y. own.run func x y values) effects count func
     by-counter true facts = inr (its-own facts)
     by-counter false facts = inl (another facts)
@@ -269,4 +280,5 @@ module _ (own : Setting) (counter : Counter) (count : ℕ) (body : Stmt) (values
   pub loop-runs : StoreRuns own values effects count
   loop-runs func is =
       by-counter func is (counter.func == func)
-      (λ x y. sym (ap (λ (r : Runs). r.are_runs values) (runs_for reads func x y (own.run func x y) counter count Vectorized body)) ∙ sure funcs words func is x y)
+      (λ x y. sym (ap (λ (r : Runs). r.are_runs values) (runs_for reads func x y (own.run func x y) counter count Vectorized body))
+      ∙ sure funcs words func is x y)

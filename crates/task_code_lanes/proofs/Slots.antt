@@ -19,9 +19,33 @@ pub record SlotLies (group : Group) (k : ℕ) : Type 0 where
   pub is_group : IsGroup (registers group) (slot group k)
 
 pub slot-lies : (group : Group) (k : ℕ) → k < slots group → SlotLies group k
-slot-lies groups.One k l = record { low = omega arith; high = omega (arith, l); next = omega arith; few = omega arith; most = omega arith; is_group = record { above_mask = omega arith; fits = omega (arith, l); placed = omega arith } }
-slot-lies groups.Two k l = record { low = omega arith; high = omega (arith, l); next = omega arith; few = omega arith; most = omega arith; is_group = record { above_mask = omega arith; fits = omega (arith, l); placed = omega arith } }
-slot-lies groups.Four k l = record { low = omega arith; high = omega (arith, l); next = omega arith; few = omega arith; most = omega arith; is_group = record { above_mask = omega arith; fits = omega (arith, l); placed = omega arith } }
+slot-lies groups.One k l = record {
+  low = omega arith;
+  high = omega (arith, l);
+  next = omega arith;
+  few = omega arith;
+  most = omega arith;
+  is_group =
+      record { above_mask = omega arith; fits = omega (arith, l); placed = omega arith };
+}
+slot-lies groups.Two k l = record {
+  low = omega arith;
+  high = omega (arith, l);
+  next = omega arith;
+  few = omega arith;
+  most = omega arith;
+  is_group =
+      record { above_mask = omega arith; fits = omega (arith, l); placed = omega arith };
+}
+slot-lies groups.Four k l = record {
+  low = omega arith;
+  high = omega (arith, l);
+  next = omega arith;
+  few = omega arith;
+  most = omega arith;
+  is_group =
+      record { above_mask = omega arith; fits = omega (arith, l); placed = omega arith };
+}
 
 pub spare-is : (group : Group) → IsAnyGroup (registers group) (spare group)
 spare-is groups.One = record { some = omega arith; fits = omega arith; placed = omega arith }
@@ -43,13 +67,15 @@ pub any-group : (g v : ℕ) → 1 ≤ g → IsGroup g v → IsAnyGroup g v
 any-group g v some is = record { some = some; fits = is.fits; placed = is.placed }
 
 -- where scratch is written scalar registers stay, and the stack
-pub spare-keeps : (group : Group) (f : ℕ → ℕ) (n : ℕ) (new : ℕ → ℕ) (q : ℕ) → n ≤ 4 * registers group → (q < 34) ⊎ ((lane (slot group 0) 0 ≤ q) × (q < bit 0)) → write_group f (spare group) n new q ≡ f q
+pub spare-keeps : (group : Group) (f : ℕ → ℕ) (n : ℕ) (new : ℕ → ℕ) (q : ℕ) → n ≤ 4 * registers group → (q < 34) ⊎ ((lane (slot group 0) 0 ≤ q) × (q < bit 0))
+    → write_group f (spare group) n new q ≡ f q
 spare-keeps groups.One f n new q few (inl a) = lanes-below f 1 n new q (omega (arith, a))
 spare-keeps groups.One f n new q few (inr a) = let b = a.0 in lanes-above f 1 n new q (omega (arith, b, few))
 spare-keeps groups.Two f n new q few (inl a) = lanes-below f 2 n new q (omega (arith, a))
 spare-keeps groups.Two f n new q few (inr a) = let b = a.0 in lanes-above f 2 n new q (omega (arith, b, few))
 spare-keeps groups.Four f n new q few (inl a) = first-lanes-stay f n new q (omega (arith, few)) (inl (omega (arith, a))) (omega (arith, a))
-spare-keeps groups.Four f n new q few (inr a) = let b = a.0 in let c = a.1 in first-lanes-stay f n new q (omega (arith, few)) (inr (omega (arith, b, few), omega (arith, b))) (omega (arith, c))
+spare-keeps groups.Four f n new q few (inr a) = let b = a.0 in let c = a.1 in first-lanes-stay f n new q (omega (arith, few))
+    (inr (omega (arith, b, few), omega (arith, b))) (omega (arith, c))
 
 -- the first three slots
 three-slots : (group : Group) → 3 ≤ slots group

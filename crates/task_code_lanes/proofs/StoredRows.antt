@@ -22,7 +22,8 @@ in-front : (c : ℕ) (xs ys : List ℕ) → is_in c xs ≡ true → is_in c (xs 
 in-front c [] ys e = absurd (cc e)
 in-front c (x ∷ xs) ys e = by-test (c == x) (in-front c xs ys) e
   where
-    by-test : (t : Bool) → (is_in c xs ≡ true → is_in c (xs ++ ys) ≡ true) → (if t then true else is_in c xs) ≡ true → (if t then true else is_in c (xs ++ ys)) ≡ true
+    by-test : (t : Bool) → (is_in c xs ≡ true → is_in c (xs ++ ys) ≡ true) → (if t then true else is_in c xs) ≡ true → (if t then true else is_in c (xs ++ ys))
+        ≡ true
     by-test true others e = refl
     by-test false others e = others e
 
@@ -39,13 +40,15 @@ in-places i zero a k c low high above below = absurd (omega (arith, low, high))
 in-places i (suc n) a k c low high above below = elim (cases_eq k i) [
   | inl e ↦ in-front c (touched (one_access Word (a i))) (touched (map (access_at Word) (firsts (suc i) n a)))
       (subst (λ j. is_in c (touched (one_access Word (a j))) ≡ true) e (is-touched (a k) c above below))
-  | inr x ↦ behind c (touched (one_access Word (a i))) (touched (map (access_at Word) (firsts (suc i) n a))) (in-places (suc i) n a k c (omega (arith, low, x)) (omega (arith, high)) above below)
+  | inr x ↦ behind c (touched (one_access Word (a i))) (touched (map (access_at Word) (firsts (suc i) n a))) (in-places (suc i) n a k c (omega (arith, low, x))
+      (omega (arith, high)) above below)
 ]
 
 pub lanes-same : (memory : List ℕ) (n : ℕ) (a x y : ℕ → ℕ) → ((k : ℕ) → k < n → x k ≡ y k) → stored_lanes memory Word n a x ≡ stored_lanes memory Word n a y
 lanes-same memory zero a x y same = refl
 lanes-same memory (suc n) a x y same =
-    ap (λ m. stored_at m Word (a n) (x n)) (lanes-same memory n a x y (λ k l. same k (omega (arith, l)))) ∙ ap (stored_at (stored_lanes memory Word n a y) Word (a n)) (same n (omega arith))
+    ap (λ m. stored_at m Word (a n) (x n)) (lanes-same memory n a x y (λ k l. same k (omega (arith, l))))
+    ∙ ap (stored_at (stored_lanes memory Word n a y) Word (a n)) (same n (omega arith))
 
 -- ---- addresses of a row
 
@@ -76,7 +79,8 @@ module _ (own : Setting) (good : IsSetting own) (func n : ℕ) (few : n ≤ 16) 
 
   pub record Row (k : ℕ) (memory : List ℕ) (funcs : Planes) : Type 0 where
     pub holds : HoldsFuncs own (stored_lanes memory Word k spot v) (laid own.points own_effect k funcs)
-    pub elsewhere : (byte : ℕ) → IsElsewhere w own.places own.written byte → byte_at w.text (stored_lanes memory Word k spot v) byte ≡ byte_at w.text memory byte
+    pub elsewhere : (byte : ℕ) → IsElsewhere w own.places own.written byte → byte_at w.text (stored_lanes memory Word k spot v) byte
+        ≡ byte_at w.text memory byte
     pub are_bytes : AreBytes memory → AreBytes (stored_lanes memory Word k spot v)
 
   abbrev Holds-in : List ℕ → Planes → Type 0
@@ -96,10 +100,12 @@ module _ (own : Setting) (good : IsSetting own) (func n : ℕ) (few : n ≤ 16) 
           are_bytes = subst AreBytes e (bytes-stay m (spot k) (v k) h.are_bytes);
           are_words = words-put own.points func (x k) (y k) (v k) p h.are_words (small k b);
           holds = subst (λ z. Holds-in z (laid own.points own_effect (suc k) funcs)) e
-              (stored-holds w own.places own.written own.loaded good.laid own.points own.inputs p m func (x k) (y k) (v k) is (good.have func (x k) (y k) is) h.size (small k b) h.holds);
+              (stored-holds w own.places own.written own.loaded good.laid own.points own.inputs p m func (x k) (y k) (v k) is (good.have func (x k) (y k) is)
+              h.size (small k b) h.holds);
         };
         elsewhere = λ byte other.
-            ap (λ z. byte_at w.text z byte) (sym e) ∙ others-stay w own.places own.written own.loaded good.laid m func (x k) (y k) (v k) byte is other ∙ so_far.elsewhere byte other;
+            ap (λ z. byte_at w.text z byte) (sym e) ∙ others-stay w own.places own.written own.loaded good.laid m func (x k) (y k) (v k) byte is other
+            ∙ so_far.elsewhere byte other;
         are_bytes = λ are. subst AreBytes e (bytes-stay m (spot k) (v k) (so_far.are_bytes are));
       }
 

@@ -36,7 +36,8 @@ pub record StoredAt (own : Option Effect) (func x y : ℕ) : Type 0 where
 
 module _ (points : Points) (inputs : Planes) (func x y : ℕ) (reads : Reads) where
   abbrev Stores : Stmt → Type 0
-  Stores statement = (rounds reads statement).is_one_store ≡ true → (values : Values) (funcs : Planes) → hit points inputs func x y statement values funcs ≡ true
+  Stores statement = (rounds reads statement).is_one_store ≡ true → (values : Values) (funcs : Planes) → hit points inputs func x y statement values funcs
+      ≡ true
       → StoredAt (effect (reads_of inputs funcs) statement values) func x y
 
   at-store : (store : Store) → Stores (s.Store store)
@@ -60,7 +61,8 @@ module _ (points : Points) (inputs : Planes) (func x y : ℕ) (reads : Reads) wh
     where
       by-test : (t : Bool) → (if t then hit points inputs func x y body (with counter (whole_value whole values) values) funcs else false) ≡ true
           → StoredAt (cond t (effect (reads_of inputs funcs) body (with counter (whole_value whole values) values)) None) func x y
-      by-test true k = stores (sym (ap (λ (own : Rounds). own.is_one_store) (rounds_bind reads counter whole extent body)) ∙ is) (with counter (whole_value whole values) values) funcs k
+      by-test true k = stores (sym (ap (λ (own : Rounds). own.is_one_store) (rounds_bind reads counter whole extent body))
+          ∙ is) (with counter (whole_value whole values) values) funcs k
       by-test false k = absurd (true≢false (sym k))
 
   by-layer : (X : Type 0) (part : X → Stmt) → ((p : X) → Stores (part p)) → (l : Stmt-F X) → Stores (roll-Stmt (map-Stmt X Stmt part l))
@@ -69,32 +71,46 @@ module _ (points : Points) (inputs : Planes) (func x y : ℕ) (reads : Reads) wh
       (λ is. absurd (true≢false (sym is ∙ ap (λ (own : Rounds). own.is_one_store) (rounds_sequence reads (part a) (part b)))))
   by-layer X part stores (layer.For counter count kind a) = subst Stores (sym (rolls-For counter count kind (part a)))
       (λ is. absurd (true≢false (sym is ∙ ap (λ (own : Rounds). own.is_one_store) (rounds_for reads counter count kind (part a)))))
-  by-layer X part stores (layer.Bind counter whole extent a) = subst Stores (sym (rolls-Bind counter whole extent (part a))) (at-bind counter whole extent (part a) (stores a))
+  by-layer X part stores (layer.Bind counter whole extent a) = subst Stores (sym (rolls-Bind counter whole extent (part a))) (at-bind counter whole extent
+      (part a) (stores a))
 
   all-store : (statement : Stmt) → Stores statement
   all-store = ind-Stmt Stores (λ l t is. subst (λ (k : Stmt-F Stmt). Stores (roll-Stmt k)) is (by-layer _ (λ e. e.0) (λ e. e.1) t))
 
 -- ---- all rounds
 
-module _ (points : Points) (inputs : Planes) (body : Stmt) (at : ℕ → Values) (funcs : Planes) (one : (rounds (reads_of inputs funcs) body).is_one_store ≡ true) where
-  abbrev before : Reads
-  before = reads_of inputs funcs
+module _ (points : Points) (inputs : Planes) (body : Stmt) (at : ℕ → Values) (funcs : Planes) (one : (rounds (reads_of inputs funcs) body).is_one_store ≡ true)
+  where
+    abbrev before : Reads
+    before = reads_of inputs funcs
 
-  abbrev effects : ℕ → Option Effect
-  effects k = effect before body (at k)
+    abbrev effects : ℕ → Option Effect
+    effects k = effect before body (at k)
 
-  one-more : (n func x y : ℕ) → HitBy effects n func x y → HitBy effects (suc n) func x y
-  one-more n func x y hit = record { round = hit.round; below = (let b = hit.below in omega (arith, b)); stored = hit.stored; is = hit.is; func_is = hit.func_is; x_is = hit.x_is; y_is = hit.y_is }
+    one-more : (n func x y : ℕ) → HitBy effects n func x y → HitBy effects (suc n) func x y
+    one-more n func x y hit = record {
+      round = hit.round;
+      below = (let b = hit.below in omega (arith, b));
+      stored = hit.stored;
+      is = hit.is;
+      func_is =
+          hit.func_is;
+      x_is = hit.x_is;
+      y_is = hit.y_is;
+    }
 
-  pub hits-at-once : (n : ℕ) → are_apart (rounds before body) at n ≡ true → (func x y : ℕ) → hit_before points inputs func x y body at n funcs ≡ true → HitBy effects n func x y
-  hits-at-once zero apart func x y h = absurd (true≢false (sym h ∙ hit-first points inputs func x y body at funcs))
-  hits-at-once (suc n) apart func x y h =
-      let fewer = fewer_apart points inputs body at funcs n apart in
-      let so_far = made points inputs func x y body at n funcs in
-      elim (or_cases (hit_before points inputs func x y body at n funcs) (hit points inputs func x y body (at n) so_far) (sym (hit-later points inputs func x y body at n funcs) ∙ h)) [
-        | inl e ↦ one-more n func x y (hits-at-once n fewer func x y e)
-        | inr e ↦
-            let a = all-store points inputs func x y before body one (at n) so_far e in
-            let b = ap (λ p. effect (reads_of inputs p) body (at n)) (in_turn points inputs body at funcs n one fewer) ∙ same_round points inputs body at funcs n apart in
-            record { round = n; below = omega arith; stored = a.stored; is = sym b ∙ a.is; func_is = a.func_is; x_is = a.x_is; y_is = a.y_is }
-      ]
+    pub hits-at-once : (n : ℕ) → are_apart (rounds before body) at n ≡ true → (func x y : ℕ) → hit_before points inputs func x y body at n funcs ≡ true
+        → HitBy effects n func x y
+    hits-at-once zero apart func x y h = absurd (true≢false (sym h ∙ hit-first points inputs func x y body at funcs))
+    hits-at-once (suc n) apart func x y h =
+        let fewer = fewer_apart points inputs body at funcs n apart in
+        let so_far = made points inputs func x y body at n funcs in
+        elim (or_cases (hit_before points inputs func x y body at n funcs) (hit points inputs func x y body (at n) so_far)
+        (sym (hit-later points inputs func x y body at n funcs) ∙ h)) [
+          | inl e ↦ one-more n func x y (hits-at-once n fewer func x y e)
+          | inr e ↦
+              let a = all-store points inputs func x y before body one (at n) so_far e in
+              let b = ap (λ p. effect (reads_of inputs p) body (at n)) (in_turn points inputs body at funcs n one fewer)
+              ∙ same_round points inputs body at funcs n apart in
+              record { round = n; below = omega arith; stored = a.stored; is = sym b ∙ a.is; func_is = a.func_is; x_is = a.x_is; y_is = a.y_is }
+        ]

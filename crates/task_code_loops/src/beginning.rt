@@ -57,7 +57,8 @@ pub fn begin_loop(
     requires steady { mentions own.counter scope.now ≡ false }
     requires some { 1 ≤ own.count }
     requires few { reserved < 2 ^ 32 }
-    ensures ok { IfOk result (Begins code.old.items code.new.items wanted.now own.counter own.count scope.now reserved) }
+    ensures ok { IfOk result (Begins code.old.items code.new.items wanted.now own.counter own.count scope.now
+        reserved) }
     ensures variable { wanted.now ≡ [] → IfOk result (λ begun. has_variable begun.inner.items own.counter ≡ true) }
     ensures err { IfErr result (IsFault ⊥ (left_count scope.now ≤ reserved)) }
 {

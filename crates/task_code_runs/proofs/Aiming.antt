@@ -166,7 +166,8 @@ scattered-aims places scope lanes_of store zero form place b u c1 c2 c3 in-stack
       let c = t.does w m w.hart values a.after l holders ka in
       let zv = linear_value first zero in
       let far : c.after b ≡ address place w.hart 0 0 % 2 ^ 32 =
-      c.value ∙ point.value w.hart first ∙ ap (λ i. address place w.hart i zv % 2 ^ 32) (none first) ∙ ap (λ j. address place w.hart 0 j % 2 ^ 32) (none first) in
+      c.value ∙ point.value w.hart first ∙ ap (λ i. address place w.hart i zv % 2 ^ 32) (none first)
+      ∙ ap (λ j. address place w.hart 0 j % 2 ^ 32) (none first) in
       let lanes-stay : (i : ℕ) → c.after (lane u i) ≡ a.after (lane (slot group 1) i) =
       (λ i. ap (λ r. c.after (lane r i)) eu
       ∙ c.others (lane (slot group 1) i) (λ e. omega (arith, e)) (λ e. omega (arith, e)) (λ e. omega (arith, e))) in

@@ -52,7 +52,8 @@ module _ (w : World) (m : List ℕ) (l : length m ≡ w.size) where
       let r-low : 13 ≤ r = omega (arith, low) in
       let i1 = literal-sets w m l f 13 stride (omega arith) (omega arith) small in
       let i2 = alu-sets w m l alus.Mul i1.after 13 13 s stride n (omega arith) (omega arith) (omega arith) ls i1.value (i1.others s ns ∙ es) in
-      let i3 = alu-sets w m l alus.Add i2.after r r 13 v (lanes.multiply 32 stride n) one high high (omega arith) (i2.others r r13 ∙ i1.others r r13 ∙ er) i2.value in
+      let i3 = alu-sets w m l alus.Add i2.after r r 13 v (lanes.multiply 32 stride n) one high high (omega arith) (i2.others r r13 ∙ i1.others r r13
+      ∙ er) i2.value in
       also w m l i1 (not-scratch r) (also w m l i2 (not-scratch r) (last w m l r-low high i3 low))
 
   raised-leaves : (f : ℕ → ℕ) (r n a : ℕ) → 15 ≤ r → r < 32 → f r ≡ a → n < 2 ^ 32 → a + n < 2 ^ 32 → Leaves w m (raised n r) f r (a + n)
@@ -69,15 +70,20 @@ module _ (w : World) (m : List ℕ) (l : length m ≡ w.size) where
       let i1 = literal-sets w m l f 13 n (omega arith) (omega arith) small in
       let i2 = alu-sets w m l alus.Mul i1.after 13 13 10 n k (omega arith) (omega arith) (omega arith) (omega arith) i1.value (i1.others 10 t13 ∙ ek) in
       let p : lanes.multiply 32 n k ≡ n * k = small-product (n * k) (omega (arith, fits)) in
-      let i3 = alu-sets w m l alus.Add i2.after r r 13 a (n * k) (omega (arith, low)) high high (omega arith) (i2.others r r13 ∙ i1.others r r13 ∙ e) (i2.value ∙ p) in
-      also w m l i1 (not-scratch r) (also w m l i2 (not-scratch r) (leaves-is w m l (small-product (a + n * k) fits) (last w m l (omega (arith, low)) high i3 (inr (omega (arith, low))))))
+      let i3 = alu-sets w m l alus.Add i2.after r r 13 a (n * k) (omega (arith, low)) high high (omega arith) (i2.others r r13 ∙ i1.others r r13 ∙ e) (i2.value
+      ∙ p) in
+      also w m l i1 (not-scratch r) (also w m l i2 (not-scratch r) (leaves-is w m l (small-product (a + n * k) fits) (last w m l (omega (arith, low)) high i3
+      (inr (omega (arith, low))))))
 
-  scaled-leaves : (p : Pixels) (f : ℕ → ℕ) (r n x : ℕ) → 15 ≤ r → r < 32 → f r ≡ (x + n % 2 ^ 32) % 2 ^ 32 → pixel_bytes p * (n + x) < 2 ^ 32 → Leaves w m (scaled p r) f r (pixel_bytes p * (n + x))
+  scaled-leaves : (p : Pixels) (f : ℕ → ℕ) (r n x : ℕ) → 15 ≤ r → r < 32 → f r ≡ (x + n % 2 ^ 32) % 2 ^ 32 → pixel_bytes p * (n + x) < 2 ^ 32
+      → Leaves w m (scaled p r) f r (pixel_bytes p * (n + x))
   scaled-leaves pixels.Words f r n x low high e fits =
-      leaves-is w m l (row-words x n fits) (last w m l (omega (arith, low)) high (shift-sets w m l shifts.Slli f r r 2 ((x + n % 2 ^ 32) % 2 ^ 32) (omega (arith, low)) high high e) (inr (omega (arith, low))))
+      leaves-is w m l (row-words x n fits) (last w m l (omega (arith, low)) high (shift-sets w m l shifts.Slli f r r 2 ((x + n % 2 ^ 32) % 2 ^ 32)
+      (omega (arith, low)) high high e) (inr (omega (arith, low))))
   scaled-leaves pixels.Bytes f r n x low high e fits = record { after = f; line = λ at s h a. (a, refl); value = e ∙ row-bytes x n fits; keeps = λ q k. refl }
 
-  numbered-leaves : (place : Place) (f : ℕ → ℕ) (r s x y : ℕ) → Beside r s → f r ≡ x → f s ≡ y → place.width < 2 ^ 32 → pixel_bytes place.pixels * (y * place.width + x) < 2 ^ 32
+  numbered-leaves : (place : Place) (f : ℕ → ℕ) (r s x y : ℕ) → Beside r s → f r ≡ x → f s ≡ y → place.width < 2 ^ 32
+      → pixel_bytes place.pixels * (y * place.width + x) < 2 ^ 32
       → Leaves w m (numbered place r s) f r (pixel_bytes place.pixels * (y * place.width + x))
   numbered-leaves place f r s x y is er es small fits =
       let low = is.low in
@@ -91,11 +97,14 @@ module _ (w : World) (m : List ℕ) (l : length m ≡ w.size) where
       let not-r : (q : ℕ) → Free r q → q ≢ r = (λ q k e. let k0 = k.0 in let k1 = k.1 in omega (arith, e, k0, k1, low, high)) in
       let i1 = literal-sets w m l f 13 place.width (omega arith) (omega arith) small in
       let i2 = alu-sets w m l alus.Mul i1.after s s 13 y place.width (omega (arith, low, other)) top top (omega arith) (i1.others s s13 ∙ es) i1.value in
-      let i3 = alu-sets w m l alus.Add i2.after r r s x (lanes.multiply 32 y place.width) (omega (arith, low)) high high top (i2.others r rs ∙ i1.others r r13 ∙ er) i2.value in
-      also w m l i1 (not-scratch r) (also w m l i2 not-s (also w m l i3 not-r (scaled-leaves place.pixels i3.after r (y * place.width) x low high i3.value fits)))
+      let i3 = alu-sets w m l alus.Add i2.after r r s x (lanes.multiply 32 y place.width) (omega (arith, low)) high high top (i2.others r rs ∙ i1.others r r13
+      ∙ er) i2.value in
+      also w m l i1 (not-scratch r) (also w m l i2 not-s (also w m l i3 not-r (scaled-leaves place.pixels i3.after r (y * place.width) x low high i3.value
+      fits)))
 
   -- the address of a point
-  pub addressed-leaves : (place : Place) (f : ℕ → ℕ) (r s x y : ℕ) → Beside r s → f r ≡ x → f s ≡ y → f 10 ≡ w.hart → IsPlace place → address place w.hart x y < 2 ^ 32
+  pub addressed-leaves : (place : Place) (f : ℕ → ℕ) (r s x y : ℕ) → Beside r s → f r ≡ x → f s ≡ y → f 10 ≡ w.hart → IsPlace place
+      → address place w.hart x y < 2 ^ 32
       → Leaves w m (addressed place r s) f r (address place w.hart x y)
   addressed-leaves place f r s x y is er es ek p fits =
       let low = is.low in
@@ -105,12 +114,14 @@ module _ (w : World) (m : List ℕ) (l : length m ≡ w.size) where
       let ten : Free r 10 = (inl (omega arith), inr (inl (omega (arith, low)))) in
       let a = numbered-leaves place f r s x y is er es p.width (omega (arith, fits)) in
       let b = raised-leaves a.after r place.start n low high a.value p.start (omega (arith, fits)) in
-      let d = copied-leaves b.after r place.distance (n + place.start) w.hart low high b.value (b.keeps 10 ten ∙ a.keeps 10 ten ∙ ek) p.distance (omega (arith, fits)) in
+      let d = copied-leaves b.after r place.distance (n + place.start) w.hart low high b.value (b.keeps 10 ten ∙ a.keeps 10 ten
+      ∙ ek) p.distance (omega (arith, fits)) in
       let e : n + place.start + c ≡ address place w.hart x y = omega arith in
       after-that a (after-that b (leaves-is w m l e d))
 
   -- what lies there
-  fetch-leaves : (place : Place) (f : ℕ → ℕ) (r x y pixel : ℕ) → 15 ≤ r → r < 32 → f r ≡ address place w.hart x y → LoadsAt w place m x y pixel → Leaves w m (fetch place.pixels r) f r pixel
+  fetch-leaves : (place : Place) (f : ℕ → ℕ) (r x y pixel : ℕ) → 15 ≤ r → r < 32 → f r ≡ address place w.hart x y → LoadsAt w place m x y pixel
+      → Leaves w m (fetch place.pixels r) f r pixel
   fetch-leaves place f r x y pixel low high e can = by-pixels place.pixels refl
     where
       a : ℕ
@@ -132,14 +143,17 @@ module _ (w : World) (m : List ℕ) (l : length m ≡ w.size) where
           let may : Readable w Word a = subst (λ q. Readable w (load_size (load_op q)) a) ep can.may in
           let is : number_in w.text m Word a ≡ pixel = subst (λ q. number_in w.text m (load_size (load_op q)) a ≡ pixel) ep can.holds in
           subst (λ q. Leaves w m (fetch q r) f r pixel) (sym ep)
-          (given (subst (λ v. Line w (Load load_ops.Lw r r (pos 0) ∷ []) f m (update f r v) m) is (load w f m l load_ops.Lw r r a (pos 0) (omega (arith, low)) high high at may)))
+          (given (subst (λ v. Line w (Load load_ops.Lw r r (pos 0) ∷ []) f m (update f r v) m) is (load w f m l load_ops.Lw r r a (pos 0) (omega (arith, low))
+          high high at may)))
       by-pixels pixels.Bytes ep =
           let may : Readable w Byte a = subst (λ q. Readable w (load_size (load_op q)) a) ep can.may in
           let is : number_in w.text m Byte a ≡ pixel = subst (λ q. number_in w.text m (load_size (load_op q)) a ≡ pixel) ep can.holds in
           subst (λ q. Leaves w m (fetch q r) f r pixel) (sym ep)
-          (given (subst (λ v. Line w (Load load_ops.Lbu r r (pos 0) ∷ []) f m (update f r v) m) is (load w f m l load_ops.Lbu r r a (pos 0) (omega (arith, low)) high high at may)))
+          (given (subst (λ v. Line w (Load load_ops.Lbu r r (pos 0) ∷ []) f m (update f r v) m) is (load w f m l load_ops.Lbu r r a (pos 0) (omega (arith, low))
+          high high at may)))
 
-  pub loading-leaves : (place : Place) (f : ℕ → ℕ) (r s x y pixel : ℕ) → Beside r s → f r ≡ x → f s ≡ y → f 10 ≡ w.hart → IsPlace place → LoadsAt w place m x y pixel
+  pub loading-leaves : (place : Place) (f : ℕ → ℕ) (r s x y pixel : ℕ) → Beside r s → f r ≡ x → f s ≡ y → f 10 ≡ w.hart → IsPlace place
+      → LoadsAt w place m x y pixel
       → Leaves w m (loading place r s) f r pixel
   loading-leaves place f r s x y pixel is er es ek p can =
       let a = addressed-leaves place f r s x y is er es ek p can.low in

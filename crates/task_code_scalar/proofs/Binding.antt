@@ -94,17 +94,22 @@ module _ (own : Setting) (scope : List Counter) (values : Values) (few : length 
       let si = seat_in scope whole.inner in
       let n = word.multiply (values whole.outer) whole.factor in
       let i1 = literal-sets v memory l f c whole.factor one high (below whole.factor (2 ^ 32) k.0) in
-      let i2 = alu-sets v memory l alus.Mul i1.after c c so whole.factor (values whole.outer) one high high (in-low whole.outer) i1.value (i1.others so (in-apart whole.outer) ∙ knows.counters whole.outer) in
+      let i2 = alu-sets v memory l alus.Mul i1.after c c so whole.factor (values whole.outer) one high high (in-low whole.outer) i1.value
+      (i1.others so (in-apart whole.outer) ∙ knows.counters whole.outer) in
       let e2 = i2.value ∙ turned whole.factor (values whole.outer) in
-      let b = bounded-reaches v memory l whole.last i2.after c n one high (r-scratch own depth few) c-parked e2 (product-below (values whole.outer) whole.factor) (none-or-word whole.last k.1) in
-      let ei = b.others si (in-scratch whole.inner) (in-apart whole.inner) (in-second whole.inner) ∙ i2.others si (in-apart whole.inner) ∙ i1.others si (in-apart whole.inner) ∙ knows.counters whole.inner in
+      let b = bounded-reaches v memory l whole.last i2.after c n one high (r-scratch own depth few) c-parked e2 (product-below (values whole.outer)
+      whole.factor) (none-or-word whole.last k.1) in
+      let ei = b.others si (in-scratch whole.inner) (in-apart whole.inner) (in-second whole.inner) ∙ i2.others si (in-apart whole.inner)
+      ∙ i1.others si (in-apart whole.inner) ∙ knows.counters whole.inner in
       let i3 = alu-sets v memory l alus.Add b.after c c si (at_most whole.last n) (values whole.inner) one high high (in-low whole.inner) b.value ei in
       set-first v memory l i1 (first-open v memory l c 14) (set-first v memory l i2 (first-open v memory l c 14) (reach-then v memory l b
       (reach-is v memory l (sum-is (at_most whole.last n) (values whole.inner)) (set-last v memory l i3))))
 
-  module _ (counter : Counter) (whole : Whole) (extent : ℕ) (small : extent < 2 ^ 32) (fits : fits_whole whole ≡ true) (body : List Insn) (t : ℕ) (one : Planes → Planes) (body_hits : Planes → Hits)
+  module _ (counter : Counter) (whole : Whole) (extent : ℕ) (small : extent < 2 ^ 32) (fits : fits_whole whole ≡ true) (body : List Insn) (t : ℕ) (one : Planes
+      → Planes) (body_hits : Planes → Hits)
       (parked : ℕ) (given start_lanes : ℕ → ℕ) (made_is : Planes → (ℕ → ℕ) → Type 0)
-      (does : nat_lt (whole_value whole values) extent ≡ true → (f : ℕ → ℕ) (memory : List ℕ) (funcs : Planes) → HoldsFuncs own memory funcs → Knows v own.harts (counter ∷ scope) (with counter (whole_value whole values) values) f
+      (does : nat_lt (whole_value whole values) extent ≡ true → (f : ℕ → ℕ) (memory : List ℕ) (funcs : Planes) → HoldsFuncs own memory funcs
+      → Knows v own.harts (counter ∷ scope) (with counter (whole_value whole values) values) f
       → f c ≡ whole_value whole values → f 13 ≡ extent → f 15 ≡ parked → ((q : ℕ) → Kept depth q → f q ≡ given q) → SameLanes start_lanes f
       → Marked own (made_is funcs) body (λ at. at) (λ at. end at body) t f memory (suc depth) (one funcs) (body_hits funcs)) where
     abbrev code : List Insn
@@ -128,7 +133,8 @@ module _ (own : Setting) (scope : List Counter) (values : Values) (few : length 
     tested : (at : ℕ) → Stand v.text at code → Stand v.text (mid at) behind
     tested at s = stand-back v.text at front behind s
 
-    abbrev to-end : {n : ℕ} {f : ℕ → ℕ} {memory : List ℕ} {funcs : Planes} {hits : Hits} → Went own code (λ at. at) out n f memory depth funcs hits → Does own code n f memory depth funcs hits
+    abbrev to-end : {n : ℕ} {f : ℕ → ℕ} {memory : List ℕ} {funcs : Planes} {hits : Hits} → Went own code (λ at. at) out n f memory depth funcs hits
+        → Does own code n f memory depth funcs hits
     to-end {n} {f} {memory} a = record {
       after = a.after;
       left = a.left;
@@ -143,15 +149,18 @@ module _ (own : Setting) (scope : List Counter) (values : Values) (few : length 
     abbrev test_is : Bool
     test_is = nat_lt (whole_value whole values) extent
 
-    lanes-stay : (f : ℕ → ℕ) (memory : List ℕ) (l : length memory ≡ v.size) (knows : Knows v own.harts scope values f) (q : ℕ) → 32 ≤ q → (whole-reaches whole f memory l fits knows).after q ≡ f q
+    lanes-stay : (f : ℕ → ℕ) (memory : List ℕ) (l : length memory ≡ v.size) (knows : Knows v own.harts scope values f) (q : ℕ) → 32 ≤ q
+        → (whole-reaches whole f memory l fits knows).after q ≡ f q
     lanes-stay f memory l knows q high =
         let low = r-high own depth few in
         (whole-reaches whole f memory l fits knows).others q (λ e. omega (arith, e, high)) (λ e. omega (arith, e, high, low)) (λ e. omega (arith, e, high))
 
     -- The body finds the value in the counter's register, the extent in scratch, what was parked, and other counters and lanes as they were; so lanes are
     -- too where it is passed by.
-    pub bind-goes : (is : Bool) → test_is ≡ is → (f : ℕ → ℕ) (memory : List ℕ) (funcs : Planes) → HoldsFuncs own memory funcs → Knows v own.harts scope values f → f 15 ≡ parked → ((q : ℕ) → Kept depth q → f q ≡ given q) → SameLanes start_lanes f
-        → Marked own (mark_if is (made_is funcs) (SameLanes start_lanes)) code (λ at. at) (λ at. end at code) (length front + (if is then 3 + t else 4)) f memory depth (if is then one funcs else funcs) (hits_if is (body_hits funcs))
+    pub bind-goes : (is : Bool) → test_is ≡ is → (f : ℕ → ℕ) (memory : List ℕ) (funcs : Planes) → HoldsFuncs own memory funcs → Knows v own.harts scope values f
+        → f 15 ≡ parked → ((q : ℕ) → Kept depth q → f q ≡ given q) → SameLanes start_lanes f
+        → Marked own (mark_if is (made_is funcs) (SameLanes start_lanes)) code (λ at. at) (λ at. end at code) (length front + (if is then 3 + t else 4)) f
+        memory depth (if is then one funcs else funcs) (hits_if is (body_hits funcs))
     bind-goes true is f memory funcs holds knows e15 before same =
         let a = whole-reaches whole f memory holds.size fits knows in
         let kept-a : (q : ℕ) → Kept depth q → a.after q ≡ f q = λ q kept. let s = kept-safe depth q kept in let u = s.apart in
@@ -162,14 +171,18 @@ module _ (own : Setting) (scope : List Counter) (values : Values) (few : length 
         let k1 = knows-still v own.harts scope values f f1 knows kept-a in
         let less : f1 c < extent = let e = a.value in let l = below (whole_value whole values) extent is in omega (arith, e, l) in
         let head = set-scratch own depth few extent small f1 memory holds.size in
-        let second : Went own code mid start 3 f1 memory depth funcs no_hits = still own mid start 3 head.after holds (λ q kept. head.others q (no-scratch own depth few q kept))
+        let second : Went own code mid start 3 f1 memory depth funcs no_hits = still own mid start 3 head.after holds (λ q kept. head.others q
+        (no-scratch own depth few q kept))
         (λ at s. enters own depth few extent (length body + 1) small body (mid at) (tested at s) f1 memory funcs holds less) in
         let f2 = head.after in
         let k2 = knows-still v own.harts scope values f1 f2 k1 second.keeps in
         let e2 : f2 c ≡ whole_value whole values = head.others c (r-scratch own depth few) ∙ a.value in
-        let lanes : SameLanes start_lanes f2 = λ q high. head.others q (λ e. omega (arith, e, high)) ∙ lanes-stay f memory holds.size knows q high ∙ same q high in
-        let inner = does is f2 memory funcs holds (knows-entered v own.harts scope values counter (whole_value whole values) f2 k2 e2 (whole-small whole values)) e2 head.value
-        (head.others 15 (λ e. omega (arith, e)) ∙ a.others 15 (λ e. omega (arith, e)) c-not-parked (λ e. omega (arith, e)) ∙ e15) (λ q kept. second.keeps q kept ∙ kept-a q kept ∙ before q kept) lanes in
+        let lanes : SameLanes start_lanes f2 = λ q high. head.others q (λ e. omega (arith, e, high)) ∙ lanes-stay f memory holds.size knows q high
+        ∙ same q high in
+        let inner = does is f2 memory funcs holds (knows-entered v own.harts scope values counter (whole_value whole values) f2 k2 e2
+        (whole-small whole values)) e2 head.value
+        (head.others 15 (λ e. omega (arith, e)) ∙ a.others 15 (λ e. omega (arith, e)) c-not-parked (λ e. omega (arith, e)) ∙ e15) (λ q kept. second.keeps q kept
+        ∙ kept-a q kept ∙ before q kept) lanes in
         let third : Went own code start out t f2 memory depth (one funcs) (body_hits funcs) =
         within own start out (λ at s. (tested at s).1.1.1.1) (λ at. refl) (went-less own inner.went) in
         record { went = to-end (went-hits own (λ func x y hit. inr (inr hit)) (went-then own first (went-then own second third))); mark = inner.mark }
@@ -182,7 +195,8 @@ module _ (own : Setting) (scope : List Counter) (values : Values) (few : length 
         let f1 = a.after in
         let more : extent ≤ f1 c = let e = a.value in let l = not-below (whole_value whole values) extent is in omega (arith, e, l) in
         let head = set-scratch own depth few extent small f1 memory holds.size in
-        let second : Went own code mid out 4 f1 memory depth funcs no_hits = still own mid out 4 head.after holds (λ q kept. head.others q (no-scratch own depth few q kept))
+        let second : Went own code mid out 4 f1 memory depth funcs no_hits = still own mid out 4 head.after holds (λ q kept. head.others q
+        (no-scratch own depth few q kept))
         (λ at s. passes own depth few extent (length body + 1) small body (mid at) (tested at s) f1 memory funcs holds (out at) more
         (let g = end-length (start at) body in omega (arith, g)) (ended at s)) in
         record {
@@ -194,11 +208,16 @@ module _ (own : Setting) (scope : List Counter) (values : Values) (few : length 
         ended at s = stand-back v.text (start at) body [] (subst (Stand v.text (start at)) (sym (append-nil body)) (tested at s).1.1.1.1)
 
   -- so it is where nothing is asked of lanes
-  pub bind-does : (counter : Counter) (whole : Whole) (extent : ℕ) (small : extent < 2 ^ 32) (fits : fits_whole whole ≡ true) (body : List Insn) (t : ℕ) (one : Planes → Planes) (body_hits : Planes → Hits)
-      (parked : ℕ) (does : nat_lt (whole_value whole values) extent ≡ true → (f : ℕ → ℕ) (memory : List ℕ) (funcs : Planes) → HoldsFuncs own memory funcs → Knows v own.harts (counter ∷ scope) (with counter (whole_value whole values) values) f
+  pub bind-does : (counter : Counter) (whole : Whole) (extent : ℕ) (small : extent < 2 ^ 32) (fits : fits_whole whole ≡ true) (body : List Insn) (t : ℕ)
+      (one : Planes → Planes) (body_hits : Planes → Hits)
+      (parked : ℕ) (does : nat_lt (whole_value whole values) extent ≡ true → (f : ℕ → ℕ) (memory : List ℕ) (funcs : Planes) → HoldsFuncs own memory funcs
+      → Knows v own.harts (counter ∷ scope) (with counter (whole_value whole values) values) f
       → f c ≡ whole_value whole values → f 13 ≡ extent → f 15 ≡ parked → Does own body t f memory (suc depth) (one funcs) (body_hits funcs))
-      (is : Bool) → nat_lt (whole_value whole values) extent ≡ is → (f : ℕ → ℕ) (memory : List ℕ) (funcs : Planes) → HoldsFuncs own memory funcs → Knows v own.harts scope values f → f 15 ≡ parked
-      → Does own (bind_code scope whole extent c body) (length (whole_code scope whole c) + (if is then 3 + t else 4)) f memory depth (if is then one funcs else funcs) (hits_if is (body_hits funcs))
+      (is : Bool) → nat_lt (whole_value whole values) extent ≡ is → (f : ℕ → ℕ) (memory : List ℕ) (funcs : Planes) → HoldsFuncs own memory funcs
+      → Knows v own.harts scope values f → f 15 ≡ parked
+      → Does own (bind_code scope whole extent c body) (length (whole_code scope whole c) + (if is then 3 + t else 4)) f memory depth
+      (if is then one funcs else funcs) (hits_if is (body_hits funcs))
   bind-does counter whole extent small fits body t one body_hits parked does is test f memory funcs holds knows e15 =
       (bind-goes counter whole extent small fits body t one body_hits parked f f (λ p after. Unit {0})
-      (λ under g left there holding knowing ec e13 e15 before same. record { went = does under g left there holding knowing ec e13 e15; mark = tt }) is test f memory funcs holds knows e15 (λ q kept. refl) (λ q high. refl)).went
+      (λ under g left there holding knowing ec e13 e15 before same. record { went = does under g left there holding knowing ec e13 e15; mark = tt }) is test f
+      memory funcs holds knows e15 (λ q kept. refl) (λ q high. refl)).went

@@ -25,10 +25,12 @@ one-more-copied a b d e body r k insns so_far is appended next =
 
 -- ---- laid out, or counted
 
-pub turns-laid : {a b : List ℕ} (is_laid : Bool) (r n : ℕ) (insns : List Insn) → are_copies is_laid n ≡ true → Emits a b (laid_out_code r n insns) → Emits a b (turns_code is_laid r n insns)
+pub turns-laid : {a b : List ℕ} (is_laid : Bool) (r n : ℕ) (insns : List Insn) → are_copies is_laid n ≡ true → Emits a b (laid_out_code r n insns)
+    → Emits a b (turns_code is_laid r n insns)
 turns-laid {a} {b} is_laid r n insns e x = subst (λ (t : Bool). Emits a b (if t then laid_out_code r n insns else loop_code r n insns)) (sym e) x
 
-pub turns-counted : {a b : List ℕ} (is_laid : Bool) (r n : ℕ) (insns : List Insn) → are_copies is_laid n ≡ false → Emits a b (loop_code r n insns) → Emits a b (turns_code is_laid r n insns)
+pub turns-counted : {a b : List ℕ} (is_laid : Bool) (r n : ℕ) (insns : List Insn) → are_copies is_laid n ≡ false → Emits a b (loop_code r n insns)
+    → Emits a b (turns_code is_laid r n insns)
 turns-counted {a} {b} is_laid r n insns e x = subst (λ (t : Bool). Emits a b (if t then laid_out_code r n insns else loop_code r n insns)) (sym e) x
 
 pub laid-long : (is_laid : Bool) (n words : ℕ) → are_copies is_laid n ≡ true → 2 ^ 18 ≤ n * (words + 1) + 1 → 2 ^ 18 ≤ loop_size is_laid n words

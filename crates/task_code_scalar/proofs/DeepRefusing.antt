@@ -40,13 +40,15 @@ module _ (places : Places) (scope : List Counter) where
   pub no-number : (own : Expr) (k n : ℕ) → k ≡ min (made places scope own).need 100 → 12 < k → own ≡ e.Number n → ⊥
   unfolding made
   no-number own k n ek many eo =
-      let is : (made places scope own).need ≡ 1 = ap (λ (x : Expr). (made places scope x).need) eo ∙ ap (λ (m : Made). m.need) (at_number Made (made_at places scope) n) in
+      let is : (made places scope own).need ≡ 1 = ap (λ (x : Expr). (made places scope x).need) eo
+      ∙ ap (λ (m : Made). m.need) (at_number Made (made_at places scope) n) in
       omega (arith, ek, many, is)
 
   pub no-linear : (own : Expr) (k : ℕ) (linear : Linear) → k ≡ min (made places scope own).need 100 → 12 < k → own ≡ e.Linear linear → ⊥
   unfolding made
   no-linear own k linear ek many eo =
-      let is : (made places scope own).need ≡ 1 = ap (λ (x : Expr). (made places scope x).need) eo ∙ ap (λ (m : Made). m.need) (at_linear Made (made_at places scope) linear) in
+      let is : (made places scope own).need ≡ 1 = ap (λ (x : Expr). (made places scope x).need) eo
+      ∙ ap (λ (m : Made). m.need) (at_linear Made (made_at places scope) linear) in
       omega (arith, ek, many, is)
 
   -- where the stack has no room the frame has
@@ -56,7 +58,8 @@ module _ (places : Places) (scope : List Counter) where
     | inr room ↦ room
   ]
 
-  through : (own whole : Expr) (k word : ℕ) (n : Need) → k ≡ min (made places scope own).need 100 → 12 < k → own ≡ whole → need_of whole ≡ n → Fits own word → n.count + word ≤ frame_words places.frames
+  through : (own whole : Expr) (k word : ℕ) (n : Need) → k ≡ min (made places scope own).need 100 → 12 < k → own ≡ whole → need_of whole ≡ n → Fits own word
+      → n.count + word ≤ frame_words places.frames
   through own whole k word n ek many eo en fits =
       subst (λ (y : Need). y.count + word ≤ frame_words places.frames) (ap need_of eo ∙ en) (framed own k word ek many fits)
 
@@ -75,14 +78,17 @@ module _ (places : Places) (scope : List Counter) where
         second = (low, (by-leaf (need_of b).is_leaf (sized places scope b).one room, λ t. omega (arith, room, s)));
       }
     where
-      by-leaf : (t : Bool) → (t ≡ true → need b ≡ 1) → max (need a) (if t then 0 else 1 + need b) + word ≤ frame_words places.frames → HasRoom places.frames (need b) (word + 1)
+      by-leaf : (t : Bool) → (t ≡ true → need b ≡ 1) → max (need a) (if t then 0 else 1 + need b) + word ≤ frame_words places.frames
+          → HasRoom places.frames (need b) (word + 1)
       by-leaf true one l = let is = one refl in inl (omega (arith, is))
       by-leaf false one l = inr (omega (arith, l))
 
-  pub binary-fits : (own : Expr) (k word : ℕ) (o : Operation) (a b : Expr) → k ≡ min (made places scope own).need 100 → 12 < k → own ≡ e.Binary o a b → Fits own word → PairFits a b word
+  pub binary-fits : (own : Expr) (k word : ℕ) (o : Operation) (a b : Expr) → k ≡ min (made places scope own).need 100 → 12 < k → own ≡ e.Binary o a b
+      → Fits own word → PairFits a b word
   binary-fits own k word o a b ek many eo fits = pair-fits a b word fits.0 (through own (e.Binary o a b) k word _ ek many eo (need_binary o a b) fits)
 
-  pub load-fits : (own : Expr) (k word : ℕ) (source : Source) (a b : Expr) → k ≡ min (made places scope own).need 100 → 12 < k → own ≡ e.Load source a b → Fits own word → PairFits a b word
+  pub load-fits : (own : Expr) (k word : ℕ) (source : Source) (a b : Expr) → k ≡ min (made places scope own).need 100 → 12 < k → own ≡ e.Load source a b
+      → Fits own word → PairFits a b word
   load-fits own k word source a b ek many eo fits = pair-fits a b word fits.0 (through own (e.Load source a b) k word _ ek many eo (need_load source a b) fits)
 
   divided-fits : (a : Expr) (c word : ℕ) → LieLow places.frames → max (need a) (divisor_need c) + word ≤ frame_words places.frames → Fits a word × (0 < c)
@@ -90,10 +96,12 @@ module _ (places : Places) (scope : List Counter) where
       let w = few-words places.frames in
       ((low, inr (omega (arith, room))), (divisor-some c (omega (arith, room, w))).0)
 
-  pub divide-fits : (own : Expr) (k word : ℕ) (a : Expr) (c : ℕ) → k ≡ min (made places scope own).need 100 → 12 < k → own ≡ e.Divide a c → Fits own word → Fits a word × (0 < c)
+  pub divide-fits : (own : Expr) (k word : ℕ) (a : Expr) (c : ℕ) → k ≡ min (made places scope own).need 100 → 12 < k → own ≡ e.Divide a c → Fits own word
+      → Fits a word × (0 < c)
   divide-fits own k word a c ek many eo fits = divided-fits a c word fits.0 (through own (e.Divide a c) k word _ ek many eo (need_divide a c) fits)
 
-  pub remainder-fits : (own : Expr) (k word : ℕ) (a : Expr) (c : ℕ) → k ≡ min (made places scope own).need 100 → 12 < k → own ≡ e.Remainder a c → Fits own word → Fits a word × (0 < c)
+  pub remainder-fits : (own : Expr) (k word : ℕ) (a : Expr) (c : ℕ) → k ≡ min (made places scope own).need 100 → 12 < k → own ≡ e.Remainder a c → Fits own word
+      → Fits a word × (0 < c)
   remainder-fits own k word a c ek many eo fits = divided-fits a c word fits.0 (through own (e.Remainder a c) k word _ ek many eo (need_remainder a c) fits)
 
   pub record TripleFits (c a b : Expr) (word : ℕ) : Type 0 where
@@ -103,7 +111,8 @@ module _ (places : Places) (scope : List Counter) where
     pub low : LieLow places.frames
     pub room : word + 1 < frame_words places.frames
 
-  pub select-fits : (own : Expr) (k word : ℕ) (c a b : Expr) → k ≡ min (made places scope own).need 100 → 12 < k → own ≡ e.Select c a b → Fits own word → TripleFits c a b word
+  pub select-fits : (own : Expr) (k word : ℕ) (c a b : Expr) → k ≡ min (made places scope own).need 100 → 12 < k → own ≡ e.Select c a b → Fits own word
+      → TripleFits c a b word
   select-fits own k word c a b ek many eo fits =
       let room = through own (e.Select c a b) k word _ ek many eo (need_select c a b) fits in
       let s = (sized places scope b).some in

@@ -16,7 +16,9 @@ use Rattle.loop_ir.specs.declared.expressions.Expr.TheVariants as e
 use Rattle.loop_ir.proofs.Folds.{Both, left_of, right_of, folds_related, at_binary, at_divide, at_remainder, at_select, at_load}
 use Rattle.task_code_scalar.specs.declared.places.Place.{Place}
 use Rattle.task_code_scalar.specs.declared.places.Places.{Places}
-use Rattle.task_code_scalar.specs.Code.{Made, Deep, EmitsValue, EmitsDeep, EmitsSecond, beside, second_code, second_depth, move, on_stack, deep_or, deep_leaf, deep_at, deep, made, made_at, frames_of, frame_words, literal, spill, unspill, chosen, operation, quotient, remainder, selection, addressed, fetch, loading, place_of, second_need}
+use Rattle.task_code_scalar.specs.Code.{Made, Deep, EmitsValue, EmitsDeep, EmitsSecond, beside, second_code, second_depth, move, on_stack, deep_or, deep_leaf}
+use Rattle.task_code_scalar.specs.Code.{deep_at, deep, made, made_at, frames_of, frame_words, literal, spill, unspill, chosen, operation, quotient, remainder}
+use Rattle.task_code_scalar.specs.Code.{selection, addressed, fetch, loading, place_of, second_need}
 use Rattle.task_code_scalar.specs.Words.{Emits}
 use Rattle.task_code_scalar.proofs.Spelling.{emits_then}
 
@@ -52,16 +54,25 @@ module _ (places : Places) (scope : List Counter) where
   is-level (layer.Number n) = record { own_is = refl; short = short-leaf (made_at places scope (layer.Number n)) }
   is-level (layer.Linear own) = record { own_is = refl; short = short-leaf (made_at places scope (layer.Linear own)) }
   is-level (layer.Binary o a b) =
-      record { own_is = ap (λ x. made_at places scope (layer.Binary o x b.left.own)) a.is.own_is ∙ ap (λ x. made_at places scope (layer.Binary o a.right x)) b.is.own_is; short = short-or _ _ _ }
+      record {
+        own_is = ap (λ x. made_at places scope (layer.Binary o x b.left.own)) a.is.own_is ∙ ap (λ x. made_at places scope (layer.Binary o a.right x))
+            b.is.own_is;
+        short = short-or _ _ _;
+      }
   is-level (layer.Divide a c) = record { own_is = ap (λ x. made_at places scope (layer.Divide x c)) a.is.own_is; short = short-or _ _ _ }
   is-level (layer.Remainder a c) = record { own_is = ap (λ x. made_at places scope (layer.Remainder x c)) a.is.own_is; short = short-or _ _ _ }
   is-level (layer.Select c a b) = record {
-    own_is = ap (λ x. made_at places scope (layer.Select x a.left.own b.left.own)) c.is.own_is ∙ ap (λ x. made_at places scope (layer.Select c.right x b.left.own)) a.is.own_is
+    own_is = ap (λ x. made_at places scope (layer.Select x a.left.own b.left.own)) c.is.own_is
+        ∙ ap (λ x. made_at places scope (layer.Select c.right x b.left.own)) a.is.own_is
         ∙ ap (λ x. made_at places scope (layer.Select c.right a.right x)) b.is.own_is;
     short = short-or _ _ _;
   }
   is-level (layer.Load source x y) =
-      record { own_is = ap (λ p. made_at places scope (layer.Load source p y.left.own)) x.is.own_is ∙ ap (λ p. made_at places scope (layer.Load source x.right p)) y.is.own_is; short = short-or _ _ _ }
+      record {
+        own_is = ap (λ p. made_at places scope (layer.Load source p y.left.own)) x.is.own_is
+            ∙ ap (λ p. made_at places scope (layer.Load source x.right p)) y.is.own_is;
+        short = short-or _ _ _;
+      }
 
   pub is-deep : (own : Expr) → IsDeep (deep places scope own) (made places scope own)
   unfolding deep made
@@ -85,7 +96,8 @@ module _ (places : Places) (scope : List Counter) where
 
   -- through the frame
   or-emitted : (own : Expr) (k word : ℕ) (m : Made) (depth : ℕ) (code : ℕ → List Insn) (c0 c1 : List ℕ) → k ≡ min (made places scope own).need 100 → 12 < k
-      → deep places scope own ≡ deep_or m depth code → m.is_word ≡ true → Emits c0 c1 (code word) → depth + word ≤ frame_words places.frames → Emitted c0 c1 own word
+      → deep places scope own ≡ deep_or m depth code → m.is_word ≡ true → Emits c0 c1 (code word) → depth + word ≤ frame_words places.frames
+      → Emitted c0 c1 own word
   or-emitted own k word m depth code c0 c1 ek many is is-word x fits =
       let t : on_stack m ≡ false = ap (λ d. on_stack d.own) (sym is) ∙ ap on_stack (is-deep own).own_is ∙ no-room (made places scope own).need k ek many in
       subst (λ d. EmitsDeep c0 c1 places.frames d word) (sym is) (record {
@@ -124,7 +136,8 @@ module _ (places : Places) (scope : List Counter) where
       let t : d.own.is_leaf ≡ true = is-leaf own true is in
       let none : second_depth d ≡ 0 = ap (λ b. if b then 0 else 1 + d.depth) t in
       let code-is : second_code start d word ≡ (made places scope own).code 14
-      = ap (λ b. if b then d.own.code 14 else spill start word ++ (d.code (word + 1) ++ (move 21 20 ++ unspill start word 20))) t ∙ ap (λ m. m.code 14) (is-deep own).own_is in
+      = ap (λ b. if b then d.own.code 14 else spill start word ++ (d.code (word + 1) ++ (move 21 20 ++ unspill start word 20))) t
+      ∙ ap (λ m. m.code 14) (is-deep own).own_is in
       record {
         emits = subst (Emits c0 c1) (sym code-is) x.emits;
         room = omega (arith, none, fits);
@@ -134,7 +147,8 @@ module _ (places : Places) (scope : List Counter) where
       }
 
   -- another one, while the first slot's value waits
-  pub waiting-second : (own : Expr) (word : ℕ) (c0 c1 c2 c3 c4 : List ℕ) → (made places scope own).is_leaf ≡ false → Emits c0 c1 (spill start word) → Emitted c1 c2 own (word + 1)
+  pub waiting-second : (own : Expr) (word : ℕ) (c0 c1 c2 c3 c4 : List ℕ) → (made places scope own).is_leaf ≡ false → Emits c0 c1 (spill start word)
+      → Emitted c1 c2 own (word + 1)
       → Emits c2 c3 (AluImm Addi 21 20 (pos 0) ∷ []) → Emits c3 c4 (unspill start word 20) → EmittedSecond c0 c4 own word 21
   waiting-second own word c0 c1 c2 c3 c4 is s x m l =
       let d = deep places scope own in
@@ -152,7 +166,8 @@ module _ (places : Places) (scope : List Counter) where
       }
 
   pub binary-deep : (own : Expr) (k word second : ℕ) (o : Operation) (a b x z : Expr) (c0 c1 c2 c3 : List ℕ) → k ≡ min (made places scope own).need 100 → 12 < k
-      → own ≡ e.Binary o a b → x ≡ a → z ≡ b → Emitted c0 c1 x word → EmittedSecond c1 c2 z word second → Emits c2 c3 (operation o 20 second) → Emitted c0 c3 own word
+      → own ≡ e.Binary o a b → x ≡ a → z ≡ b → Emitted c0 c1 x word → EmittedSecond c1 c2 z word second → Emits c2 c3 (operation o 20 second)
+      → Emitted c0 c3 own word
   unfolding deep
   binary-deep own k word second o a b x z c0 c1 c2 c3 ek many eo ex ez u v w =
       let left = of x a word c0 c1 ex u in
@@ -163,7 +178,8 @@ module _ (places : Places) (scope : List Counter) where
       (emits_then left.emits (emits_then right.emits made-of))
       (pair-room (deep places scope a).depth (second_depth (deep places scope b)) word (frame_words places.frames) left.room right.room)
 
-  pub load-deep : (own : Expr) (k word second : ℕ) (source : Source) (a b x z : Expr) (place : Place) (c0 c1 c2 c3 c4 : List ℕ) → k ≡ min (made places scope own).need 100 → 12 < k
+  pub load-deep : (own : Expr) (k word second : ℕ) (source : Source) (a b x z : Expr) (place : Place) (c0 c1 c2 c3 c4 : List ℕ)
+      → k ≡ min (made places scope own).need 100 → 12 < k
       → own ≡ e.Load source a b → x ≡ a → z ≡ b → place ≡ place_of places source → Emitted c0 c1 x word → EmittedSecond c1 c2 z word second
       → Emits c2 c3 (addressed place 20 second) → Emits c3 c4 (fetch place.pixels 20) → Emitted c0 c4 own word
   unfolding deep
@@ -180,7 +196,8 @@ module _ (places : Places) (scope : List Counter) where
   divisor-word : (c : ℕ) → (0 < c) × (c < 2 ^ 32) → (nat_lt 0 c && nat_lt c (2 ^ 32)) ≡ true
   divisor-word c l = and_from (nat_lt 0 c) (nat_lt c (2 ^ 32)) (below 0 c l.0) (below c (2 ^ 32) l.1)
 
-  pub divide-deep : (own : Expr) (k word : ℕ) (a : Expr) (c : ℕ) (x : Expr) (c0 c1 c2 c3 : List ℕ) → k ≡ min (made places scope own).need 100 → 12 < k → own ≡ e.Divide a c → x ≡ a
+  pub divide-deep : (own : Expr) (k word : ℕ) (a : Expr) (c : ℕ) (x : Expr) (c0 c1 c2 c3 : List ℕ) → k ≡ min (made places scope own).need 100 → 12 < k
+      → own ≡ e.Divide a c → x ≡ a
       → Emitted c0 c1 x word → Emits c1 c2 (literal 21 c) × ((0 < c) × (c < 2 ^ 32)) → Emits c2 c3 (quotient 20 21) → Emitted c0 c3 own word
   unfolding deep
   divide-deep own k word a c x c0 c1 c2 c3 ek many eo ex u v w =
@@ -188,7 +205,8 @@ module _ (places : Places) (scope : List Counter) where
       or-emitted own k word _ _ _ c0 c3 ek many (ap (deep places scope) eo ∙ at_divide Deep (deep_at places scope) a c)
       (and_from (deep places scope a).own.is_word _ first.is_word (divisor-word c v.1)) (emits_then first.emits (emits_then v.0 w)) first.room
 
-  pub remainder-deep : (own : Expr) (k word : ℕ) (a : Expr) (c : ℕ) (x : Expr) (c0 c1 c2 c3 : List ℕ) → k ≡ min (made places scope own).need 100 → 12 < k → own ≡ e.Remainder a c → x ≡ a
+  pub remainder-deep : (own : Expr) (k word : ℕ) (a : Expr) (c : ℕ) (x : Expr) (c0 c1 c2 c3 : List ℕ) → k ≡ min (made places scope own).need 100 → 12 < k
+      → own ≡ e.Remainder a c → x ≡ a
       → Emitted c0 c1 x word → Emits c1 c2 (literal 21 c) × ((0 < c) × (c < 2 ^ 32)) → Emits c2 c3 (remainder 20 21) → Emitted c0 c3 own word
   unfolding deep
   remainder-deep own k word a c x c0 c1 c2 c3 ek many eo ex u v w =
@@ -197,7 +215,8 @@ module _ (places : Places) (scope : List Counter) where
       (and_from (deep places scope a).own.is_word _ first.is_word (divisor-word c v.1)) (emits_then first.emits (emits_then v.0 w)) first.room
 
   pub select-deep : (own : Expr) (k word : ℕ) (c a b x y z : Expr) (c0 c1 c2 c3 c4 c5 c6 : List ℕ) → k ≡ min (made places scope own).need 100 → 12 < k
-      → own ≡ e.Select c a b → x ≡ c → y ≡ a → z ≡ b → Emitted c0 c1 x word → Emits c1 c2 (spill start word) → Emitted c2 c3 y (word + 1) → Emits c3 c4 (spill start (word + 1))
+      → own ≡ e.Select c a b → x ≡ c → y ≡ a → z ≡ b → Emitted c0 c1 x word → Emits c1 c2 (spill start word) → Emitted c2 c3 y (word + 1)
+      → Emits c3 c4 (spill start (word + 1))
       → Emitted c4 c5 z (word + 2) → Emits c5 c6 (chosen start word) → Emitted c0 c6 own word
   unfolding deep
   select-deep own k word c a b x y z c0 c1 c2 c3 c4 c5 c6 ek many eo ex ey ez u s v t q w =
@@ -205,9 +224,11 @@ module _ (places : Places) (scope : List Counter) where
       let second = of y a (word + 1) c2 c3 ey v in
       let third = of z b (word + 2) c4 c5 ez q in
       or-emitted own k word _ _ _ c0 c6 ek many (ap (deep places scope) eo ∙ at_select Deep (deep_at places scope) c a b)
-      (and_from (deep places scope c).own.is_word _ first.is_word (and_from (deep places scope a).own.is_word (deep places scope b).own.is_word second.is_word third.is_word))
+      (and_from (deep places scope c).own.is_word _ first.is_word (and_from (deep places scope a).own.is_word (deep places scope b).own.is_word second.is_word
+      third.is_word))
       (emits_then first.emits (emits_then s (emits_then second.emits (emits_then t (emits_then third.emits w)))))
-      (triple-room (deep places scope c).depth (deep places scope a).depth (deep places scope b).depth word (frame_words places.frames) first.room second.room third.room)
+      (triple-room (deep places scope c).depth (deep places scope a).depth (deep places scope b).depth word (frame_words places.frames) first.room second.room
+      third.room)
 
   -- ---- needs
 
@@ -246,12 +267,14 @@ module _ (places : Places) (scope : List Counter) where
       counted-is own (e.Load source a b) _ k eo (at_load Made (made_at places scope) source a b)
       (pair-count (made places scope a) (made places scope b) is ka kb k (counted-of x a ka ex ca) (counted-of z b kb ez cb) (leaf-of y b is ey cl) counts)
 
-  pub divide-counted : (own a : Expr) (c : ℕ) (x : Expr) (ka k : ℕ) → own ≡ e.Divide a c → x ≡ a → counted ka x → ((m : ℕ) → ka ≡ min m 100 → k ≡ min (max m 2) 100) → counted k own
+  pub divide-counted : (own a : Expr) (c : ℕ) (x : Expr) (ka k : ℕ) → own ≡ e.Divide a c → x ≡ a → counted ka x → ((m : ℕ) → ka ≡ min m 100
+      → k ≡ min (max m 2) 100) → counted k own
   unfolding made
   divide-counted own a c x ka k eo ex ca counts =
       counted-is own (e.Divide a c) _ k eo (at_divide Made (made_at places scope) a c) (counts (made places scope a).need (counted-of x a ka ex ca))
 
-  pub remainder-counted : (own a : Expr) (c : ℕ) (x : Expr) (ka k : ℕ) → own ≡ e.Remainder a c → x ≡ a → counted ka x → ((m : ℕ) → ka ≡ min m 100 → k ≡ min (max m 2) 100) → counted k own
+  pub remainder-counted : (own a : Expr) (c : ℕ) (x : Expr) (ka k : ℕ) → own ≡ e.Remainder a c → x ≡ a → counted ka x → ((m : ℕ) → ka ≡ min m 100
+      → k ≡ min (max m 2) 100) → counted k own
   unfolding made
   remainder-counted own a c x ka k eo ex ca counts =
       counted-is own (e.Remainder a c) _ k eo (at_remainder Made (made_at places scope) a c) (counts (made places scope a).need (counted-of x a ka ex ca))
@@ -261,4 +284,5 @@ module _ (places : Places) (scope : List Counter) where
   unfolding made
   select-counted own c a b x y z kc ka kb k eo ex ey ez cc ca cb counts =
       counted-is own (e.Select c a b) _ k eo (at_select Made (made_at places scope) c a b)
-      (counts (made places scope c).need (made places scope a).need (made places scope b).need (counted-of x c kc ex cc) (counted-of y a ka ey ca) (counted-of z b kb ez cb))
+      (counts (made places scope c).need (made places scope a).need (made places scope b).need (counted-of x c kc ex cc) (counted-of y a ka ey ca)
+      (counted-of z b kb ez cb))

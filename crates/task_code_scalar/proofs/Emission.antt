@@ -1,5 +1,6 @@
 -- Words that parts of code spell, put together to the code of terms and expressions.
-use Rattle.std.proofs.Common.{◌≡◌, ℕ, suc, ◌+◌, ◌-◌, ◌^◌, ◌<◌, ◌≤◌, List, [], ◌∷◌, ◌++◌, length, get_or, take, drop, Bool, true, false, refl, ap, ◌∙◌, sym, subst, arith}
+use Rattle.std.proofs.Common.{◌≡◌, ℕ, suc, ◌+◌, ◌-◌, ◌^◌, ◌<◌, ◌≤◌, List, [], ◌∷◌, ◌++◌, length, get_or, take, drop, Bool, true, false, refl, ap, ◌∙◌, sym}
+use Rattle.std.proofs.Common.{subst, arith}
 use Rattle.std.specs.Prelude.{◌&&◌, nat_lt}
 use Rattle.std.proofs.Math.Seq.{take-length}
 use Rattle.std.proofs.lemmas.Bool.Decides.{nat_tests}
@@ -14,7 +15,8 @@ use Rattle.loop_ir.specs.declared.expressions.Term.{Term}
 use Rattle.loop_ir.proofs.Folds.{at_binary, at_divide, at_remainder, at_select, at_load}
 use Rattle.task_code_scalar.specs.declared.places.Place.{Place}
 use Rattle.task_code_scalar.specs.declared.places.Places.{Places}
-use Rattle.task_code_scalar.specs.Code.{seat_in, literal, term, terms_code, are_words, is_linear, linear_code, operation, selection, quotient, remainder, addressed, fetch, place_of, Made, beside, second_need, pair, divided, triple, loading, made, made_at, EmitsValue}
+use Rattle.task_code_scalar.specs.Code.{seat_in, literal, term, terms_code, are_words, is_linear, linear_code, operation, selection, quotient, remainder}
+use Rattle.task_code_scalar.specs.Code.{addressed, fetch, place_of, Made, beside, second_need, pair, divided, triple, loading, made, made_at, EmitsValue}
 use Rattle.task_code_scalar.specs.Words.{Emits}
 use Rattle.task_code_scalar.proofs.Spelling.{emits_then}
 
@@ -78,7 +80,8 @@ triple-emitted c a b r s t c0 c1 c2 c3 c4 es et x y z o =
     let ra = y.room in
     let rb = z.room in
     record {
-      emits = emits_then x.emits (subst (λ q. Emits c1 c4 (a.code q ++ (b.code (r + 2) ++ selection r q (r + 2)))) es (subst (λ q. Emits c1 c4 (a.code s ++ (b.code q ++ selection r s q))) et (emits_then y.emits (emits_then z.emits o))));
+      emits = emits_then x.emits (subst (λ q. Emits c1 c4 (a.code q ++ (b.code (r + 2) ++ selection r q (r + 2)))) es
+          (subst (λ q. Emits c1 c4 (a.code s ++ (b.code q ++ selection r s q))) et (emits_then y.emits (emits_then z.emits o))));
       room = omega (arith, rc, ra, rb, es, et);
       is_word = both c.is_word (a.is_word && b.is_word) x.is_word (both a.is_word b.is_word y.is_word z.is_word);
     }
@@ -88,45 +91,54 @@ module _ (places : Places) (scope : List Counter) where
   of : (x a : Expr) (r : ℕ) (c0 c1 : List ℕ) → x ≡ a → EmitsValue c0 c1 (made places scope x) r → EmitsValue c0 c1 (made places scope a) r
   of x a r c0 c1 e m = subst (λ y. EmitsValue c0 c1 (made places scope y) r) e m
 
-  is : (own e : Expr) (m : Made) (r : ℕ) (c0 c1 : List ℕ) → own ≡ e → made places scope e ≡ m → EmitsValue c0 c1 m r → EmitsValue c0 c1 (made places scope own) r
+  is : (own e : Expr) (m : Made) (r : ℕ) (c0 c1 : List ℕ) → own ≡ e → made places scope e ≡ m → EmitsValue c0 c1 m r
+      → EmitsValue c0 c1 (made places scope own) r
   is own e m r c0 c1 eo em v = subst (λ y. EmitsValue c0 c1 y r) (sym (ap (made places scope) eo ∙ em)) v
 
   pub binary-emitted : (own : Expr) (o : Operation) (a b x y z : Expr) (r s : ℕ) (c0 c1 c2 c3 : List ℕ)
       → own ≡ e.Binary o a b → x ≡ a → y ≡ b → z ≡ b → s ≡ beside (made places scope y).is_leaf r
-      → EmitsValue c0 c1 (made places scope x) r → EmitsValue c1 c2 (made places scope z) s → Emits c2 c3 (operation o r s) → EmitsValue c0 c3 (made places scope own) r
+      → EmitsValue c0 c1 (made places scope x) r → EmitsValue c1 c2 (made places scope z) s → Emits c2 c3 (operation o r s)
+      → EmitsValue c0 c3 (made places scope own) r
   unfolding made
   binary-emitted own o a b x y z r s c0 c1 c2 c3 eo ex ey ez es v u w =
       is own (e.Binary o a b) _ r c0 c3 eo (at_binary Made (made_at places scope) o a b)
-      (pair-emitted (made places scope a) (made places scope b) (operation o) r s c0 c1 c2 c3 (es ∙ ap (λ q. beside (made places scope q).is_leaf r) ey) (of x a r c0 c1 ex v) (of z b s c1 c2 ez u) w)
+      (pair-emitted (made places scope a) (made places scope b) (operation o) r s c0 c1 c2 c3 (es ∙ ap (λ q. beside (made places scope q).is_leaf r) ey)
+      (of x a r c0 c1 ex v) (of z b s c1 c2 ez u) w)
 
   pub divide-emitted : (own a : Expr) (c : ℕ) (x : Expr) (r s : ℕ) (c0 c1 c2 c3 : List ℕ) → own ≡ e.Divide a c → x ≡ a → (s ≡ r + 1) × (s < 32)
-      → EmitsValue c0 c1 (made places scope x) r → Emits c1 c2 (literal (r + 1) c) × ((0 < c) × (c < 2 ^ 32)) → Emits c2 c3 (quotient r s) → EmitsValue c0 c3 (made places scope own) r
+      → EmitsValue c0 c1 (made places scope x) r → Emits c1 c2 (literal (r + 1) c) × ((0 < c) × (c < 2 ^ 32)) → Emits c2 c3 (quotient r s)
+      → EmitsValue c0 c3 (made places scope own) r
   unfolding made
   divide-emitted own a c x r s c0 c1 c2 c3 eo ex es v u w =
       is own (e.Divide a c) _ r c0 c3 eo (at_divide Made (made_at places scope) a c)
       (divided-emitted (made places scope a) c quotient r s c0 c1 c2 c3 es (of x a r c0 c1 ex v) u w)
 
   pub remainder-emitted : (own a : Expr) (c : ℕ) (x : Expr) (r s : ℕ) (c0 c1 c2 c3 : List ℕ) → own ≡ e.Remainder a c → x ≡ a → (s ≡ r + 1) × (s < 32)
-      → EmitsValue c0 c1 (made places scope x) r → Emits c1 c2 (literal (r + 1) c) × ((0 < c) × (c < 2 ^ 32)) → Emits c2 c3 (remainder r s) → EmitsValue c0 c3 (made places scope own) r
+      → EmitsValue c0 c1 (made places scope x) r → Emits c1 c2 (literal (r + 1) c) × ((0 < c) × (c < 2 ^ 32)) → Emits c2 c3 (remainder r s)
+      → EmitsValue c0 c3 (made places scope own) r
   unfolding made
   remainder-emitted own a c x r s c0 c1 c2 c3 eo ex es v u w =
       is own (e.Remainder a c) _ r c0 c3 eo (at_remainder Made (made_at places scope) a c)
       (divided-emitted (made places scope a) c remainder r s c0 c1 c2 c3 es (of x a r c0 c1 ex v) u w)
 
   pub select-emitted : (own c a b x y z : Expr) (r s t : ℕ) (c0 c1 c2 c3 c4 : List ℕ) → own ≡ e.Select c a b → x ≡ c → y ≡ a → z ≡ b → s ≡ r + 1 → t ≡ r + 2
-      → EmitsValue c0 c1 (made places scope x) r → EmitsValue c1 c2 (made places scope y) s → EmitsValue c2 c3 (made places scope z) t → Emits c3 c4 (selection r s t)
+      → EmitsValue c0 c1 (made places scope x) r → EmitsValue c1 c2 (made places scope y) s → EmitsValue c2 c3 (made places scope z) t
+      → Emits c3 c4 (selection r s t)
       → EmitsValue c0 c4 (made places scope own) r
   unfolding made
   select-emitted own c a b x y z r s t c0 c1 c2 c3 c4 eo ex ey ez es et v u w o =
       is own (e.Select c a b) _ r c0 c4 eo (at_select Made (made_at places scope) c a b)
-      (triple-emitted (made places scope c) (made places scope a) (made places scope b) r s t c0 c1 c2 c3 c4 es et (of x c r c0 c1 ex v) (of y a s c1 c2 ey u) (of z b t c2 c3 ez w) o)
+      (triple-emitted (made places scope c) (made places scope a) (made places scope b) r s t c0 c1 c2 c3 c4 es et (of x c r c0 c1 ex v) (of y a s c1 c2 ey u)
+      (of z b t c2 c3 ez w) o)
 
   pub load-emitted : (own : Expr) (source : Source) (a b x y z : Expr) (place : Place) (r s : ℕ) (c0 c1 c2 c3 c4 : List ℕ)
       → own ≡ e.Load source a b → x ≡ a → y ≡ b → z ≡ b → place ≡ place_of places source → s ≡ beside (made places scope y).is_leaf r
-      → EmitsValue c0 c1 (made places scope x) r → EmitsValue c1 c2 (made places scope z) s → Emits c2 c3 (addressed place r s) → Emits c3 c4 (fetch place.pixels r)
+      → EmitsValue c0 c1 (made places scope x) r → EmitsValue c1 c2 (made places scope z) s → Emits c2 c3 (addressed place r s)
+      → Emits c3 c4 (fetch place.pixels r)
       → EmitsValue c0 c4 (made places scope own) r
   unfolding made
   load-emitted own source a b x y z place r s c0 c1 c2 c3 c4 eo ex ey ez ep es v u w o =
       is own (e.Load source a b) _ r c0 c4 eo (at_load Made (made_at places scope) source a b)
-      (pair-emitted (made places scope a) (made places scope b) (loading (place_of places source)) r s c0 c1 c2 c4 (es ∙ ap (λ q. beside (made places scope q).is_leaf r) ey) (of x a r c0 c1 ex v) (of z b s c1 c2 ez u)
+      (pair-emitted (made places scope a) (made places scope b) (loading (place_of places source)) r s c0 c1 c2 c4 (es
+      ∙ ap (λ q. beside (made places scope q).is_leaf r) ey) (of x a r c0 c1 ex v) (of z b s c1 c2 ez u)
       (subst (λ p. Emits c2 c4 (loading p r s)) ep (emits_then w o)))

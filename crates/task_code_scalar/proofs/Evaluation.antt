@@ -26,7 +26,8 @@ use Rattle.loop_ir.proofs.Loads.{values_are_seen}
 use Rattle.multi_hart_logic.specs.Alone.{World}
 use Rattle.multi_hart_logic.proofs.Paths.{line-then}
 use Rattle.task_code_scalar.specs.declared.places.Places.{Places}
-use Rattle.task_code_scalar.specs.Code.{seat_in, literal, terms_code, are_words, is_linear, linear_code, operation, quotient, remainder, Made, beside, second_need, pair, divided, triple, loading, made, made_at, place_of}
+use Rattle.task_code_scalar.specs.Code.{seat_in, literal, terms_code, are_words, is_linear, linear_code, operation, quotient, remainder, Made, beside}
+use Rattle.task_code_scalar.specs.Code.{second_need, pair, divided, triple, loading, made, made_at, place_of}
 use Rattle.task_code_scalar.specs.Values.{Free, Leaves, Beside}
 use Rattle.task_code_scalar.specs.Evaluation.{Knows, ArePlaces, Loads, ExpressionsLeave}
 use Rattle.task_code_scalar.proofs.Values.{literals-leave, leaves-is, operation-leaves, selection-leaves}
@@ -71,7 +72,8 @@ step-sum v stride n rest = let e : stride * n ≡ n * stride = omega arith in ap
     plain : (v p rest : ℕ) → ((v + p % 2 ^ 32) % 2 ^ 32 + rest) % 2 ^ 32 ≡ (v + (p + rest)) % 2 ^ 32
     plain v p rest = omega arith
 
-module _ (w : World) (harts : ℕ) (m : List ℕ) (places : Places) (scope : List Counter) (values : Values) (reads : Reads) (l : length m ≡ w.size) (all : ArePlaces places) where
+module _ (w : World) (harts : ℕ) (m : List ℕ) (places : Places) (scope : List Counter) (values : Values) (reads : Reads) (l : length m ≡ w.size)
+    (all : ArePlaces places) where
   abbrev pub Known : (ℕ → ℕ) → Type 0
   Known f = Knows w harts scope values f
 
@@ -85,16 +87,24 @@ module _ (w : World) (harts : ℕ) (m : List ℕ) (places : Places) (scope : Lis
 
   terms-leave : (terms : List Term) (f : ℕ → ℕ) (r v : ℕ) → (r ≡ 14) ⊎ (20 ≤ r) → r < 32 → are_words terms ≡ true → Known f → f r ≡ v → v < 2 ^ 32
       → Left (terms_code scope terms r) f r ((v + sum_of values terms) % 2 ^ 32)
-  terms-leave [] f r v target high is knows e lv = record { after = f; line = λ at s h a. (a, refl); value = e ∙ (let g : v ≡ (v + 0) % 2 ^ 32 = omega (arith, lv) in g); keeps = λ q k. refl }
+  terms-leave [] f r v target high is knows e lv = record {
+    after = f;
+    line = λ at s h a. (a, refl);
+    value = e
+        ∙ (let g : v ≡ (v + 0) % 2 ^ 32 = omega (arith, lv) in g);
+    keeps = λ q k. refl;
+  }
   terms-leave (first ∷ others) f r v target high is knows e lv =
       let parts = and_parts (nat_lt first.stride (2 ^ 32)) (are_words others) is in
       let s = is-seat-in scope first.counter in
       let s-low = s.low in
       let s-apart = s.apart in
       let n = values first.counter in
-      let a = term-leaves w m l f r (seat_in scope first.counter) v n first.stride (over target) high (omega (arith, s-low)) (λ x. omega (arith, x, s-apart)) e (knows.counters first.counter) (word-below first.stride parts.0) in
+      let a = term-leaves w m l f r (seat_in scope first.counter) v n first.stride (over target) high (omega (arith, s-low)) (λ x. omega (arith, x, s-apart)) e
+      (knows.counters first.counter) (word-below first.stride parts.0) in
       let v' = lanes.add 32 v (lanes.multiply 32 first.stride n) in
-      let rest = terms-leave others a.after r v' target high parts.1 (kept f a.after r target knows a.keeps) a.value (modulus-below (v + (first.stride * n) % 2 ^ 32)) in
+      let rest = terms-leave others a.after r v' target high parts.1 (kept f a.after r target knows a.keeps) a.value
+      (modulus-below (v + (first.stride * n) % 2 ^ 32)) in
       after-that w m l a (leaves-is w m l (step-sum v first.stride n (sum_of values others)) rest)
     where
       over : (r ≡ 14) ⊎ (20 ≤ r) → (r ≡ 14) ⊎ (14 < r)
@@ -104,7 +114,8 @@ module _ (w : World) (harts : ℕ) (m : List ℕ) (places : Places) (scope : Lis
   literal-left : (f : ℕ → ℕ) (r n : ℕ) → (r ≡ 14) ⊎ (20 ≤ r) → r < 32 → n < 2 ^ 32 → Left (literal r n) f r n
   literal-left f r n target high small = literals-leave w m l f r n (omega (arith, target)) high small
 
-  linear-leaves : (own : Linear) (f : ℕ → ℕ) (r : ℕ) → (r ≡ 14) ⊎ (20 ≤ r) → r < 32 → is_linear own ≡ true → Known f → Left (linear_code scope own r) f r (linear_value values own)
+  linear-leaves : (own : Linear) (f : ℕ → ℕ) (r : ℕ) → (r ≡ 14) ⊎ (20 ≤ r) → r < 32 → is_linear own ≡ true → Known f
+      → Left (linear_code scope own r) f r (linear_value values own)
   unfolding linear_value
   linear-leaves own f r target high is knows =
       let parts = and_parts (nat_lt own.number (2 ^ 32)) (are_words own.terms) is in
@@ -166,7 +177,8 @@ module _ (w : World) (harts : ℕ) (m : List ℕ) (places : Places) (scope : Lis
   first-kept false r low = (inr (omega (arith, low)), inr (inl (omega arith)))
 
   -- a value, another one beside it, and what is made of both
-  joined : {is js ks : List Insn} {f : ℕ → ℕ} {r s v u n : ℕ} → (x : Left is f r v) → (y : Left js x.after s u) → ((q : ℕ) → Free r q → Free s q) → Left ks y.after r n
+  joined : {is js ks : List Insn} {f : ℕ → ℕ} {r s v u n : ℕ} → (x : Left is f r v) → (y : Left js x.after s u) → ((q : ℕ) → Free r q → Free s q)
+      → Left ks y.after r n
       → Left (is ++ (js ++ ks)) f r n
   joined {is} {js} {ks} {f} {r} {s} {v} {u} {n} x y g z = record {
     after = z.after;
@@ -239,11 +251,14 @@ module _ (w : World) (harts : ℕ) (m : List ℕ) (places : Places) (scope : Lis
         let s-up : Free (r + 2) (r + 1) = (inr (omega (arith, low)), inr (inl (omega arith))) in
         let e1 : z.after r ≡ sc.value = z.keeps r r-up ∙ y.keeps r (first-kept false r low) ∙ x.value in
         let e2 : z.after (r + 1) ≡ sa.value = z.keeps (r + 1) s-up ∙ y.value in
-        let end = selection-leaves w m l z.after r (r + 1) (r + 2) sc.value sa.value sb.value (omega (arith, low)) (omega arith) (omega arith) high kz.none e1 e2 z.value ca.small cb.small in
-        let twice : (q : ℕ) → Free r q → Free (r + 2) q = (λ q k. let e : r + 1 + 1 ≡ r + 2 = omega arith in subst (λ n. Free n q) e (up false (r + 1) q low1 (up false r q low k))) in
+        let end = selection-leaves w m l z.after r (r + 1) (r + 2) sc.value sa.value sb.value (omega (arith, low)) (omega arith) (omega arith) high kz.none e1
+        e2 z.value ca.small cb.small in
+        let twice : (q : ℕ) → Free r q → Free (r + 2) q = (λ q k. let e : r + 1 + 1 ≡ r + 2 = omega arith in
+        subst (λ n. Free n q) e (up false (r + 1) q low1 (up false r q low k))) in
         record {
           after = end.after;
-          line = line-then w (c.code r) _ f x.after end.after m m m x.line (line-then w (a.code (r + 1)) _ x.after y.after end.after m m m y.line (line-then w (b.code (r + 2)) _ y.after z.after end.after m m m z.line end.line));
+          line = line-then w (c.code r) _ f x.after end.after m m m x.line (line-then w (a.code (r + 1)) _ x.after y.after end.after m m m y.line
+              (line-then w (b.code (r + 2)) _ y.after z.after end.after m m m z.line end.line));
           value = end.value;
           keeps = λ q k. end.keeps q k ∙ z.keeps q (twice q k) ∙ y.keeps q (up false r q low k) ∙ x.keeps q k;
         };
@@ -283,7 +298,8 @@ module _ (w : World) (harts : ℕ) (m : List ℕ) (places : Places) (scope : Lis
       let p = all_parts (Loads w places m reads) a.right.points b.right.points loaded in
       let ca = a.is k.0 p.0 in
       let cb = b.is k.1 p.1 in
-      pair-comes a.left b.left a.right b.right (operation o) (word.applied o a.right.value b.right.value) _ ca cb (applied-below o a.right.value b.right.value ca.small cb.small)
+      pair-comes a.left b.left a.right b.right (operation o) (word.applied o a.right.value b.right.value) _ ca cb (applied-below o a.right.value b.right.value
+      ca.small cb.small)
       (λ f r s bs knows er es. operation-leaves w m l o f r s a.right.value b.right.value bs knows.none er es ca.small cb.small)
   level (layer.Divide a c) is loaded =
       let k = and_parts a.left.is_word (nat_lt 0 c && nat_lt c (2 ^ 32)) is in
@@ -308,25 +324,30 @@ module _ (w : World) (harts : ℕ) (m : List ℕ) (places : Places) (scope : Lis
       triple-comes c.left a.left b.left c.right a.right b.right _ (c.is k.0 p.0) (a.is j.0 q.0) (b.is j.1 q.1)
   level (layer.Load source x y) is loaded =
       let k = and_parts x.left.is_word y.left.is_word is in
-      let p = all_parts (Loads w places m reads) (x.right.points ++ y.right.points) (record { source = source; x = x.right.value; y = y.right.value } ∷ []) loaded in
+      let p = all_parts (Loads w places m reads) (x.right.points ++ y.right.points) (record { source = source; x = x.right.value; y = y.right.value } ∷ [])
+      loaded in
       let q = all_parts (Loads w places m reads) x.right.points y.right.points p.0 in
       let cx = x.is k.0 q.0 in
       let cy = y.is k.1 q.1 in
       let can = p.1.0 in
       pair-comes x.left y.left x.right y.right (loading (place_of places source)) (reads source x.right.value y.right.value) _ cx cy can.is_word
-      (λ f r s bs knows er es. loading-leaves w m l (place_of places source) f r s x.right.value y.right.value (reads source x.right.value y.right.value) bs er es knows.number (all source) can)
+      (λ f r s bs knows er es. loading-leaves w m l (place_of places source) f r s x.right.value y.right.value (reads source x.right.value y.right.value) bs er
+      es knows.number (all source) can)
 
 pub expressions-leave : ExpressionsLeave
 unfolding made seen
 expressions-leave w harts m places scope values reads l all e is loaded r f low room knows =
     let own = made places scope e in
-    let c = folds_related (Evaluates w harts m places scope values reads l all) (made_at places scope) (seen_at reads values) (level w harts m places scope values reads l all) e is loaded in
+    let c = folds_related (Evaluates w harts m places scope values reads l all) (made_at places scope) (seen_at reads values) (level w harts m places scope
+    values reads l all) e is loaded in
     leaves-is w m l (values_are_seen reads values e) (c.leaves r f (stacked w harts m places scope values reads l all own.is_leaf r low) room knows)
 
 -- and that is a word
-pub value-small : (w : World) (harts : ℕ) (m : List ℕ) (places : Places) (scope : List Counter) (values : Values) (reads : Reads) → length m ≡ w.size → ArePlaces places
+pub value-small : (w : World) (harts : ℕ) (m : List ℕ) (places : Places) (scope : List Counter) (values : Values) (reads : Reads) → length m ≡ w.size
+    → ArePlaces places
     → (e : Expr) → (made places scope e).is_word ≡ true → AllByRecursion (Loads w places m reads) (loads reads values e) → value reads values e < 2 ^ 32
 unfolding made seen
 value-small w harts m places scope values reads l all e is loaded =
-    let c = folds_related (Evaluates w harts m places scope values reads l all) (made_at places scope) (seen_at reads values) (level w harts m places scope values reads l all) e is loaded in
+    let c = folds_related (Evaluates w harts m places scope values reads l all) (made_at places scope) (seen_at reads values) (level w harts m places scope
+    values reads l all) e is loaded in
     subst (λ v. v < 2 ^ 32) (values_are_seen reads values e) c.small

@@ -54,10 +54,17 @@ module _ (w : World) (places : Places) (loaded : Point → Bool) (own : OwnsFram
   read-byte byte e = subst (λ (j : Job). MayRead j w.hart (w.uses byte)) (sym own.job_is) (subst (λ (u : Use). MayRead (Task own.task) w.hart u) (sym e) refl)
 
   write-byte : (byte : ℕ) → w.uses byte ≡ Private w.hart → MayWrite w.job w.hart (w.uses byte)
-  write-byte byte e = subst (λ (j : Job). MayWrite j w.hart (w.uses byte)) (sym own.job_is) (subst (λ (u : Use). MayWrite (Task own.task) w.hart u) (sym e) refl)
+  write-byte byte e = subst (λ (j : Job). MayWrite j w.hart (w.uses byte)) (sym own.job_is) (subst (λ (u : Use). MayWrite (Task own.task) w.hart u) (sym e)
+      refl)
 
   each : (P : ℕ → Type 0) → ((byte : ℕ) → w.uses byte ≡ Private w.hart → P byte) → Within P (touched (one_access Word at))
-  each P step = (step at (first-there (private-there 0 (omega arith))), (step (at + 1) (private-there 1 (omega arith)), (step (at + 2) (private-there 2 (omega arith)), (step (at + 3) (private-there 3 (omega arith)), tt))))
+  each P step = (
+    step at (first-there (private-there 0 (omega arith))),
+    (
+      step (at + 1) (private-there 1 (omega arith)),
+      (step (at + 2) (private-there 2 (omega arith)), (step (at + 3) (private-there 3 (omega arith)), tt)),
+    ),
+  )
     where
       first-there : w.uses (at + 0) ≡ Private w.hart → w.uses at ≡ Private w.hart
       first-there e = let z : at + 0 ≡ at = omega arith in subst (λ b. w.uses b ≡ Private w.hart) z e
@@ -67,7 +74,8 @@ module _ (w : World) (places : Places) (loaded : Point → Bool) (own : OwnsFram
       let e : w.uses byte ≡ Private w.hart = own.uses byte (omega (arith, l)) (omega (arith, h, few)) in
       cc
 
-  not-owned : (address task : ℕ) → is_in address (touched (one_access Word at)) ≡ true → w.uses address ≡ Owned task → w.rule task (touched (one_access Word at)) ≡ true
+  not-owned : (address task : ℕ) → is_in address (touched (one_access Word at)) ≡ true → w.uses address ≡ Owned task
+      → w.rule task (touched (one_access Word at)) ≡ true
   not-owned address task is owned = let k = in-word at address is in absurd (unowned address task k.0 k.1 owned)
 
 pub frames-lie : FramesLie

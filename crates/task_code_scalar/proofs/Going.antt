@@ -45,19 +45,22 @@ module _ (own : Setting) where
     pub holds : HoldsFuncs own left funcs
     pub elsewhere : (byte : ℕ) → IsElsewhere own.world own.places own.written byte → byte_at own.world.text left byte ≡ byte_at own.world.text memory byte
     pub are_bytes : AreBytes memory → AreBytes left
-    pub writes : (func x y byte at : ℕ) → hits func x y → IsOf own.world own.places func x y byte → Stand own.world.text at whole → Writes own.world (from at) n f memory byte
+    pub writes : (func x y byte at : ℕ) → hits func x y → IsOf own.world own.places func x y byte → Stand own.world.text at whole
+        → Writes own.world (from at) n f memory byte
 
   -- from the first instruction to behind the last
   abbrev pub Does : List Insn → ℕ → (ℕ → ℕ) → List ℕ → ℕ → Planes → Hits → Type 0
   Does code n f memory depth funcs hits = Went code (λ at. at) (λ at. end at code) n f memory depth funcs hits
 
   -- and something is so of all that the hart holds then
-  pub record Marked (mark_is : (ℕ → ℕ) → Type 0) (whole : List Insn) (from to : ℕ → ℕ) (n : ℕ) (f : ℕ → ℕ) (memory : List ℕ) (depth : ℕ) (funcs : Planes) (hits : Hits) : Type 0 where
+  pub record Marked (mark_is : (ℕ → ℕ) → Type 0) (whole : List Insn) (from to : ℕ → ℕ) (n : ℕ) (f : ℕ → ℕ) (memory : List ℕ) (depth : ℕ) (funcs : Planes)
+      (hits : Hits) : Type 0 where
     pub went : Went whole from to n f memory depth funcs hits
     pub mark : mark_is went.after
 
   module _ {whole : List Insn} {f : ℕ → ℕ} {memory : List ℕ} {depth : ℕ} where
-    abbrev pub went-then : {from mid to : ℕ → ℕ} {n k : ℕ} {middle funcs : Planes} {first second : Hits} → (a : Went whole from mid n f memory depth middle first)
+    abbrev pub went-then : {from mid to : ℕ → ℕ} {n k : ℕ} {middle funcs : Planes} {first second : Hits}
+        → (a : Went whole from mid n f memory depth middle first)
         → Went whole mid to k a.after a.left depth funcs second → Went whole from to (n + k) f memory depth funcs (either first second)
     went-then {from} {mid} {to} {n} {k} a b = record {
       after = b.after;
@@ -102,7 +105,8 @@ module _ (own : Setting) where
     }
 
     -- of more registers
-    abbrev pub went-less : {from to : ℕ → ℕ} {n : ℕ} {funcs : Planes} {hits : Hits} → Went whole from to n f memory (suc depth) funcs hits → Went whole from to n f memory depth funcs hits
+    abbrev pub went-less : {from to : ℕ → ℕ} {n : ℕ} {funcs : Planes} {hits : Hits} → Went whole from to n f memory (suc depth) funcs hits
+        → Went whole from to n f memory depth funcs hits
     went-less a = record {
       after = a.after;
       left = a.left;
@@ -115,7 +119,8 @@ module _ (own : Setting) where
     }
 
     -- a part of the code that stands
-    abbrev pub within : {is : List Insn} {n : ℕ} {funcs : Planes} {hits : Hits} → (from to : ℕ → ℕ) → ((at : ℕ) → Stand own.world.text at whole → Stand own.world.text (from at) is)
+    abbrev pub within : {is : List Insn} {n : ℕ} {funcs : Planes} {hits : Hits} → (from to : ℕ → ℕ) → ((at : ℕ) → Stand own.world.text at whole
+        → Stand own.world.text (from at) is)
         → ((at : ℕ) → end (from at) is ≡ to at) → Does is n f memory depth funcs hits → Went whole from to n f memory depth funcs hits
     within {is} {n} {funcs} {hits} from to go ends a = record {
       after = a.after;
@@ -130,7 +135,8 @@ module _ (own : Setting) where
 
     -- registers alone change
     abbrev pub still : {funcs : Planes} (from to : ℕ → ℕ) (n : ℕ) (after : ℕ → ℕ) → HoldsFuncs own memory funcs → ((q : ℕ) → Kept depth q → after q ≡ f q)
-        → ((at : ℕ) → Stand own.world.text at whole → Path own.world (from at) (to at) n f memory after memory) → Went whole from to n f memory depth funcs no_hits
+        → ((at : ℕ) → Stand own.world.text at whole → Path own.world (from at) (to at) n f memory after memory)
+        → Went whole from to n f memory depth funcs no_hits
     still from to n after holds keeps path = record {
       after = after;
       left = memory;
@@ -142,13 +148,15 @@ module _ (own : Setting) where
       writes = λ func x y byte at hit is s. absurd hit;
     }
 
-  abbrev pub does-then : {is js : List Insn} {n k : ℕ} {f : ℕ → ℕ} {memory : List ℕ} {depth : ℕ} {middle funcs : Planes} {first second : Hits} → (a : Does is n f memory depth middle first)
+  abbrev pub does-then : {is js : List Insn} {n k : ℕ} {f : ℕ → ℕ} {memory : List ℕ} {depth : ℕ} {middle funcs : Planes} {first second : Hits}
+      → (a : Does is n f memory depth middle first)
       → Does js k a.after a.left depth funcs second → Does (is ++ js) (n + k) f memory depth funcs (either first second)
   does-then {is} {js} a b =
       went-then (within (λ at. at) (λ at. end at is) (λ at s. stand-front own.world.text at is js s) (λ at. refl) a)
       (within (λ at. end at is) (λ at. end at (is ++ js)) (λ at s. stand-back own.world.text at is js s) (λ at. sym (end-append at is js)) b)
 
   -- straight code: as many turns as instructions
-  abbrev pub lines-then : {is js : List Insn} {f : ℕ → ℕ} {memory : List ℕ} {depth : ℕ} {middle funcs : Planes} {hits : Hits} → (a : Does is (length is) f memory depth middle no_hits)
+  abbrev pub lines-then : {is js : List Insn} {f : ℕ → ℕ} {memory : List ℕ} {depth : ℕ} {middle funcs : Planes} {hits : Hits}
+      → (a : Does is (length is) f memory depth middle no_hits)
       → Does js (length js) a.after a.left depth funcs hits → Does (is ++ js) (length (is ++ js)) f memory depth funcs hits
   lines-then {is} {js} a b = went-is (sym (length-append is js)) refl (went-hits (λ func x y hit. inr hit) (does-then a b))

@@ -134,7 +134,8 @@ kept-apart n q l (at-counter s) x =
 
 pub seat-in-kept : (scope : List Counter) (own : Counter) → Kept (length scope) (seat_in scope own)
 seat-in-kept [] own = at-zero refl
-seat-in-kept (latest ∷ others) own = chosen (same_counter own latest) (at-counter (record { number = length others; below = omega arith; is = refl })) (more-kept (length others) (seat_in others own) (seat-in-kept others own))
+seat-in-kept (latest ∷ others) own = chosen (same_counter own latest) (at-counter (record { number = length others; below = omega arith; is = refl }))
+    (more-kept (length others) (seat_in others own) (seat-in-kept others own))
   where
     chosen : (t : Bool) {a b : ℕ} → Kept (suc (length others)) a → Kept (suc (length others)) b → Kept (suc (length others)) (if t then a else b)
     chosen true x y = x
@@ -153,7 +154,8 @@ module _ (w : World) (harts : ℕ) (scope : List Counter) (values : Values) wher
   }
 
   -- the next counter's register holds its value
-  pub knows-entered : (own : Counter) (v : ℕ) (f : ℕ → ℕ) → Knows w harts scope values f → f (seat (length scope)) ≡ v → v < 2 ^ 32 → Knows w harts (own ∷ scope) (with own v values) f
+  pub knows-entered : (own : Counter) (v : ℕ) (f : ℕ → ℕ) → Knows w harts scope values f → f (seat (length scope)) ≡ v → v < 2 ^ 32
+      → Knows w harts (own ∷ scope) (with own v values) f
   knows-entered own v f o e small = record {
     none = o.none;
     number = o.number;
@@ -172,4 +174,5 @@ module _ (w : World) (harts : ℕ) (scope : List Counter) (values : Values) wher
 
   -- and it may be set
   pub knows-updated : (v : ℕ) (f : ℕ → ℕ) → length scope < 14 → Knows w harts scope values f → Knows w harts scope values (update f (seat (length scope)) v)
-  knows-updated v f few o = knows-still f (update f (seat (length scope)) v) o (λ q k. update-other f (seat (length scope)) v q (kept-apart (length scope) q few k))
+  knows-updated v f few o = knows-still f (update f (seat (length scope)) v) o (λ q k. update-other f (seat (length scope)) v q (kept-apart (length scope) q few
+      k))

@@ -63,13 +63,17 @@ high-turned x l h = omega (arith, l, h)
 less-turned : (x y : ℕ) → x < 4294967296 → y < 4294967296 → lanes.less_signed 32 x y ≡ nat_lt ((x + 2147483648) % 4294967296) ((y + 2147483648) % 4294967296)
 less-turned x y lx ly = elim (cases_lt x 2147483648) [
   | inl a ↦ elim (cases_lt y 2147483648) [
-    | inl c ↦ rw (lt-true x 2147483648 a, lt-true y 2147483648 c, low-turned x a, low-turned y c) (same-test x y (x + 2147483648) (y + 2147483648) (λ l. omega (arith, l)) (λ l. omega (arith, l)))
-    | inr c ↦ rw (lt-true x 2147483648 a, lt-false y 2147483648 c, low-turned x a, high-turned y c ly) (sym (lt-false (x + 2147483648) (y - 2147483648) (omega (arith, a, c, ly))))
+    | inl c ↦ rw (lt-true x 2147483648 a, lt-true y 2147483648 c, low-turned x a, low-turned y c) (same-test x y (x + 2147483648) (y + 2147483648)
+        (λ l. omega (arith, l)) (λ l. omega (arith, l)))
+    | inr c ↦ rw (lt-true x 2147483648 a, lt-false y 2147483648 c, low-turned x a, high-turned y c ly)
+        (sym (lt-false (x + 2147483648) (y - 2147483648) (omega (arith, a, c, ly))))
   ]
   | inr a ↦ elim (cases_lt y 2147483648) [
-    | inl c ↦ rw (lt-false x 2147483648 a, lt-true y 2147483648 c, high-turned x a lx, low-turned y c) (sym (lt-true (x - 2147483648) (y + 2147483648) (omega (arith, a, c, lx))))
+    | inl c ↦ rw (lt-false x 2147483648 a, lt-true y 2147483648 c, high-turned x a lx, low-turned y c)
+        (sym (lt-true (x - 2147483648) (y + 2147483648) (omega (arith, a, c, lx))))
     | inr c ↦ rw (lt-false x 2147483648 a, lt-false y 2147483648 c, high-turned x a lx, high-turned y c ly)
-        (same-test (4294967296 - suc y) (4294967296 - suc x) (x - 2147483648) (y - 2147483648) (λ l. omega (arith, l, a, c, lx, ly)) (λ l. omega (arith, l, a, c, lx, ly)))
+        (same-test (4294967296 - suc y) (4294967296 - suc x) (x - 2147483648) (y - 2147483648) (λ l. omega (arith, l, a, c, lx, ly))
+        (λ l. omega (arith, l, a, c, lx, ly)))
   ]
 ]
 

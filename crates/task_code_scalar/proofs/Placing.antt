@@ -47,7 +47,8 @@ module _ (own : Setting) (good : IsSetting own) where
   w = own.world
 
   -- one register is set
-  abbrev pub by-set : {is : List Insn} {f : ℕ → ℕ} {memory : List ℕ} {c v : ℕ} {funcs : Planes} (depth : ℕ) (holds : HoldsFuncs own memory funcs) → (a : Sets w memory holds.size is f c v)
+  abbrev pub by-set : {is : List Insn} {f : ℕ → ℕ} {memory : List ℕ} {c v : ℕ} {funcs : Planes} (depth : ℕ) (holds : HoldsFuncs own memory funcs)
+      → (a : Sets w memory holds.size is f c v)
       → ((q : ℕ) → Kept depth q → q ≢ c) → Does own is (length is) f memory depth funcs no_hits
   by-set depth holds a apart = still own (λ at. at) _ _ a.after holds (λ q k. a.others q (apart q k)) (λ at s. a.line at s)
 
@@ -89,16 +90,21 @@ module _ (own : Setting) (good : IsSetting own) where
     -- ---- a store
 
     abbrev spot : Store → Planes → ℕ
-    spot store funcs = address_of w own.places (func_point store.func (value (reads_of own.inputs funcs) values store.x) (value (reads_of own.inputs funcs) values store.y))
+    spot store funcs = address_of w own.places (func_point store.func (value (reads_of own.inputs funcs) values store.x) (value (reads_of own.inputs funcs)
+        values store.y))
 
     -- its point
     abbrev pub store_hits : Store → Planes → Hits
-    store_hits store funcs func x y = (store.func ≡ func) × ((value (reads_of own.inputs funcs) values store.x ≡ x) × (value (reads_of own.inputs funcs) values store.y ≡ y))
+    store_hits store funcs func x y = (store.func ≡ func) × ((value (reads_of own.inputs funcs) values store.x ≡ x)
+        × (value (reads_of own.inputs funcs) values store.y ≡ y))
 
     -- the last instruction
-    saved : (store : Store) (f : ℕ → ℕ) (memory : List ℕ) (funcs : Planes) → HoldsFuncs own memory funcs → own.written store.func (value (reads_of own.inputs funcs) values store.x) (value (reads_of own.inputs funcs) values store.y) ≡ true
-        → own.in_runs store.func ≡ false → value (reads_of own.inputs funcs) values store.value < 2 ^ 32 → f 15 ≡ spot store funcs → f 20 ≡ value (reads_of own.inputs funcs) values store.value
-        → Does own (Save save_ops.Sw 15 20 (pos 0) ∷ []) 1 f memory depth (stored own.points (reads_of own.inputs funcs) store values funcs) (store_hits store funcs)
+    saved : (store : Store) (f : ℕ → ℕ) (memory : List ℕ) (funcs : Planes) → HoldsFuncs own memory funcs
+        → own.written store.func (value (reads_of own.inputs funcs) values store.x) (value (reads_of own.inputs funcs) values store.y) ≡ true
+        → own.in_runs store.func ≡ false → value (reads_of own.inputs funcs) values store.value < 2 ^ 32 → f 15 ≡ spot store funcs
+        → f 20 ≡ value (reads_of own.inputs funcs) values store.value
+        → Does own (Save save_ops.Sw 15 20 (pos 0) ∷ []) 1 f memory depth (stored own.points (reads_of own.inputs funcs) store values funcs)
+        (store_hits store funcs)
     saved store f memory funcs holds is single small e15 e20 =
         let reads = reads_of own.inputs funcs in
         let x = value reads values store.x in
@@ -109,7 +115,11 @@ module _ (own : Setting) (good : IsSetting own) where
         let at-a : plus (f 15) (pos 0) ≡ a = ap (λ n. plus n (pos 0)) e15 ∙ no-offset a may.low in
         let m' = put_number memory Word a v in
         let left-is = stored-is memory a (f 20) ∙ ap (put_number memory Word a) e20 in
-        let writable : Writable w Word a = record { there = may.may; keeps = good.at_once 1 store.func (λ k. x) (λ k. y) (λ k b. is) (λ runs. absurd (true≢false (sym runs ∙ single))) } in
+        let writable : Writable w Word a = record {
+          there = may.may;
+          keeps = good.at_once 1 store.func (λ k. x) (λ k. y) (λ k b. is)
+              (λ runs. absurd (true≢false (sym runs ∙ single)));
+        } in
         let line = rules.store w f memory holds.size save_ops.Sw 15 20 a (pos 0) (omega arith) (omega arith) at-a writable in
         record {
           after = f;
@@ -120,16 +130,19 @@ module _ (own : Setting) (good : IsSetting own) where
             size = size-stays memory a v ∙ holds.size;
             are_bytes = bytes-stay memory a v holds.are_bytes;
             are_words = words-put own.points store.func x y v funcs holds.are_words small;
-            holds = stored-holds w own.places own.written own.loaded good.laid own.points own.inputs funcs memory store.func x y v is (good.have store.func x y is) holds.size small holds.holds;
+            holds = stored-holds w own.places own.written own.loaded good.laid own.points own.inputs funcs memory store.func x y v is (good.have store.func x y
+                is) holds.size small holds.holds;
           };
           elsewhere = λ byte other. others-stay w own.places own.written own.loaded good.laid memory store.func x y v byte is other;
           are_bytes = bytes-stay memory a v;
           writes = λ func i j byte at hit of s.
               let e : a ≡ address_of w own.places (func_point func i j) =
-              ap (λ k. address_of w own.places (func_point k x y)) hit.0 ∙ ap (λ k. address_of w own.places (func_point func k y)) hit.1.0 ∙ ap (λ k. address_of w own.places (func_point func i k)) hit.1.1 in
+              ap (λ k. address_of w own.places (func_point k x y)) hit.0 ∙ ap (λ k. address_of w own.places (func_point func k y)) hit.1.0
+              ∙ ap (λ k. address_of w own.places (func_point func i k)) hit.1.1 in
               let above = of.above in
               let below = of.below in
-              rules.store-writes w f memory holds.size save_ops.Sw 15 20 a (pos 0) at byte (omega arith) at-a writable s.0 (is-touched a byte (omega (arith, e, above)) (omega (arith, e, below)));
+              rules.store-writes w f memory holds.size save_ops.Sw 15 20 a (pos 0) at byte (omega arith) at-a writable s.0
+              (is-touched a byte (omega (arith, e, above)) (omega (arith, e, below)));
         }
 
     parked-free : Free 20 15
@@ -139,8 +152,10 @@ module _ (own : Setting) (good : IsSetting own) where
     no-parked q kept e = let s = kept-safe depth q kept in let a = s.apart in omega (arith, e, a)
 
     pub store-does : (store : Store) (f : ℕ → ℕ) (memory : List ℕ) (funcs : Planes) → fits_store own.places scope store ≡ true
-        → is_sound_store (reads_of own.inputs funcs) own.written own.loaded store values ≡ true → own.in_runs store.func ≡ false → HoldsFuncs own memory funcs → Known f
-        → Does own (store_code own.places scope store) (length (store_code own.places scope store)) f memory depth (stored own.points (reads_of own.inputs funcs) store values funcs) (store_hits store funcs)
+        → is_sound_store (reads_of own.inputs funcs) own.written own.loaded store values ≡ true → own.in_runs store.func ≡ false → HoldsFuncs own memory funcs
+        → Known f
+        → Does own (store_code own.places scope store) (length (store_code own.places scope store)) f memory depth
+        (stored own.points (reads_of own.inputs funcs) store values funcs) (store_hits store funcs)
     store-does store f memory funcs fits sound single holds knows =
         let reads = reads_of own.inputs funcs in
         let x = value reads values store.x in
@@ -150,8 +165,10 @@ module _ (own : Setting) (good : IsSetting own) where
         let rooms = and_parts (has_room own.places (deep own.places scope store.x)) _ fits in
         let others = and_parts (has_room own.places (deep own.places scope store.y)) (has_room own.places (deep own.places scope store.value)) rooms.1 in
         let k = and_parts (own.written store.func x y) (list_all own.loaded (store_loads reads values store)) sound in
-        let p = and_parts (list_all own.loaded (loads reads values store.x)) _ (sym (list_all-append own.loaded (loads reads values store.x) (loads reads values store.y ++ loads reads values store.value)) ∙ k.1) in
-        let q = and_parts (list_all own.loaded (loads reads values store.y)) (list_all own.loaded (loads reads values store.value)) (sym (list_all-append own.loaded (loads reads values store.y) (loads reads values store.value)) ∙ p.1) in
+        let p = and_parts (list_all own.loaded (loads reads values store.x)) _ (sym (list_all-append own.loaded (loads reads values store.x)
+        (loads reads values store.y ++ loads reads values store.value)) ∙ k.1) in
+        let q = and_parts (list_all own.loaded (loads reads values store.y)) (list_all own.loaded (loads reads values store.value))
+        (sym (list_all-append own.loaded (loads reads values store.y) (loads reads values store.value)) ∙ p.1) in
         let may = good.laid.stores store.func x y k.0 in
         let a = evaluated store.x f memory funcs rooms.0 p.0 holds knows in
         let fa = a.does.after in
@@ -164,11 +181,13 @@ module _ (own : Setting) (good : IsSetting own) where
         let c = evaluated store.y set.after a.does.left funcs others.0 q.0 a.does.holds kb in
         let fc = c.does.after in
         let kc = knows-still w own.harts scope values set.after fc kb c.does.keeps in
-        let d = addressed-reaches w c.does.left c.does.holds.size 15 20 (omega arith) (omega arith) (omega arith) (omega arith) (λ e. omega (arith, e)) place fc x y
+        let d = addressed-reaches w c.does.left c.does.holds.size 15 20 (omega arith) (omega arith) (omega arith) (omega arith) (λ e. omega (arith, e)) place fc
+        x y
         (c.stays 15 parked-free ∙ is-x) c.value_is kc.number (good.are_places (sources.Func store.func)) may.low in
         let reached : Does own (addressed place 15 20) (length (addressed place 15 20)) fc c.does.left depth funcs no_hits =
         still own (λ at. at) _ _ d.after c.does.holds
-        (λ q kept. let s = kept-safe depth q kept in let u = s.apart in let t = s.outside in d.others q (λ e. omega (arith, e, u)) (λ e. omega (arith, e, u)) (λ e. omega (arith, e, t)))
+        (λ q kept. let s = kept-safe depth q kept in let u = s.apart in let t = s.outside in d.others q (λ e. omega (arith, e, u)) (λ e. omega (arith, e, u))
+        (λ e. omega (arith, e, t)))
         (λ at s. d.line at s) in
         let kd = knows-still w own.harts scope values fc d.after kc reached.keeps in
         let g = evaluated store.value d.after c.does.left funcs others.1 q.1 c.does.holds kd in

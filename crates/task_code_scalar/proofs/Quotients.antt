@@ -67,7 +67,8 @@ quotient-is x c lx lc =
       | inr b ↦
           let t : nat_lt x 2147483648 ≡ false = grind (arith, nat_tests) in
           let e : mirrored (top x) x ≡ 4294967295 - x = mirrored-1 (top x) x (top-high x b lx) lx in
-          let q : lanes.divide_unsigned 32 (mirrored (top x) x) c ≡ (4294967295 - x) / c = ap (λ y. lanes.divide_unsigned 32 y c) e ∙ divided (4294967295 - x) c lc in
+          let q : lanes.divide_unsigned 32 (mirrored (top x) x) c ≡ (4294967295 - x) / c = ap (λ y. lanes.divide_unsigned 32 y c) e
+          ∙ divided (4294967295 - x) c lc in
           let le = div-le_self (4294967295 - x) c in
           ap (mirrored (top x)) q ∙ mirrored-1 (top x) ((4294967295 - x) / c) (top-high x b lx) (omega (arith, le)) ∙ rw (z, t) refl
     ]
@@ -95,11 +96,13 @@ remainder-is x c lx lc hc =
       | inr b ↦
           let t : nat_lt x 2147483648 ≡ false = grind (arith, nat_tests) in
           let e : mirrored (top x) x ≡ 4294967295 - x = mirrored-1 (top x) x (top-high x b lx) lx in
-          let q : lanes.remainder_unsigned 32 (mirrored (top x) x) c ≡ (4294967295 - x) % c = ap (λ y. lanes.remainder_unsigned 32 y c) e ∙ left (4294967295 - x) c lc in
+          let q : lanes.remainder_unsigned 32 (mirrored (top x) x) c ≡ (4294967295 - x) % c = ap (λ y. lanes.remainder_unsigned 32 y c) e
+          ∙ left (4294967295 - x) c lc in
           let le : (4294967295 - x) % c < c = mod-lt (4294967295 - x) lc in
           let s : (4294967295 - x) % c < 4294967296 = omega (arith, le, hc) in
           ap (λ y. lanes.add 32 y (lanes.multiply 32 c (top x))) (ap (mirrored (top x)) q ∙ mirrored-1 (top x) ((4294967295 - x) % c) (top-high x b lx) s)
-          ∙ ap (λ y. lanes.add 32 (4294967295 - (4294967295 - x) % c) (lanes.multiply 32 c y)) (top-high x b lx) ∙ turned-back c ((4294967295 - x) % c) le hc ∙ rw (z, t) refl
+          ∙ ap (λ y. lanes.add 32 (4294967295 - (4294967295 - x) % c) (lanes.multiply 32 c y)) (top-high x b lx) ∙ turned-back c ((4294967295 - x) % c) le hc
+          ∙ rw (z, t) refl
     ]
 
 -- ---- code
@@ -124,7 +127,8 @@ module _ (w : World) (m : List ℕ) (l : length m ≡ w.size) where
       let t = top x in
       let i1 = shift-sets w m l shifts.Srli f 13 r 31 x (omega arith) (omega arith) high er in
       let i2 = alu-sets w m l alus.Add i1.after 14 13 13 t t (omega arith) (omega arith) (omega arith) (omega arith) i1.value i1.value in
-      let i3 = alu-sets w m l alus.Sub i2.after 14 0 14 0 (lanes.add 32 t t) (omega arith) (omega arith) (omega arith) (omega arith) (i2.others 0 n1 ∙ i1.others 0 n0 ∙ ez) i2.value in
+      let i3 = alu-sets w m l alus.Sub i2.after 14 0 14 0 (lanes.add 32 t t) (omega arith) (omega arith) (omega arith) (omega arith) (i2.others 0 n1
+      ∙ i1.others 0 n0 ∙ ez) i2.value in
       let i4 = imm-sets w m l alu_imms.Addi i3.after 14 14 (pos 1) (lanes.sub 32 0 (lanes.add 32 t t)) (omega arith) (omega arith) (omega arith) i3.value in
       record {
         after = i4.after;
@@ -159,56 +163,59 @@ module _ (w : World) (m : List ℕ) (l : length m ≡ w.size) where
   not-r : (r : ℕ) → 15 ≤ r → r < 32 → (q : ℕ) → Free r q → q ≢ r
   not-r r lo hi q g e = let g0 = g.0 in let g1 = g.1 in omega (arith, e, g0, g1, lo, hi)
 
-  module _ (f : ℕ → ℕ) (r s x c : ℕ) (low : 15 ≤ r) (rs : r < s) (high : s < 32) (ez : f 0 ≡ 0) (er : f r ≡ x) (es : f s ≡ c) (lx : x < 2 ^ 32) (lc : 0 < c) where
-    hr : r < 32
-    hr = omega (arith, rs, high)
+  module _ (f : ℕ → ℕ) (r s x c : ℕ) (low : 15 ≤ r) (rs : r < s) (high : s < 32) (ez : f 0 ≡ 0) (er : f r ≡ x) (es : f s ≡ c) (lx : x < 2 ^ 32) (lc : 0 < c)
+    where
+      hr : r < 32
+      hr = omega (arith, rs, high)
 
-    s13 : s ≢ 13
-    s13 e = omega (arith, e, low, rs)
+      s13 : s ≢ 13
+      s13 e = omega (arith, e, low, rs)
 
-    s14 : s ≢ 14
-    s14 e = omega (arith, e, low, rs)
+      s14 : s ≢ 14
+      s14 e = omega (arith, e, low, rs)
 
-    sr : s ≢ r
-    sr e = omega (arith, e, rs)
+      sr : s ≢ r
+      sr e = omega (arith, e, rs)
 
-    n13 : 13 ≢ r
-    n13 e = omega (arith, e, low)
+      n13 : 13 ≢ r
+      n13 e = omega (arith, e, low)
 
-    n14 : 14 ≢ r
-    n14 e = omega (arith, e, low)
+      n14 : 14 ≢ r
+      n14 e = omega (arith, e, low)
 
-    one : 1 ≤ r
-    one = omega (arith, low)
+      one : 1 ≤ r
+      one = omega (arith, low)
 
-    pub quotient-leaves : Leaves w m (quotient r s) f r (word.divide x c)
-    quotient-leaves =
-        let t = top x in
-        let a = sign-signed f r x low hr ez er in
-        let b = complement-signed a.after r t x low hr a.first a.second a.value in
-        let d = alu-sets w m l alus.Divu b.after r r s (mirrored t x) c one hr hr high b.value (b.others s s13 s14 sr ∙ a.others s s13 s14 sr ∙ es) in
-        let y = lanes.divide_unsigned 32 (mirrored t x) c in
-        let i1 = alu-sets w m l alus.Mul d.after r r 14 y (factor t) one hr hr (omega arith) d.value (d.others 14 n14 ∙ b.second) in
-        let i2 = alu-sets w m l alus.Sub i1.after r r 13 (lanes.multiply 32 y (factor t)) t one hr hr (omega arith) i1.value (i1.others 13 n13 ∙ d.others 13 n13 ∙ b.first) in
-        let end = leaves-is w m l (quotient-is x c lx lc) (last w m l (omega (arith, low)) hr i2 (inr (omega (arith, low)))) in
-        a.follow _ _ (b.follow _ _ (also w m l d (not-r r low hr) (also w m l i1 (not-r r low hr) end)) low hr) low hr
+      pub quotient-leaves : Leaves w m (quotient r s) f r (word.divide x c)
+      quotient-leaves =
+          let t = top x in
+          let a = sign-signed f r x low hr ez er in
+          let b = complement-signed a.after r t x low hr a.first a.second a.value in
+          let d = alu-sets w m l alus.Divu b.after r r s (mirrored t x) c one hr hr high b.value (b.others s s13 s14 sr ∙ a.others s s13 s14 sr ∙ es) in
+          let y = lanes.divide_unsigned 32 (mirrored t x) c in
+          let i1 = alu-sets w m l alus.Mul d.after r r 14 y (factor t) one hr hr (omega arith) d.value (d.others 14 n14 ∙ b.second) in
+          let i2 = alu-sets w m l alus.Sub i1.after r r 13 (lanes.multiply 32 y (factor t)) t one hr hr (omega arith) i1.value (i1.others 13 n13
+          ∙ d.others 13 n13
+          ∙ b.first) in
+          let end = leaves-is w m l (quotient-is x c lx lc) (last w m l (omega (arith, low)) hr i2 (inr (omega (arith, low)))) in
+          a.follow _ _ (b.follow _ _ (also w m l d (not-r r low hr) (also w m l i1 (not-r r low hr) end)) low hr) low hr
 
-    pub remainder-leaves : c < 2 ^ 32 → Leaves w m (remainder r s) f r (word.remainder x c)
-    remainder-leaves hc =
-        let t = top x in
-        let a = sign-signed f r x low hr ez er in
-        let b = complement-signed a.after r t x low hr a.first a.second a.value in
-        let d = alu-sets w m l alus.Remu b.after r r s (mirrored t x) c one hr hr high b.value (b.others s s13 s14 sr ∙ a.others s s13 s14 sr ∙ es) in
-        let y = lanes.remainder_unsigned 32 (mirrored t x) c in
-        let g = complement-signed d.after r t y low hr (d.others 13 n13 ∙ b.first) (d.others 14 n14 ∙ b.second) d.value in
-        let gs : g.after s ≡ c = g.others s s13 s14 sr ∙ d.others s sr ∙ b.others s s13 s14 sr ∙ a.others s s13 s14 sr ∙ es in
-        let ls : 1 ≤ s = omega (arith, low, rs) in
-        let r-s : r ≢ s = (λ e. omega (arith, e, rs)) in
-        let i1 = alu-sets w m l alus.Mul g.after s s 13 c t ls high high (omega arith) gs g.first in
-        let i2 = alu-sets w m l alus.Add i1.after r r s (mirrored t y) (lanes.multiply 32 c t) one hr hr high (i1.others r r-s ∙ g.value) i1.value in
-        let not-s : (q : ℕ) → Free r q → q ≢ s = (λ q k e. let k0 = k.0 in let k1 = k.1 in omega (arith, e, k0, k1, low, rs, high)) in
-        let end = leaves-is w m l (remainder-is x c lx lc hc) (last w m l (omega (arith, low)) hr i2 (inr (omega (arith, low)))) in
-        a.follow _ _ (b.follow _ _ (also w m l d (not-r r low hr) (g.follow _ _ (also w m l i1 not-s end) low hr)) low hr) low hr
+      pub remainder-leaves : c < 2 ^ 32 → Leaves w m (remainder r s) f r (word.remainder x c)
+      remainder-leaves hc =
+          let t = top x in
+          let a = sign-signed f r x low hr ez er in
+          let b = complement-signed a.after r t x low hr a.first a.second a.value in
+          let d = alu-sets w m l alus.Remu b.after r r s (mirrored t x) c one hr hr high b.value (b.others s s13 s14 sr ∙ a.others s s13 s14 sr ∙ es) in
+          let y = lanes.remainder_unsigned 32 (mirrored t x) c in
+          let g = complement-signed d.after r t y low hr (d.others 13 n13 ∙ b.first) (d.others 14 n14 ∙ b.second) d.value in
+          let gs : g.after s ≡ c = g.others s s13 s14 sr ∙ d.others s sr ∙ b.others s s13 s14 sr ∙ a.others s s13 s14 sr ∙ es in
+          let ls : 1 ≤ s = omega (arith, low, rs) in
+          let r-s : r ≢ s = (λ e. omega (arith, e, rs)) in
+          let i1 = alu-sets w m l alus.Mul g.after s s 13 c t ls high high (omega arith) gs g.first in
+          let i2 = alu-sets w m l alus.Add i1.after r r s (mirrored t y) (lanes.multiply 32 c t) one hr hr high (i1.others r r-s ∙ g.value) i1.value in
+          let not-s : (q : ℕ) → Free r q → q ≢ s = (λ q k e. let k0 = k.0 in let k1 = k.1 in omega (arith, e, k0, k1, low, rs, high)) in
+          let end = leaves-is w m l (remainder-is x c lx lc hc) (last w m l (omega (arith, low)) hr i2 (inr (omega (arith, low)))) in
+          a.follow _ _ (b.follow _ _ (also w m l d (not-r r low hr) (g.follow _ _ (also w m l i1 not-s end) low hr)) low hr) low hr
 
 pub quotients-leave : QuotientsLeave
 quotients-leave w m l f r s x c low rs high ez er es lx lc hc = quotient-leaves w m l f r s x c low rs high ez er es lx lc

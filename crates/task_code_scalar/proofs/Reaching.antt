@@ -42,7 +42,8 @@ module _ (w : World) (m : List ℕ) (l : length m ≡ w.size) where
   pub second-open : (r s : ℕ) → Open r s s
   second-open r s q a b c = c
 
-  pub set-first : {is js : List Insn} {f : ℕ → ℕ} {c r s u v : ℕ} → (a : Sets w m l is f c u) → Open r s c → Reaches js a.after r s v → Reaches (is ++ js) f r s v
+  pub set-first : {is js : List Insn} {f : ℕ → ℕ} {c r s u v : ℕ} → (a : Sets w m l is f c u) → Open r s c → Reaches js a.after r s v
+      → Reaches (is ++ js) f r s v
   set-first {is} {js} {f} {c} {r} {s} {u} {v} a may b = record {
     after = b.after;
     line = line-then w is js f a.after b.after m m m a.line b.line;
@@ -79,18 +80,22 @@ module _ (w : World) (m : List ℕ) (l : length m ≡ w.size) where
     s-one : 1 ≤ s
     s-one = omega (arith, slow)
 
-    scaled-reaches : (p : Pixels) (f : ℕ → ℕ) (n x : ℕ) → f r ≡ (x + n % 2 ^ 32) % 2 ^ 32 → pixel_bytes p * (n + x) < 2 ^ 32 → Reaches (scaled p r) f r s (pixel_bytes p * (n + x))
+    scaled-reaches : (p : Pixels) (f : ℕ → ℕ) (n x : ℕ) → f r ≡ (x + n % 2 ^ 32) % 2 ^ 32 → pixel_bytes p * (n + x) < 2 ^ 32
+        → Reaches (scaled p r) f r s (pixel_bytes p * (n + x))
     scaled-reaches pixels.Words f n x e fits =
         reach-is (row-words x n fits) (set-last (shift-sets w m l shifts.Slli f r r 2 ((x + n % 2 ^ 32) % 2 ^ 32) one high high e))
     scaled-reaches pixels.Bytes f n x e fits = record { after = f; line = λ at s h a. (a, refl); value = e ∙ row-bytes x n fits; others = λ q a b c. refl }
 
-    numbered-reaches : (place : Place) (f : ℕ → ℕ) (x y : ℕ) → f r ≡ x → f s ≡ y → place.width < 2 ^ 32 → pixel_bytes place.pixels * (y * place.width + x) < 2 ^ 32
+    numbered-reaches : (place : Place) (f : ℕ → ℕ) (x y : ℕ) → f r ≡ x → f s ≡ y → place.width < 2 ^ 32
+        → pixel_bytes place.pixels * (y * place.width + x) < 2 ^ 32
         → Reaches (numbered place r s) f r s (pixel_bytes place.pixels * (y * place.width + x))
     numbered-reaches place f x y er es small fits =
         let i1 = literal-sets w m l f 13 place.width (omega arith) (omega arith) small in
         let i2 = alu-sets w m l alus.Mul i1.after s s 13 y place.width s-one shigh shigh (omega arith) (i1.others s s13 ∙ es) i1.value in
-        let i3 = alu-sets w m l alus.Add i2.after r r s x (lanes.multiply 32 y place.width) one high high shigh (i2.others r apart ∙ i1.others r r13 ∙ er) i2.value in
-        set-first i1 (scratch-open r s) (set-first i2 (second-open r s) (set-first i3 (first-open r s) (scaled-reaches place.pixels i3.after (y * place.width) x i3.value fits)))
+        let i3 = alu-sets w m l alus.Add i2.after r r s x (lanes.multiply 32 y place.width) one high high shigh (i2.others r apart ∙ i1.others r r13
+        ∙ er) i2.value in
+        set-first i1 (scratch-open r s) (set-first i2 (second-open r s) (set-first i3 (first-open r s) (scaled-reaches place.pixels i3.after (y * place.width) x
+        i3.value fits)))
 
     raised-reaches : (f : ℕ → ℕ) (n a : ℕ) → f r ≡ a → n < 2 ^ 32 → a + n < 2 ^ 32 → Reaches (raised n r) f r s (a + n)
     raised-reaches f n a e small fits =
@@ -117,7 +122,8 @@ module _ (w : World) (m : List ℕ) (l : length m ≡ w.size) where
         let ts : 10 ≢ s = (λ x. omega (arith, x, slow)) in
         let a = numbered-reaches place f x y er es p.width (omega (arith, fits)) in
         let b = raised-reaches a.after place.start n a.value p.start (omega (arith, fits)) in
-        let d = copied-reaches b.after place.distance (n + place.start) w.hart b.value (b.others 10 t13 tr ts ∙ a.others 10 t13 tr ts ∙ ek) p.distance (omega (arith, fits)) in
+        let d = copied-reaches b.after place.distance (n + place.start) w.hart b.value (b.others 10 t13 tr ts ∙ a.others 10 t13 tr ts
+        ∙ ek) p.distance (omega (arith, fits)) in
         let e : n + place.start + c ≡ address place w.hart x y = omega arith in
         reach-then a (reach-then b (reach-is e d))
 
@@ -139,8 +145,11 @@ module _ (w : World) (m : List ℕ) (l : length m ≡ w.size) where
       let c = nat_lt last n in
       let i1 = literal-sets w m l f 14 last (omega arith) (omega arith) lt in
       let i2 = alu-sets w m l alus.Sltu i1.after 13 14 r last n (omega arith) (omega arith) (omega arith) high i1.value (i1.others r r14 ∙ e) in
-      let i3 = alu-sets w m l alus.Sub i2.after 14 14 r last n (omega arith) (omega arith) (omega arith) high (i2.others 14 u13 ∙ i1.value) (i2.others r r13 ∙ i1.others r r14 ∙ e) in
-      let i4 = alu-sets w m l alus.Mul i3.after 14 14 13 (lanes.sub 32 last n) (one_if c) (omega arith) (omega arith) (omega arith) (omega arith) i3.value (i3.others 13 t13 ∙ i2.value) in
-      let i5 = alu-sets w m l alus.Add i4.after r r 14 n (lanes.multiply 32 (lanes.sub 32 last n) (one_if c)) low high high (omega arith) (i4.others r r14 ∙ i3.others r r14 ∙ i2.others r r13 ∙ i1.others r r14 ∙ e) i4.value in
+      let i3 = alu-sets w m l alus.Sub i2.after 14 14 r last n (omega arith) (omega arith) (omega arith) high (i2.others 14 u13 ∙ i1.value) (i2.others r r13
+      ∙ i1.others r r14 ∙ e) in
+      let i4 = alu-sets w m l alus.Mul i3.after 14 14 13 (lanes.sub 32 last n) (one_if c) (omega arith) (omega arith) (omega arith) (omega arith) i3.value
+      (i3.others 13 t13 ∙ i2.value) in
+      let i5 = alu-sets w m l alus.Add i4.after r r 14 n (lanes.multiply 32 (lanes.sub 32 last n) (one_if c)) low high high (omega arith) (i4.others r r14
+      ∙ i3.others r r14 ∙ i2.others r r13 ∙ i1.others r r14 ∙ e) i4.value in
       set-first i1 (second-open r 14) (set-first i2 (scratch-open r 14) (set-first i3 (second-open r 14) (set-first i4 (second-open r 14)
       (reach-is (blended c n last small lt ∙ bound n last) (set-last i5)))))

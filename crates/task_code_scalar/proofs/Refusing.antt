@@ -27,7 +27,8 @@ fault-of (faults.OutOfMemory error) f g is = tt
 fault-of faults.TooLong f g is = f is
 fault-of faults.TooDeep f g is = g is
 
-pub passed : {T long long' deep deep' : Type 0} → (r : Result T CodeFault) (fault : CodeFault) → IsErrAnd r (λ error. error ≡ fault) → (long → long') → (deep → deep')
+pub passed : {T long long' deep deep' : Type 0} → (r : Result T CodeFault) (fault : CodeFault) → IsErrAnd r (λ error. error ≡ fault) → (long → long')
+    → (deep → deep')
     → IsFault long deep fault → IfErr r (IsFault long' deep')
 passed {T} {long} {long'} {deep} {deep'} r fault from f g is =
     let p = err_from_is_err_and r from in
@@ -48,7 +49,8 @@ no-leaf e = absurd (true≢false (sym e))
 first-some : (a b : ℕ) → 1 ≤ a → 1 ≤ max a b
 first-some a b l = omega (arith, l)
 
-pair-same : (a b : Made) (m n : Need) → Sized a m → Sized b n → max m.count (beside_first n) < 2 ^ 32 → max a.need (second_need b.is_leaf b.need) ≡ max m.count (beside_first n)
+pair-same : (a b : Made) (m n : Need) → Sized a m → Sized b n → max m.count (beside_first n) < 2 ^ 32 → max a.need (second_need b.is_leaf b.need)
+    ≡ max m.count (beside_first n)
 pair-same a b m n x y few = ap (λ (t : Bool). max a.need (second_need t b.need)) y.leaf_is ∙ by-leaf n.is_leaf few
   where
     by-leaf : (t : Bool) → max m.count (if t then 0 else 1 + n.count) < 2 ^ 32 → max a.need (second_need t b.need) ≡ max m.count (if t then 0 else 1 + n.count)
@@ -69,22 +71,47 @@ module _ (places : Places) (scope : List Counter) where
   sized-level : (y : Expr-F (Both Sized)) → Sized (made_at places scope (left_of Sized y)) (need_at (right_of Sized y))
   sized-level (layer.Number n) = record { leaf_is = refl; some = omega arith; one = λ t. refl; same = λ l. refl }
   sized-level (layer.Linear own) = record { leaf_is = refl; some = omega arith; one = λ t. refl; same = λ l. refl }
-  sized-level (layer.Binary o a b) = record { leaf_is = refl; some = first-some a.right.count _ a.is.some; one = no-leaf; same = pair-same a.left b.left a.right b.right a.is b.is }
-  sized-level (layer.Divide a c) = record { leaf_is = refl; some = first-some a.right.count _ a.is.some; one = no-leaf; same = divided-same a.left a.right c a.is }
-  sized-level (layer.Remainder a c) = record { leaf_is = refl; some = first-some a.right.count _ a.is.some; one = no-leaf; same = divided-same a.left a.right c a.is }
+  sized-level (layer.Binary o a b) = record {
+    leaf_is = refl;
+    some = first-some a.right.count _ a.is.some;
+    one = no-leaf;
+    same = pair-same a.left b.left a.right
+        b.right a.is b.is;
+  }
+  sized-level (layer.Divide a c) = record {
+    leaf_is = refl;
+    some = first-some a.right.count _ a.is.some;
+    one = no-leaf;
+    same = divided-same a.left a.right c
+        a.is;
+  }
+  sized-level (layer.Remainder a c) = record {
+    leaf_is = refl;
+    some = first-some a.right.count _ a.is.some;
+    one = no-leaf;
+    same = divided-same a.left a.right c
+        a.is;
+  }
   sized-level (layer.Select c a b) = record {
     leaf_is = refl;
     some = first-some c.right.count _ c.is.some;
     one = no-leaf;
     same = λ l. let i = c.is.same (omega (arith, l)) in let j = a.is.same (omega (arith, l)) in let k = b.is.same (omega (arith, l)) in omega (arith, i, j, k);
   }
-  sized-level (layer.Load source x y) = record { leaf_is = refl; some = first-some x.right.count _ x.is.some; one = no-leaf; same = pair-same x.left y.left x.right y.right x.is y.is }
+  sized-level (layer.Load source x y) = record {
+    leaf_is = refl;
+    some = first-some x.right.count _ x.is.some;
+    one = no-leaf;
+    same =
+        pair-same x.left y.left x.right y.right x.is y.is;
+  }
 
   pub sized : (own : Expr) → Sized (made places scope own) (need_of own)
   unfolding made need_of
   sized own = folds_related Sized (made_at places scope) need_at sized-level own
 
-  pair-parts : (a b : Expr) (r : ℕ) → r < 32 → max (need a) (beside_first (need_of b)) + r ≤ 32 → FitsStack a r × FitsStack b (beside (made places scope b).is_leaf r)
+  pair-parts : (a b : Expr) (r : ℕ) → r < 32 → max (need a) (beside_first (need_of b)) + r ≤ 32
+      → FitsStack a r × FitsStack b (beside (made places scope b).is_leaf r)
   pair-parts a b r low room =
       (omega (arith, room), subst (λ (t : Bool). need b + beside t r ≤ 32) (sym (sized b).leaf_is) (by-leaf (need_of b).is_leaf (sized b).one room))
     where
@@ -98,20 +125,24 @@ module _ (places : Places) (scope : List Counter) where
   part : (x a : Expr) (r : ℕ) → x ≡ a → FitsStack a r → FitsStack x r
   part x a r ex fits = subst (λ (y : Expr). FitsStack y r) (sym ex) fits
 
-  pub binary-parts : (own : Expr) (o : Operation) (a b : Expr) (r : ℕ) → own ≡ e.Binary o a b → r < 32 → FitsStack own r → FitsStack a r × FitsStack b (beside (made places scope b).is_leaf r)
+  pub binary-parts : (own : Expr) (o : Operation) (a b : Expr) (r : ℕ) → own ≡ e.Binary o a b → r < 32 → FitsStack own r
+      → FitsStack a r × FitsStack b (beside (made places scope b).is_leaf r)
   binary-parts own o a b r eo low fits = pair-parts a b r low (of own (e.Binary o a b) _ r eo (need_binary o a b) fits)
 
-  pub load-parts : (own : Expr) (source : Source) (a b : Expr) (r : ℕ) → own ≡ e.Load source a b → r < 32 → FitsStack own r → FitsStack a r × FitsStack b (beside (made places scope b).is_leaf r)
+  pub load-parts : (own : Expr) (source : Source) (a b : Expr) (r : ℕ) → own ≡ e.Load source a b → r < 32 → FitsStack own r
+      → FitsStack a r × FitsStack b (beside (made places scope b).is_leaf r)
   load-parts own source a b r eo low fits = pair-parts a b r low (of own (e.Load source a b) _ r eo (need_load source a b) fits)
 
   -- a second operand has no register, or doesn't fit there
-  pub no-beside : (y b : Expr) (r : ℕ) → y ≡ b → ((places' : Places) (scope' : List Counter) → 32 ≤ beside (made places' scope' y).is_leaf r) → FitsStack b (beside (made places scope b).is_leaf r) → ⊥
+  pub no-beside : (y b : Expr) (r : ℕ) → y ≡ b → ((places' : Places) (scope' : List Counter) → 32 ≤ beside (made places' scope' y).is_leaf r)
+      → FitsStack b (beside (made places scope b).is_leaf r) → ⊥
   no-beside y b r ey above fits =
       let l = subst (λ (z : Expr). 32 ≤ beside (made places scope z).is_leaf r) ey (above places scope) in
       let s = (sized b).some in
       omega (arith, l, s, fits)
 
-  pub no-second : (y z b : Expr) (r s : ℕ) → y ≡ b → z ≡ b → s ≡ beside (made places scope y).is_leaf r → (FitsStack z s → ⊥) → FitsStack b (beside (made places scope b).is_leaf r) → ⊥
+  pub no-second : (y z b : Expr) (r s : ℕ) → y ≡ b → z ≡ b → s ≡ beside (made places scope y).is_leaf r → (FitsStack z s → ⊥)
+      → FitsStack b (beside (made places scope b).is_leaf r) → ⊥
   no-second y z b r s ey ez es none fits =
       let there : FitsStack b s = subst (FitsStack b) (sym (es ∙ ap (λ (q : Expr). beside (made places scope q).is_leaf r) ey)) fits in
       none (part z b s ez there)

@@ -44,13 +44,15 @@ needs-or own m depth code is few = record {
 
 pair-few : (a b : Deep) (ma mb : Made) → Needs a ma → Needs b mb → max a.depth (second_depth b) ≤ max ma.need (second_need mb.is_leaf mb.need)
 pair-few a b ma mb x y =
-    subst (λ t. max a.depth (if t then 0 else 1 + b.depth) ≤ max ma.need (second_need mb.is_leaf mb.need)) (sym (ap (λ m. m.is_leaf) y.own_is)) (by-leaf mb.is_leaf)
+    subst (λ t. max a.depth (if t then 0 else 1 + b.depth) ≤ max ma.need (second_need mb.is_leaf mb.need)) (sym (ap (λ m. m.is_leaf) y.own_is))
+    (by-leaf mb.is_leaf)
   where
     by-leaf : (t : Bool) → max a.depth (if t then 0 else 1 + b.depth) ≤ max ma.need (second_need t mb.need)
     by-leaf true = let l = x.few in omega (arith, l)
     by-leaf false = let l = x.few in let k = y.few in omega (arith, l, k)
 
-triple-few : (c a b : Deep) (mc ma mb : Made) → Needs c mc → Needs a ma → Needs b mb → max c.depth (max (1 + a.depth) (2 + b.depth)) ≤ max mc.need (max (1 + ma.need) (2 + mb.need))
+triple-few : (c a b : Deep) (mc ma mb : Made) → Needs c mc → Needs a ma → Needs b mb
+    → max c.depth (max (1 + a.depth) (2 + b.depth)) ≤ max mc.need (max (1 + ma.need) (2 + mb.need))
 triple-few c a b mc ma mb x y z = let l = x.few in let k = y.few in let j = z.few in omega (arith, l, k, j)
 
 divided-few : (a : Deep) (ma : Made) → Needs a ma → a.depth ≤ max ma.need 2
@@ -64,15 +66,18 @@ module _ (places : Places) (scope : List Counter) where
   needs-level (layer.Number n) = needs-or (at (layer.Number n)) (at (layer.Number n)) 0 (λ word. (at (layer.Number n)).code 20) refl (λ l. omega arith)
   needs-level (layer.Linear own) = needs-or (at (layer.Linear own)) (at (layer.Linear own)) 0 (λ word. (at (layer.Linear own)).code 20) refl (λ l. omega arith)
   needs-level (layer.Binary o a b) =
-      needs-or _ _ _ _ (ap (λ x. at (layer.Binary o x b.left.own)) a.is.own_is ∙ ap (λ x. at (layer.Binary o a.right x)) b.is.own_is) (λ l. pair-few a.left b.left a.right b.right a.is b.is)
+      needs-or _ _ _ _ (ap (λ x. at (layer.Binary o x b.left.own)) a.is.own_is ∙ ap (λ x. at (layer.Binary o a.right x)) b.is.own_is)
+      (λ l. pair-few a.left b.left a.right b.right a.is b.is)
   needs-level (layer.Divide a c) = needs-or _ _ _ _ (ap (λ x. at (layer.Divide x c)) a.is.own_is) (λ l. divided-few a.left a.right a.is)
   needs-level (layer.Remainder a c) = needs-or _ _ _ _ (ap (λ x. at (layer.Remainder x c)) a.is.own_is) (λ l. divided-few a.left a.right a.is)
   needs-level (layer.Select c a b) =
       needs-or _ _ _ _
-      (ap (λ x. at (layer.Select x a.left.own b.left.own)) c.is.own_is ∙ ap (λ x. at (layer.Select c.right x b.left.own)) a.is.own_is ∙ ap (λ x. at (layer.Select c.right a.right x)) b.is.own_is)
+      (ap (λ x. at (layer.Select x a.left.own b.left.own)) c.is.own_is ∙ ap (λ x. at (layer.Select c.right x b.left.own)) a.is.own_is
+      ∙ ap (λ x. at (layer.Select c.right a.right x)) b.is.own_is)
       (λ l. triple-few c.left a.left b.left c.right a.right b.right c.is a.is b.is)
   needs-level (layer.Load source x y) =
-      needs-or _ _ _ _ (ap (λ p. at (layer.Load source p y.left.own)) x.is.own_is ∙ ap (λ p. at (layer.Load source x.right p)) y.is.own_is) (λ l. pair-few x.left y.left x.right y.right x.is y.is)
+      needs-or _ _ _ _ (ap (λ p. at (layer.Load source p y.left.own)) x.is.own_is ∙ ap (λ p. at (layer.Load source x.right p)) y.is.own_is)
+      (λ l. pair-few x.left y.left x.right y.right x.is y.is)
 
   needs : (own : Expr) → Needs (deep places scope own) (made places scope own)
   unfolding deep made
@@ -84,6 +89,7 @@ expressions-have-room places scope e is room =
     and_from (deep places scope e).own.is_word (nat_le (deep places scope e).depth (frame_words places.frames)) (ap (λ m. m.is_word) n.own_is ∙ is)
     (room-test (deep places scope e).depth (frame_words places.frames) (fits n room))
   where
-    fits : Needs (deep places scope e) (made places scope e) → ((made places scope e).need ≤ 12) ⊎ ((made places scope e).need ≤ frame_words places.frames) → (deep places scope e).depth ≤ frame_words places.frames
+    fits : Needs (deep places scope e) (made places scope e) → ((made places scope e).need ≤ 12) ⊎ ((made places scope e).need ≤ frame_words places.frames)
+        → (deep places scope e).depth ≤ frame_words places.frames
     fits n (inl l) = let z = n.none l in omega (arith, z)
     fits n (inr l) = let k = n.few in omega (arith, k, l)

@@ -27,10 +27,12 @@ is-seat n =
     elim (cases_lt n 10) [
       | inl a ↦
           let t : nat_lt n 10 ≡ true = grind (arith, nat_tests) in
-          chosen (n == 0) 12 _ (below-13 12 (omega arith)) (subst (λ b. IsSeat (if b then n else (if nat_lt n 13 then n + 7 else (if n == 13 then 16 else 0)))) (sym t) (below-13 n (omega (arith, a))))
+          chosen (n == 0) 12 _ (below-13 12 (omega arith)) (subst (λ b. IsSeat (if b then n else (if nat_lt n 13 then n + 7 else (if n == 13 then 16 else 0))))
+          (sym t) (below-13 n (omega (arith, a))))
       | inr a ↦
           let t : nat_lt n 10 ≡ false = grind (arith, nat_tests) in
-          chosen (n == 0) 12 _ (below-13 12 (omega arith)) (subst (λ b. IsSeat (if b then n else (if nat_lt n 13 then n + 7 else (if n == 13 then 16 else 0)))) (sym t) (later a))
+          chosen (n == 0) 12 _ (below-13 12 (omega arith)) (subst (λ b. IsSeat (if b then n else (if nat_lt n 13 then n + 7 else (if n == 13 then 16 else 0))))
+          (sym t) (later a))
     ]
   where
     last : IsSeat (if n == 13 then 16 else 0)
@@ -68,6 +70,7 @@ knows-kept w harts scope values f g r target o same = record {
   none = same 0 (free r 0 target (omega arith) (inl (omega arith))) ∙ o.none;
   number = same 10 (free r 10 target (omega arith) (inl (omega arith))) ∙ o.number;
   all = same 11 (free r 11 target (omega arith) (inl (omega arith))) ∙ o.all;
-  counters = λ counter. let s = is-seat-in scope counter in same (seat_in scope counter) (free r (seat_in scope counter) target s.low s.apart) ∙ o.counters counter;
+  counters = λ counter. let s = is-seat-in scope counter in same (seat_in scope counter) (free r (seat_in scope counter) target s.low s.apart)
+      ∙ o.counters counter;
   words = o.words;
 }

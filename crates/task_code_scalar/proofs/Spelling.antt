@@ -1,5 +1,6 @@
 -- Words that spell instructions stand in the text that they are a part of.
-use Rattle.std.proofs.Common.{◌≡◌, ℕ, suc, ◌+◌, ◌-◌, ◌*◌, ◌/◌, ◌%◌, ◌<◌, ◌≤◌, List, [], ◌∷◌, ◌++◌, length, Some, false, refl, ap, ◌∙◌, sym, subst, arith, append_assoc, append-nil, length-append}
+use Rattle.std.proofs.Common.{◌≡◌, ℕ, suc, ◌+◌, ◌-◌, ◌*◌, ◌/◌, ◌%◌, ◌<◌, ◌≤◌, List, [], ◌∷◌, ◌++◌, length, Some, false, refl, ap, ◌∙◌, sym, subst, arith}
+use Rattle.std.proofs.Common.{append_assoc, append-nil, length-append}
 use Rattle.std.specs.Prelude.{nat_lt, slice_get}
 use Rattle.std.proofs.Math.Seq.{get_or-append_seam}
 use Rattle.std.proofs.lemmas.Option.{slice_get-get_or}
@@ -42,7 +43,8 @@ fetched-at pre rest word =
     let l : n < length (pre ++ word ∷ rest) = omega (arith, length-append pre (word ∷ rest)) in
     rw (t, u) (ap (slice_get (pre ++ word ∷ rest)) e ∙ slice_get-get_or (pre ++ word ∷ rest) n 0 l ∙ ap Some (get_or-append_seam pre word rest 0))
 
-pub stand-spelled : (pre ws post : List ℕ) (is : List Insn) → length (pre ++ (ws ++ post)) ≤ 262144 → Spell ws is → Stand (pre ++ (ws ++ post)) (65536 + 4 * length pre) is
+pub stand-spelled : (pre ws post : List ℕ) (is : List Insn) → length (pre ++ (ws ++ post)) ≤ 262144 → Spell ws is
+    → Stand (pre ++ (ws ++ post)) (65536 + 4 * length pre) is
 stand-spelled pre [] post [] few s = record { low = omega (arith, few, length-append pre post); aligned = omega arith }
 stand-spelled pre [] post (i ∷ is) few s = absurd s
 stand-spelled pre (w ∷ ws) post [] few s = absurd s
@@ -52,7 +54,8 @@ stand-spelled pre (w ∷ ws) post (i ∷ is) few s =
     let few' : length ((pre ++ w ∷ []) ++ (ws ++ post)) ≤ 262144 = subst (λ t. length t ≤ 262144) (sym e) few in
     let at : 65536 + 4 * length (pre ++ w ∷ []) ≡ 65536 + 4 * length pre + 4 = omega (arith, n) in (
       record { word = w; fetched = fetched-at pre (ws ++ post) w; decoded = s.0 },
-      subst (λ a. Stand (pre ++ (w ∷ (ws ++ post))) a is) at (subst (λ t. Stand t (65536 + 4 * length (pre ++ w ∷ [])) is) e (stand-spelled (pre ++ w ∷ []) ws post is few' s.1)),
+      subst (λ a. Stand (pre ++ (w ∷ (ws ++ post))) a is) at (subst (λ t. Stand t (65536 + 4 * length (pre ++ w ∷ [])) is) e (stand-spelled (pre ++ w ∷ []) ws
+          post is few' s.1)),
     )
 
 pub spell-length : (ws : List ℕ) (is : List Insn) → Spell ws is → length ws ≡ length is

@@ -69,7 +69,8 @@ is-touched a c low high = elim (cases_eq c a) [
 pub number-other : (p : Pixels) (text memory : List ℕ) (a c v : ℕ) → (c + pixel_bytes p ≤ a) ⊎ (a + 4 ≤ c)
     → number_in text (put_number memory Word a v) (load_size (load_op p)) c ≡ number_in text memory (load_size (load_op p)) c
 number-other pixels.Words text memory a c v o = word-other text memory a v c o
-number-other pixels.Bytes text memory a c v o = ap (λ b. number_of Byte (b ∷ [])) (byte-other text memory a v c (elim o [ inl x ↦ inl (omega (arith, x)) | inr x ↦ inr x ]))
+number-other pixels.Bytes text memory a c v o = ap (λ b. number_of Byte (b ∷ [])) (byte-other text memory a v c
+    (elim o [ inl x ↦ inl (omega (arith, x)) | inr x ↦ inr x ]))
 
 -- ---- planes
 
@@ -103,7 +104,8 @@ chosen-below true a b n la lb = la
 chosen-below false a b n la lb = lb
 
 pub words-put : (points : Points) (func x y v : ℕ) (funcs : Planes) → AreWords funcs → v < 2 ^ 32 → AreWords (put_point points func x y v funcs)
-words-put points func x y v funcs are small place i j li lj = chosen-below (points func x y && (place == func && (i == x && j == y))) v (funcs place i j) (2 ^ 32) small (are place i j li lj)
+words-put points func x y v funcs are small place i j li lj = chosen-below (points func x y && (place == func && (i == x && j == y))) v (funcs place i j)
+    (2 ^ 32) small (are place i j li lj)
 
 -- ---- a store
 
@@ -112,9 +114,11 @@ module _ (w : World) (places : Places) (written : Points) (loaded : Point → Bo
   spot func x y = address_of w places (func_point func x y)
 
   -- the point itself
-  at-it : (points : Points) (inputs funcs : Planes) (memory : List ℕ) (func x y v : ℕ) → written func x y ≡ true → points func x y ≡ true → length memory ≡ w.size → v < 2 ^ 32
+  at-it : (points : Points) (inputs funcs : Planes) (memory : List ℕ) (func x y v : ℕ) → written func x y ≡ true → points func x y ≡ true
+      → length memory ≡ w.size → v < 2 ^ 32
       → (source : Source) (i j : ℕ) → sources.Func func ≡ source → x ≡ i → y ≡ j
-      → number_in w.text (put_number memory Word (spot func x y) v) (load_size (load_op (place_of places source).pixels)) (address (place_of places source) w.hart i j)
+      → number_in w.text (put_number memory Word (spot func x y) v) (load_size (load_op (place_of places source).pixels)) (address (place_of places source)
+      w.hart i j)
       ≡ reads_of inputs (put_point points func x y v funcs) source i j
   at-it points inputs funcs memory func x y v is there size small source i j es ei ej =
       let may = laid.stores func x y is in
@@ -123,14 +127,20 @@ module _ (w : World) (places : Places) (written : Points) (loaded : Point → Bo
       let low = can.above in
       let high = can.below in
       let one : number_in w.text m' Word (spot func x y) ≡ v = word-put w.text memory (spot func x y) v low (omega (arith, high, size)) small in
-      let two : number_in w.text m' (load_size (load_op (place_of places (sources.Func func)).pixels)) (spot func x y) ≡ v = subst (λ p. number_in w.text m' (load_size (load_op p)) (spot func x y) ≡ v) (sym may.are_words) one in
+      let two : number_in w.text m' (load_size (load_op (place_of places (sources.Func func)).pixels)) (spot func x y) ≡ v =
+      subst (λ p. number_in w.text m' (load_size (load_op p)) (spot func x y) ≡ v) (sym may.are_words) one in
       let three = two ∙ sym (put-here points func x y v funcs there) in
-      subst (λ s. number_in w.text m' (load_size (load_op (place_of places s).pixels)) (address (place_of places s) w.hart i j) ≡ reads_of inputs (put_point points func x y v funcs) s i j) es
-      (subst (λ a. number_in w.text m' (load_size (load_op (place_of places (sources.Func func)).pixels)) (address (place_of places (sources.Func func)) w.hart a j) ≡ put_point points func x y v funcs func a j) ei
-      (subst (λ b. number_in w.text m' (load_size (load_op (place_of places (sources.Func func)).pixels)) (address (place_of places (sources.Func func)) w.hart x b) ≡ put_point points func x y v funcs func x b) ej three))
+      subst (λ s. number_in w.text m' (load_size (load_op (place_of places s).pixels)) (address (place_of places s) w.hart i j)
+      ≡ reads_of inputs (put_point points func x y v funcs) s i j) es
+      (subst (λ a. number_in w.text m' (load_size (load_op (place_of places (sources.Func func)).pixels)) (address (place_of places (sources.Func func)) w.hart
+      a j) ≡ put_point points func x y v funcs func a j) ei
+      (subst (λ b. number_in w.text m' (load_size (load_op (place_of places (sources.Func func)).pixels)) (address (place_of places (sources.Func func)) w.hart
+      x b) ≡ put_point points func x y v funcs func x b) ej three))
 
-  pub stored-holds : (points : Points) (inputs funcs : Planes) (memory : List ℕ) (func x y v : ℕ) → written func x y ≡ true → points func x y ≡ true → length memory ≡ w.size → v < 2 ^ 32
-      → Holds w places loaded memory (reads_of inputs funcs) → Holds w places loaded (put_number memory Word (spot func x y) v) (reads_of inputs (put_point points func x y v funcs))
+  pub stored-holds : (points : Points) (inputs funcs : Planes) (memory : List ℕ) (func x y v : ℕ) → written func x y ≡ true → points func x y ≡ true
+      → length memory ≡ w.size → v < 2 ^ 32
+      → Holds w places loaded memory (reads_of inputs funcs)
+      → Holds w places loaded (put_number memory Word (spot func x y) v) (reads_of inputs (put_point points func x y v funcs))
   stored-holds points inputs funcs memory func x y v is there size small holds point can =
       let a = spot func x y in
       let c = address_of w places point in
@@ -150,16 +160,19 @@ module _ (w : World) (places : Places) (written : Points) (loaded : Point → Bo
       some pixels.Bytes = omega arith
 
       away : (address_of w places point + bytes_of places point ≤ spot func x y) ⊎ (spot func x y + 4 ≤ address_of w places point)
-          → number_in w.text (put_number memory Word (spot func x y) v) (size_of places point) (address_of w places point) ≡ reads_of inputs (put_point points func x y v funcs) point.source point.x point.y
+          → number_in w.text (put_number memory Word (spot func x y) v) (size_of places point) (address_of w places point)
+          ≡ reads_of inputs (put_point points func x y v funcs) point.source point.x point.y
       away o =
           let n = some (place_of places point.source).pixels in
           let never : point.source ≡ sources.Func func → point.x ≡ x → point.y ≡ y → ⊥ = λ es ei ej.
           let e : address_of w places point ≡ spot func x y =
-          ap (λ s. address (place_of places s) w.hart point.x point.y) es ∙ ap (λ i. address (place_of places (sources.Func func)) w.hart i point.y) ei ∙ ap (λ j. address (place_of places (sources.Func func)) w.hart x j) ej in
+          ap (λ s. address (place_of places s) w.hart point.x point.y) es ∙ ap (λ i. address (place_of places (sources.Func func)) w.hart i point.y) ei
+          ∙ ap (λ j. address (place_of places (sources.Func func)) w.hart x j) ej in
           omega (arith, e, o, n) in
           number-other (place_of places point.source).pixels w.text memory (spot func x y) (address_of w places point) v o
           ∙ holds point can
           ∙ sym (put-away points func x y v inputs funcs point.source point.x point.y never)
 
-  pub others-stay : (memory : List ℕ) (func x y v byte : ℕ) → written func x y ≡ true → IsElsewhere w places written byte → byte_at w.text (put_number memory Word (spot func x y) v) byte ≡ byte_at w.text memory byte
+  pub others-stay : (memory : List ℕ) (func x y v byte : ℕ) → written func x y ≡ true → IsElsewhere w places written byte
+      → byte_at w.text (put_number memory Word (spot func x y) v) byte ≡ byte_at w.text memory byte
   others-stay memory func x y v byte is elsewhere = byte-other w.text memory (spot func x y) v byte (elsewhere.points func x y is)

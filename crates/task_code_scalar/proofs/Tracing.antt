@@ -43,43 +43,52 @@ module _ (points : Points) (inputs : Planes) (func x y : ℕ) where
       ap (λ statement. traced statement values t) (sym (rolls-Store store))
       ∙ ap (λ (made : Values → Trace → Trace). made values t) (fold-roll-Stmt (Values → Trace → Trace) (trace_at points inputs func x y) (layer.Store store))
 
-  trace-sequence : (first second : Stmt) (values : Values) (t : Trace) → traced (s.Sequence first second) values t ≡ traced second values (traced first values t)
+  trace-sequence : (first second : Stmt) (values : Values) (t : Trace) → traced (s.Sequence first second) values t
+      ≡ traced second values (traced first values t)
   unfolding trace
   trace-sequence first second values t =
       ap (λ statement. traced statement values t) (sym (rolls-Sequence first second))
-      ∙ ap (λ (made : Values → Trace → Trace). made values t) (fold-roll-Stmt (Values → Trace → Trace) (trace_at points inputs func x y) (layer.Sequence first second))
+      ∙ ap (λ (made : Values → Trace → Trace). made values t) (fold-roll-Stmt (Values → Trace
+      → Trace) (trace_at points inputs func x y) (layer.Sequence first second))
 
   trace-for : (counter : Counter) (count : ℕ) (kind : LoopKind) (body : Stmt) (values : Values) (t : Trace)
       → traced (s.For counter count kind body) values t ≡ turns count (λ turn. traced body (with counter turn values)) t
   unfolding trace
   trace-for counter count kind body values t =
       ap (λ statement. traced statement values t) (sym (rolls-For counter count kind body))
-      ∙ ap (λ (made : Values → Trace → Trace). made values t) (fold-roll-Stmt (Values → Trace → Trace) (trace_at points inputs func x y) (layer.For counter count kind body))
+      ∙ ap (λ (made : Values → Trace → Trace). made values t) (fold-roll-Stmt (Values → Trace
+      → Trace) (trace_at points inputs func x y) (layer.For counter count kind body))
 
   trace-bind : (counter : Counter) (whole : Whole) (extent : ℕ) (body : Stmt) (values : Values) (t : Trace)
-      → traced (s.Bind counter whole extent body) values t ≡ (if nat_lt (whole_value whole values) extent then traced body (with counter (whole_value whole values) values) t else t)
+      → traced (s.Bind counter whole extent body) values t ≡ (if nat_lt (whole_value whole values) extent then traced body
+      (with counter (whole_value whole values) values) t else t)
   unfolding trace
   trace-bind counter whole extent body values t =
       ap (λ statement. traced statement values t) (sym (rolls-Bind counter whole extent body))
-      ∙ ap (λ (made : Values → Trace → Trace). made values t) (fold-roll-Stmt (Values → Trace → Trace) (trace_at points inputs func x y) (layer.Bind counter whole extent body))
+      ∙ ap (λ (made : Values → Trace → Trace). made values t) (fold-roll-Stmt (Values → Trace
+      → Trace) (trace_at points inputs func x y) (layer.Bind counter whole extent body))
 
   -- its own run's points come behind those so far
   abbrev Adds : Stmt → Type 0
-  Adds statement = (values : Values) (funcs : Planes) (so_far : Bool) → traced statement values (mark funcs so_far) ≡ mark (run points inputs statement values funcs) (so_far || hit statement values funcs)
+  Adds statement = (values : Values) (funcs : Planes) (so_far : Bool) → traced statement values (mark funcs so_far)
+      ≡ mark (run points inputs statement values funcs) (so_far || hit statement values funcs)
 
   pub hit-store : (store : Store) (values : Values) (funcs : Planes)
-      → hit (s.Store store) values funcs ≡ (store.func == func && (value (reads_of inputs funcs) values store.x == x && value (reads_of inputs funcs) values store.y == y))
+      → hit (s.Store store) values funcs ≡ (store.func == func && (value (reads_of inputs funcs) values store.x == x && value (reads_of inputs funcs) values
+      store.y == y))
   hit-store store values funcs = ap (λ (t : Trace). t.is_stored) (trace-store store values (mark funcs false))
 
   adds-store : (store : Store) → Adds (s.Store store)
   adds-store store values funcs so_far =
       trace-store store values (mark funcs so_far)
-      ∙ ap (λ p. mark p (so_far || (store.func == func && (value (reads_of inputs funcs) values store.x == x && value (reads_of inputs funcs) values store.y == y)))) (sym (run_store points inputs store values funcs))
+      ∙ ap (λ p. mark p (so_far || (store.func == func && (value (reads_of inputs funcs) values store.x == x && value (reads_of inputs funcs) values store.y
+      == y)))) (sym (run_store points inputs store values funcs))
       ∙ ap (λ b. mark (run points inputs (s.Store store) values funcs) (so_far || b)) (sym (hit-store store values funcs))
 
   both-parts : (first second : Stmt) → Adds first → Adds second → (values : Values) (funcs : Planes) (so_far : Bool)
       → traced (s.Sequence first second) values (mark funcs so_far)
-      ≡ mark (run points inputs second values (run points inputs first values funcs)) ((so_far || hit first values funcs) || hit second values (run points inputs first values funcs))
+      ≡ mark (run points inputs second values (run points inputs first values funcs)) ((so_far || hit first values funcs)
+      || hit second values (run points inputs first values funcs))
   both-parts first second one two values funcs so_far =
       trace-sequence first second values (mark funcs so_far)
       ∙ ap (traced second values) (one values funcs so_far)
@@ -92,9 +101,11 @@ module _ (points : Points) (inputs : Planes) (func x y : ℕ) where
   adds-sequence : (first second : Stmt) → Adds first → Adds second → Adds (s.Sequence first second)
   adds-sequence first second one two values funcs so_far =
       both-parts first second one two values funcs so_far
-      ∙ ap (λ p. mark p ((so_far || hit first values funcs) || hit second values (run points inputs first values funcs))) (sym (run_sequence points inputs first second values funcs))
+      ∙ ap (λ p. mark p ((so_far || hit first values funcs) || hit second values (run points inputs first values funcs)))
+      (sym (run_sequence points inputs first second values funcs))
       ∙ ap (mark (run points inputs (s.Sequence first second) values funcs))
-      (or-or so_far (hit first values funcs) (hit second values (run points inputs first values funcs)) ∙ ap (λ b. so_far || b) (sym (hit-both first second one two values funcs)))
+      (or-or so_far (hit first values funcs) (hit second values (run points inputs first values funcs))
+      ∙ ap (λ b. so_far || b) (sym (hit-both first second one two values funcs)))
 
   -- ---- turns of a loop
 
@@ -124,7 +135,8 @@ module _ (points : Points) (inputs : Planes) (func x y : ℕ) where
     hit-next : (n : ℕ) → Adds body → (funcs : Planes) → hit_before (suc n) funcs ≡ (hit_before n funcs || hit body (at n) (made n funcs))
     unfolding turns
     hit-next n adds funcs =
-        ap (λ (t : Trace). (traced body (at n) t).is_stored) (turns-add n adds funcs false) ∙ ap (λ (t : Trace). t.is_stored) (adds (at n) (made n funcs) (hit_before n funcs))
+        ap (λ (t : Trace). (traced body (at n) t).is_stored) (turns-add n adds funcs false)
+        ∙ ap (λ (t : Trace). t.is_stored) (adds (at n) (made n funcs) (hit_before n funcs))
 
     hit-none : (funcs : Planes) → hit_before zero funcs ≡ false
     unfolding turns
@@ -138,11 +150,13 @@ module _ (points : Points) (inputs : Planes) (func x y : ℕ) where
   adds-for counter count kind body adds values funcs so_far =
       trace-for counter count kind body values (mark funcs so_far)
       ∙ turns-add body (λ turn. with counter turn values) count adds funcs so_far
-      ∙ ap (λ p. mark p (so_far || hit_before body (λ turn. with counter turn values) count funcs)) (sym (run_for points inputs counter count kind body values funcs))
+      ∙ ap (λ p. mark p (so_far || hit_before body (λ turn. with counter turn values) count funcs)) (sym (run_for points inputs counter count kind body values
+      funcs))
       ∙ ap (λ b. mark (run points inputs (s.For counter count kind body) values funcs) (so_far || b)) (sym (hit-turns counter count kind body values funcs))
 
   hit-test : (counter : Counter) (whole : Whole) (extent : ℕ) (body : Stmt) (values : Values) (funcs : Planes)
-      → hit (s.Bind counter whole extent body) values funcs ≡ (if nat_lt (whole_value whole values) extent then hit body (with counter (whole_value whole values) values) funcs else false)
+      → hit (s.Bind counter whole extent body) values funcs ≡ (if nat_lt (whole_value whole values) extent then hit body
+      (with counter (whole_value whole values) values) funcs else false)
   hit-test counter whole extent body values funcs =
       ap (λ (t : Trace). t.is_stored) (trace-bind counter whole extent body values (mark funcs false)) ∙ chosen (nat_lt (whole_value whole values) extent)
     where
@@ -155,19 +169,23 @@ module _ (points : Points) (inputs : Planes) (func x y : ℕ) where
   adds-bind counter whole extent body adds values funcs so_far =
       trace-bind counter whole extent body values (mark funcs so_far)
       ∙ chosen (nat_lt (whole_value whole values) extent)
-      ∙ ap (λ p. mark p (so_far || (if nat_lt (whole_value whole values) extent then hit body (with counter (whole_value whole values) values) funcs else false))) (sym (run_bind points inputs counter whole extent body values funcs))
+      ∙ ap (λ p. mark p (so_far || (if nat_lt (whole_value whole values) extent then hit body (with counter (whole_value whole values) values) funcs
+      else false))) (sym (run_bind points inputs counter whole extent body values funcs))
       ∙ ap (λ b. mark (run points inputs (s.Bind counter whole extent body) values funcs) (so_far || b)) (sym (hit-test counter whole extent body values funcs))
     where
       chosen : (t : Bool) → (if t then traced body (with counter (whole_value whole values) values) (mark funcs so_far) else mark funcs so_far)
-          ≡ mark (if t then run points inputs body (with counter (whole_value whole values) values) funcs else funcs) (so_far || (if t then hit body (with counter (whole_value whole values) values) funcs else false))
+          ≡ mark (if t then run points inputs body (with counter (whole_value whole values) values) funcs else funcs) (so_far
+          || (if t then hit body (with counter (whole_value whole values) values) funcs else false))
       chosen true = adds (with counter (whole_value whole values) values) funcs so_far
       chosen false = ap (mark funcs) (or-false so_far)
 
   by-layer : (X : Type 0) (part : X → Stmt) → ((p : X) → Adds (part p)) → (l : Stmt-F X) → Adds (roll-Stmt (map-Stmt X Stmt part l))
   by-layer X part adds (layer.Store store) = subst Adds (sym (rolls-Store store)) (adds-store store)
   by-layer X part adds (layer.Sequence a b) = subst Adds (sym (rolls-Sequence (part a) (part b))) (adds-sequence (part a) (part b) (adds a) (adds b))
-  by-layer X part adds (layer.For counter count kind a) = subst Adds (sym (rolls-For counter count kind (part a))) (adds-for counter count kind (part a) (adds a))
-  by-layer X part adds (layer.Bind counter whole extent a) = subst Adds (sym (rolls-Bind counter whole extent (part a))) (adds-bind counter whole extent (part a) (adds a))
+  by-layer X part adds (layer.For counter count kind a) = subst Adds (sym (rolls-For counter count kind (part a))) (adds-for counter count kind (part a)
+      (adds a))
+  by-layer X part adds (layer.Bind counter whole extent a) = subst Adds (sym (rolls-Bind counter whole extent (part a))) (adds-bind counter whole extent
+      (part a) (adds a))
 
   adds-all : (statement : Stmt) → Adds statement
   adds-all = ind-Stmt Adds (λ l t is. subst (λ (k : Stmt-F Stmt). Adds (roll-Stmt k)) is (by-layer _ (λ e. e.0) (λ e. e.1) t))
@@ -182,12 +200,14 @@ module _ (points : Points) (inputs : Planes) (func x y : ℕ) where
       → hit (s.For counter count kind body) values funcs ≡ hit_before body (λ turn. with counter turn values) count funcs
   hit-for = hit-turns
 
-  pub hit-later : (body : Stmt) (at : ℕ → Values) (n : ℕ) (funcs : Planes) → hit_before body at (suc n) funcs ≡ (hit_before body at n funcs || hit body (at n) (made body at n funcs))
+  pub hit-later : (body : Stmt) (at : ℕ → Values) (n : ℕ) (funcs : Planes) → hit_before body at (suc n) funcs ≡ (hit_before body at n funcs
+      || hit body (at n) (made body at n funcs))
   hit-later body at n funcs = hit-next body at n (adds-all body) funcs
 
   pub hit-first : (body : Stmt) (at : ℕ → Values) (funcs : Planes) → hit_before body at zero funcs ≡ false
   hit-first = hit-none
 
   pub hit-bind : (counter : Counter) (whole : Whole) (extent : ℕ) (body : Stmt) (values : Values) (funcs : Planes)
-      → hit (s.Bind counter whole extent body) values funcs ≡ (if nat_lt (whole_value whole values) extent then hit body (with counter (whole_value whole values) values) funcs else false)
+      → hit (s.Bind counter whole extent body) values funcs ≡ (if nat_lt (whole_value whole values) extent then hit body
+      (with counter (whole_value whole values) values) funcs else false)
   hit-bind = hit-test

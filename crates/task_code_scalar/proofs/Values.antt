@@ -37,7 +37,8 @@ module _ (w : World) (m : List ℕ) (l : length m ≡ w.size) where
     others = λ q n. update-other f c _ q n;
   }
 
-  pub imm-sets : (o : AluImmOp) (f : ℕ → ℕ) (c a : ℕ) (z : ℤ) (x : ℕ) → 1 ≤ c → c < 32 → a < 32 → f a ≡ x → Sets (AluImm o c a z ∷ []) f c (computed_with_immediate o x (extended z))
+  pub imm-sets : (o : AluImmOp) (f : ℕ → ℕ) (c a : ℕ) (z : ℤ) (x : ℕ) → 1 ≤ c → c < 32 → a < 32 → f a ≡ x
+      → Sets (AluImm o c a z ∷ []) f c (computed_with_immediate o x (extended z))
   imm-sets o f c a z x low high la ea = record {
     after = update f c (computed_with_immediate o (f a) (extended z));
     line = rows.alu-imm w f m l o c a z low high la;
@@ -58,7 +59,8 @@ module _ (w : World) (m : List ℕ) (l : length m ≡ w.size) where
   leaves-is {is} {f} {r} {v} {u} e a = record { after = a.after; line = a.line; value = a.value ∙ e; keeps = a.keeps }
 
   -- a register that isn't free is set first
-  pub also : {is js : List Insn} {f : ℕ → ℕ} {r c u v : ℕ} → (a : Sets is f c u) → ((q : ℕ) → Free r q → q ≢ c) → Leaves w m js a.after r v → Leaves w m (is ++ js) f r v
+  pub also : {is js : List Insn} {f : ℕ → ℕ} {r c u v : ℕ} → (a : Sets is f c u) → ((q : ℕ) → Free r q → q ≢ c) → Leaves w m js a.after r v
+      → Leaves w m (is ++ js) f r v
   also {is} {js} {f} {r} {c} {u} {v} a n b = record {
     after = b.after;
     line = line-then w is js f a.after b.after m m m a.line b.line;
@@ -81,7 +83,8 @@ module _ (w : World) (m : List ℕ) (l : length m ≡ w.size) where
       let g = update f r (upper v * 2 ^ 12) in
       record {
         after = update g r (computed_with_immediate alu_imms.Addi (g r) (extended (lower v)));
-        line = line-then w (Lui r (upper v) ∷ []) (AluImm alu_imms.Addi r r (lower v) ∷ []) f g _ m m m (rows.lui w f m l r (upper v) low high) (rows.alu-imm w g m l alu_imms.Addi r r (lower v) low high high);
+        line = line-then w (Lui r (upper v) ∷ []) (AluImm alu_imms.Addi r r (lower v) ∷ []) f g _ m m m (rows.lui w f m l r (upper v) low high)
+            (rows.alu-imm w g m l alu_imms.Addi r r (lower v) low high high);
         value = update-same g r _ ∙ ap (λ n. lanes.add 32 n (extended (lower v))) (update-same f r (upper v * 2 ^ 12)) ∙ parts v small;
         others = λ q n. update-other g r _ q n ∙ update-other f r _ q n;
       }
@@ -131,11 +134,14 @@ module _ (w : World) (m : List ℕ) (l : length m ≡ w.size) where
         let i2 = imm-sets alu_imms.Sltiu i1.after r r (pos 1) (computed o x y) lr is.high is.high i1.value in
         also i1 not-r (last r-low is.high i2 r-not)
 
-  blend-leaves : (f : ℕ → ℕ) (r s : ℕ) (is : Beside r s) (x y : ℕ) (c : Bool) → f r ≡ x → f s ≡ y → f 13 ≡ one_if c → x < 2 ^ 32 → y < 2 ^ 32 → Leaves w m (blend r s) f r (if c then y else x)
+  blend-leaves : (f : ℕ → ℕ) (r s : ℕ) (is : Beside r s) (x y : ℕ) (c : Bool) → f r ≡ x → f s ≡ y → f 13 ≡ one_if c → x < 2 ^ 32 → y < 2 ^ 32
+      → Leaves w m (blend r s) f r (if c then y else x)
   blend-leaves f r s is x y c er es ec lx ly =
       let i1 = alu-sets alus.Sub f s s r y x (ls f r s is) is.fits is.fits is.high es er in
-      let i2 = alu-sets alus.Mul i1.after s s 13 (lanes.sub 32 y x) (one_if c) (ls f r s is) is.fits is.fits (omega arith) i1.value (i1.others 13 (scratch-apart f r s is) ∙ ec) in
-      let i3 = alu-sets alus.Add i2.after r r s x (lanes.multiply 32 (lanes.sub 32 y x) (one_if c)) (lr f r s is) is.high is.high is.fits (i2.others r (r-apart f r s is) ∙ i1.others r (r-apart f r s is) ∙ er) i2.value in
+      let i2 = alu-sets alus.Mul i1.after s s 13 (lanes.sub 32 y x) (one_if c) (ls f r s is) is.fits is.fits (omega arith) i1.value
+      (i1.others 13 (scratch-apart f r s is) ∙ ec) in
+      let i3 = alu-sets alus.Add i2.after r r s x (lanes.multiply 32 (lanes.sub 32 y x) (one_if c)) (lr f r s is) is.high is.high is.fits
+      (i2.others r (r-apart f r s is) ∙ i1.others r (r-apart f r s is) ∙ er) i2.value in
       also i1 (not-s f r s is) (also i2 (not-s f r s is) (leaves-is (blended c x y lx ly) (last (r-low f r s is) is.high i3 (r-not f r s is))))
 
   choice-leaves : (f : ℕ → ℕ) (r s : ℕ) (is : Beside r s) (a b x y u v : ℕ) → a < 32 → b < 32 → f a ≡ u → f b ≡ v → f r ≡ x → f s ≡ y → x < 2 ^ 32 → y < 2 ^ 32
@@ -145,7 +151,8 @@ module _ (w : World) (m : List ℕ) (l : length m ≡ w.size) where
       also i1 (not-scratch f r s is)
       (blend-leaves i1.after r s is x y (lanes.less_signed 32 u v) (i1.others r (r-scratch f r s is) ∙ er) (i1.others s (s-apart f r s is) ∙ es) i1.value lx ly)
 
-  pub operation-leaves : (o : Operation) (f : ℕ → ℕ) (r s x y : ℕ) → Beside r s → f 0 ≡ 0 → f r ≡ x → f s ≡ y → x < 2 ^ 32 → y < 2 ^ 32 → Leaves w m (operation o r s) f r (word.applied o x y)
+  pub operation-leaves : (o : Operation) (f : ℕ → ℕ) (r s x y : ℕ) → Beside r s → f 0 ≡ 0 → f r ≡ x → f s ≡ y → x < 2 ^ 32 → y < 2 ^ 32
+      → Leaves w m (operation o r s) f r (word.applied o x y)
   unfolding word.add word.subtract word.multiply
   operation-leaves op.Add f r s x y is ez er es lx ly = one f r s is alus.Add r s x y is.high is.fits er es
   operation-leaves op.Subtract f r s x y is ez er es lx ly = one f r s is alus.Sub r s x y is.high is.fits er es
@@ -157,11 +164,13 @@ module _ (w : World) (m : List ℕ) (l : length m ≡ w.size) where
   operation-leaves op.Less f r s x y is ez er es lx ly =
       leaves-is (ap one_if (less-is x y lx ly)) (one f r s is alus.Slt r s x y is.high is.fits er es)
   operation-leaves op.LessOrEqual f r s x y is ez er es lx ly =
-      leaves-is (turned (lanes.less_signed 32 y x) ∙ ap (λ c. one_if (not c)) (less-is y x ly lx)) (opposite-leaves f r s is alus.Slt s r y x is.fits is.high es er)
+      leaves-is (turned (lanes.less_signed 32 y x) ∙ ap (λ c. one_if (not c)) (less-is y x ly lx)) (opposite-leaves f r s is alus.Slt s r y x is.fits is.high es
+      er)
   operation-leaves op.Greater f r s x y is ez er es lx ly =
       leaves-is (ap one_if (less-is y x ly lx)) (one f r s is alus.Slt s r y x is.fits is.high es er)
   operation-leaves op.GreaterOrEqual f r s x y is ez er es lx ly =
-      leaves-is (turned (lanes.less_signed 32 x y) ∙ ap (λ c. one_if (not c)) (less-is x y lx ly)) (opposite-leaves f r s is alus.Slt r s x y is.high is.fits er es)
+      leaves-is (turned (lanes.less_signed 32 x y) ∙ ap (λ c. one_if (not c)) (less-is x y lx ly)) (opposite-leaves f r s is alus.Slt r s x y is.high is.fits er
+      es)
   operation-leaves op.Equal f r s x y is ez er es lx ly =
       leaves-is (ap one_if (equal-is x y lx ly)) (opposite-leaves f r s is alus.Sub r s x y is.high is.fits er es)
   operation-leaves op.NotEqual f r s x y is ez er es lx ly =
@@ -186,8 +195,10 @@ module _ (w : World) (m : List ℕ) (l : length m ≡ w.size) where
       let i1 = alu-sets alus.Sltu f r 0 r 0 c lr1 hr (omega arith) hr ez er in
       let i2 = alu-sets alus.Sub i1.after s s t x y ls1 hs hs high (i1.others s sr ∙ es) (i1.others t tr ∙ et) in
       let i3 = alu-sets alus.Mul i2.after s s r (lanes.sub 32 x y) k ls1 hs hs hr i2.value (i2.others r r-s ∙ i1.value) in
-      let i4 = alu-sets alus.Add i3.after r t s y (lanes.multiply 32 (lanes.sub 32 x y) k) lr1 hr high hs (i3.others t ts ∙ i2.others t ts ∙ i1.others t tr ∙ et) i3.value in
-      also i1 (not-r f r s b) (also i2 (not-s f r s b) (also i3 (not-s f r s b) (leaves-is (blended (nat_lt 0 c) y x ly lx ∙ not-zero c x y) (last (r-low f r s b) hr i4 (r-not f r s b)))))
+      let i4 = alu-sets alus.Add i3.after r t s y (lanes.multiply 32 (lanes.sub 32 x y) k) lr1 hr high hs (i3.others t ts ∙ i2.others t ts ∙ i1.others t tr
+      ∙ et) i3.value in
+      also i1 (not-r f r s b) (also i2 (not-s f r s b) (also i3 (not-s f r s b) (leaves-is (blended (nat_lt 0 c) y x ly lx
+      ∙ not-zero c x y) (last (r-low f r s b) hr i4 (r-not f r s b)))))
 
 pub literals-leave : LiteralsLeave
 literals-leave w m l f r v low high small = record {

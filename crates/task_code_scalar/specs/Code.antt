@@ -4,7 +4,8 @@
 -- order in which their loops begin: the task's own is the first. x20 to x31 are the stack of an expression. x13 and x14 are scratch, and
 -- x15 holds a store's column or address while its other parts are made. Behind a task's last statement x13 to x16 are set anew.
 -- Values of an expression that the stack has no room for wait in the hart's frame, from its first word on.
-use Rattle.std.specs.Prelude.{◌≡◌, ◌<◌, ◌≤◌, ℕ, zero, suc, ◌+◌, ◌-◌, ◌*◌, ◌/◌, ◌%◌, ◌^◌, ◌==◌, ◌&&◌, Bool, true, false, nat_le, nat_lt, if◌then◌else◌, List, [], ◌∷◌, ◌++◌, length, ℤ, pos, negsuc, max, slice_index_or, Option, Some, None}
+use Rattle.std.specs.Prelude.{◌≡◌, ◌<◌, ◌≤◌, ℕ, zero, suc, ◌+◌, ◌-◌, ◌*◌, ◌/◌, ◌%◌, ◌^◌, ◌==◌, ◌&&◌, Bool, true, false, nat_le, nat_lt, if◌then◌else◌, List, []}
+use Rattle.std.specs.Prelude.{◌∷◌, ◌++◌, length, ℤ, pos, negsuc, max, slice_index_or, Option, Some, None}
 use Rattle.rv_insn.specs.declared.instructions.Insn.{Insn}
 use Rattle.rv_insn.specs.declared.instructions.Insn.TheVariants.{Lui, Jal, Branch, Load, Store as Save, AluImm, Shift, Alu}
 use Rattle.rv_insn.specs.declared.operations.BranchOp.TheVariants as branches

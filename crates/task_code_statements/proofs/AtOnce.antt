@@ -1,5 +1,6 @@
 -- A vectorized loop whose body is a single store, behind the values of split loops.
-use Rattle.std.proofs.Common.{◌≡◌, ℕ, zero, suc, ◌+◌, ◌/◌, ◌*◌, ◌<◌, ◌≤◌, List, [], ◌∷◌, ◌++◌, length, Bool, true, false, refl, ap, ◌∙◌, sym, subst, arith, cond}
+use Rattle.std.proofs.Common.{◌≡◌, ℕ, zero, suc, ◌+◌, ◌/◌, ◌*◌, ◌<◌, ◌≤◌, List, [], ◌∷◌, ◌++◌, length, Bool, true, false, refl, ap, ◌∙◌, sym, subst, arith}
+use Rattle.std.proofs.Common.{cond}
 use Rattle.std.specs.Prelude.{◌%◌, ◌^◌, ◌-◌, ◌&&◌, if◌then◌else◌, min, nat_lt, Option, Some, None}
 use Rattle.std.proofs.Math.Nat.{div-mul-le_self, le-mul_of_pos_right, lt-div-mul-add, mul-le-mul_right}
 use Rattle.std.proofs.lemmas.Bool.{true≢false}
@@ -94,7 +95,8 @@ store-of context known names body store first made own plain ek en eb one two es
       (subst (λ k. AreKnown k named) (sym ek) meets.known, subst (λ k. AreNames k named) (sym en) meets.named) in
       let is = store-then (AreKnown known) (AreNames names) store first made one two in
       ap (λ t. is_sound reads written loaded (s.Store t) named) es
-      ∙ sound_store reads written loaded made named ∙ same-sound (λ values. AreKnown known values × AreNames names values) store made is named are reads written loaded
+      ∙ sound_store reads written loaded made named ∙ same-sound (λ values. AreKnown known values × AreNames names values) store made is named are reads written
+      loaded
       ∙ plain-sound store plain values named same reads written loaded ∙ sym (sound_store reads written loaded store values) ∙ so;
 })
 
@@ -157,7 +159,8 @@ module _ (context within : Context) (counter : Counter) (whole : Whole) (extent 
   -- with values of names
   at-named : (values named : Values) → AreNamed values named → AreNamed (at values) (at named)
   at-named values named same =
-      subst (λ n. AreNamed (at values) (with counter n named)) (sym (is.plain values named same)) (named-with values named counter (whole_value whole values) same)
+      subst (λ n. AreNamed (at values) (with counter n named)) (sym (is.plain values named same)) (named-with values named counter (whole_value whole values)
+      same)
 
   statement-is : s.Bind counter whole extent body ≡ statement
   statement-is = sym (es ∙ ap (s.Bind counter whole extent) (sym eb))
@@ -528,7 +531,8 @@ vector-emits places scope context own lanes body made c0 c1 none words en are is
           let left = run own.points own.inputs (run_of lanes body) values funcs in
           let stored = stored_points own (run_of lanes body) values funcs in
           did-is refl
-          (left-as (passes made.fixed.items at0) left funcs (λ failed. none-run own lanes body values may funcs holds.are_words (is.none values named same meets failed)))
+          (left-as (passes made.fixed.items at0) left funcs (λ failed. none-run own lanes body values may funcs holds.are_words (is.none values named same meets
+          failed)))
           (λ func x y hit.
           stored-as (passes made.fixed.items at0) stored func x y
           (λ failed h. none-hit own lanes body values may funcs holds.are_words (is.none values named same meets failed) func x y h) hit)

@@ -50,12 +50,14 @@ module _ (own : Setting) where
   module _ (first second : Stmt) (values : Values) where
     sound-first : SoundIn own (s.Sequence first second) values → SoundIn own first values
     sound-first sound p words =
-        (and_parts (is_sound (reads_of own.inputs p) own.written own.loaded first values) (is_sound (reads_of own.inputs p) own.written own.loaded second values)
+        (and_parts (is_sound (reads_of own.inputs p) own.written own.loaded first values) (is_sound (reads_of own.inputs p) own.written own.loaded second
+        values)
         (sym (sound_sequence (reads_of own.inputs p) own.written own.loaded first second values) ∙ sound p words)).0
 
     sound-second : SoundIn own (s.Sequence first second) values → SoundIn own second values
     sound-second sound p words =
-        (and_parts (is_sound (reads_of own.inputs p) own.written own.loaded first values) (is_sound (reads_of own.inputs p) own.written own.loaded second values)
+        (and_parts (is_sound (reads_of own.inputs p) own.written own.loaded first values) (is_sound (reads_of own.inputs p) own.written own.loaded second
+        values)
         (sym (sound_sequence (reads_of own.inputs p) own.written own.loaded first second values) ∙ sound p words)).1
 
     runs-both : RunsIn own (s.Sequence first second) values → (p : Planes) → AreWords p → (func : ℕ) → own.in_runs func ≡ true → (x y : ℕ)

@@ -1,5 +1,6 @@
 -- Code that gives names their values, and what stands behind it.
-use Rattle.std.proofs.Common.{◌≡◌, ℕ, ◌+◌, ◌*◌, ◌%◌, ◌^◌, ◌<◌, List, [], ◌∷◌, ◌++◌, length, length-append, Bool, true, false, refl, ap, ◌∙◌, sym, subst, arith, inl, inr}
+use Rattle.std.proofs.Common.{◌≡◌, ℕ, ◌+◌, ◌*◌, ◌%◌, ◌^◌, ◌<◌, List, [], ◌∷◌, ◌++◌, length, length-append, Bool, true, false, refl, ap, ◌∙◌, sym, subst, arith}
+use Rattle.std.proofs.Common.{inl, inr}
 use Rattle.std.specs.Prelude.{Option, Some, None}
 use Rattle.std.specs.List.{list_all}
 use Rattle.std.proofs.lemmas.Bool.{true≢false}
@@ -193,7 +194,8 @@ pub name-holds : (places : Places) (scope : List Held) (context : Context) (coun
     → inner ≡ record { register = register; form = form } ∷ scope → c1 ≡ c0 ++ words
     → NamesHold c0 c1 places scope (Meets context) inner (Meets made)
 name-holds places scope context counter e register words made form inner c0 c1 is still steady new free x ef ei ec =
-    subst (λ l. NamesHold c0 c1 places scope (Meets context) l (Meets made)) (sym (ei ∙ ap (λ k. record { register = register; form = k } ∷ scope) ef)) (record {
+    subst (λ l. NamesHold c0 c1 places scope (Meets context) l (Meets made)) (sym (ei ∙ ap (λ k. record { register = register; form = k } ∷ scope) ef))
+    (record {
       insns = x.insns;
       emits = emits-apart c0 c1 words x.insns x.emits ec;
       named_as = λ named. with counter (value no_reads named e) named;

@@ -1,5 +1,6 @@
 -- Tests that a vectorized loop's store stands behind.
-use Rattle.std.proofs.Common.{◌≡◌, ℕ, ◌+◌, ◌<◌, ◌≤◌, ◌%◌, ◌^◌, List, [], ◌∷◌, ◌++◌, ◌-◌, length, get_or, take, drop, Bool, true, false, refl, ap, ◌∙◌, sym, subst, arith, cond}
+use Rattle.std.proofs.Common.{◌≡◌, ℕ, ◌+◌, ◌<◌, ◌≤◌, ◌%◌, ◌^◌, List, [], ◌∷◌, ◌++◌, ◌-◌, length, get_or, take, drop, Bool, true, false, refl, ap, ◌∙◌, sym}
+use Rattle.std.proofs.Common.{subst, arith, cond}
 use Rattle.std.specs.Prelude.{if◌then◌else◌, nat_lt}
 use Rattle.std.proofs.lemmas.Bool.{true≢false}
 use Rattle.std.proofs.lemmas.List.{append-nil, append_assoc}
@@ -24,7 +25,8 @@ use Rattle.task_code_runs.specs.declared.left.Left.{Left}
 use Rattle.task_code_runs.proofs.Fronts.{cons-of}
 use Rattle.task_code_statements.specs.declared.guards.Guard.{Guard}
 use Rattle.task_code_statements.specs.declared.guards.Parted.{Parted}
-use Rattle.task_code_statements.specs.Vectorizing.{AddsLeft, GuardsLack, IsLeft, IsParted, OneMore, StandsBehind, TestFirst, TestToo, WordsBehind, is_passed, passes}
+use Rattle.task_code_statements.specs.Vectorizing.{AddsLeft, GuardsLack, IsLeft, IsParted, OneMore, StandsBehind, TestFirst, TestToo, WordsBehind, is_passed}
+use Rattle.task_code_statements.specs.Vectorizing.{passes}
 use Rattle.task_code_statements.proofs.Following.{did-is}
 use Rattle.task_code_statements.proofs.Same.{form-sum, first-form}
 use Rattle.task_code_statements.proofs.Splitting.{is-below}
@@ -233,7 +235,8 @@ behind-one c0 c1 scope guards others first sum words inner is es tests rest body
           (λ func x y hit. ap (λ n. stored_if (nat_lt n first.extent) stored func x y) same ∙ hit)
           (g.does own hart values t left stored h memory funcs holders holds known
           (λ less k knows_so.
-          go (ap (λ c. cond c b false) (is-below (linear_value values first.sum) first.extent (subst (λ n. n < first.extent) same less)) ∙ passed) k knows_so))));
+          go (ap (λ c. cond c b false) (is-below (linear_value values first.sum) first.extent (subst (λ n. n < first.extent) same less))
+          ∙ passed) k knows_so))));
     })
 
 -- as the emitter calls it

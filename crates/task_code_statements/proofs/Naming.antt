@@ -27,9 +27,11 @@ module _ (store : Store) (plain : IsPlainStore store) (values named : Values) (a
       let x = value reads values store.x in
       let y = value reads values store.y in
       ap (λ k. written store.func k (value reads named store.y)
-      && list_all loaded (loads reads named store.x ++ (loads reads named store.y ++ loads reads named store.value))) (plain.column.value_is reads values named are)
+      && list_all loaded (loads reads named store.x ++ (loads reads named store.y ++ loads reads named store.value))) (plain.column.value_is reads values named
+      are)
       ∙ ap (λ k. written store.func x k
-      && list_all loaded (loads reads named store.x ++ (loads reads named store.y ++ loads reads named store.value))) (plain.row.value_is reads values named are)
+      && list_all loaded (loads reads named store.x ++ (loads reads named store.y ++ loads reads named store.value))) (plain.row.value_is reads values named
+      are)
       ∙ ap (λ k. written store.func x y && list_all loaded (k ++ (loads reads named store.y ++ loads reads named store.value))) (plain.column.loads_are
       reads values named are)
       ∙ ap (λ k. written store.func x y && list_all loaded (loads reads values store.x ++ (k ++ loads reads named store.value))) (plain.row.loads_are reads

@@ -103,7 +103,8 @@ none-emits places scope is_so counter count kind body c none =
 
 module _ (places : Places) (scope inner : List Held) (is_so within_so : Values → Type 0) (counter : Counter) (count : ℕ) (kind : LoopKind) (body : Stmt)
     (most : ℕ) (c0 c1 c2 c3 : List ℕ) where
-  pub loop-emits : is_vectorized kind ≡ false → ((values : Values) (i : ℕ) → i < count → is_so values → within_so (with counter i values)) → (x : EmitsStatement c1 c2 places inner within_so body)
+  pub loop-emits : is_vectorized kind ≡ false → ((values : Values) (i : ℕ) → i < count → is_so values → within_so (with counter i values))
+      → (x : EmitsStatement c1 c2 places inner within_so body)
       → MakesLoop c0 c3 most scope inner counter count x.insns → EmitsStatement c0 c3 places scope is_so (s.For counter count kind body)
   loop-emits plain within-meets x loop = record {
     insns = loop.insns;
@@ -125,7 +126,8 @@ module _ (places : Places) (scope inner : List Held) (is_so within_so : Values �
 
 pub loop-arm : (places : Places) (scope : List Held) (is_so within_so : Values → Type 0) (counter : Counter) (count : ℕ) (kind : LoopKind) (body : Stmt)
     (begun : Begun) (view : List Held) (most reserved start : ℕ) (c0 c1 c2 c3 : List ℕ) → is_vectorized kind ≡ false
-    → ((values : Values) (i : ℕ) → i < count → is_so values → within_so (with counter i values)) → mentions counter scope ≡ false → IsBegun c0 c1 most counter count scope reserved begun
+    → ((values : Values) (i : ℕ) → i < count → is_so values → within_so (with counter i values)) → mentions counter scope ≡ false
+    → IsBegun c0 c1 most counter count scope reserved begun
     → view ≡ begun.inner.items → start ≡ length c1 → EmitsStatement c1 c2 places view within_so body
     → EndsLoop c2 c3 begun (length c2 - start) → EmitsStatement c0 c3 places scope is_so (s.For counter count kind body)
 loop-arm places scope is_so within_so counter count kind body begun view most reserved start c0 c1 c2 c3 plain meets none begins ev es x ends =

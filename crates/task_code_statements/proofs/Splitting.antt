@@ -56,7 +56,8 @@ unfolding linear_value word.multiply
 product-made whole own none one e0 e1 es values =
     let n = values whole.outer * whole.factor in
     let g : (0 + (n + 0)) % 2 ^ 32 ≡ n % 2 ^ 32 = omega arith in
-    ap (linear_value values) (es ∙ ap (λ l. record { number = 0; terms = l }) (e1 ∙ ap (λ l. l ++ (record { counter = whole.outer; stride = whole.factor } ∷ [])) e0)) ∙ g
+    ap (linear_value values) (es ∙ ap (λ l. record { number = 0; terms = l }) (e1
+    ∙ ap (λ l. l ++ (record { counter = whole.outer; stride = whole.factor } ∷ [])) e0)) ∙ g
 
 pub product-is : (context : Context) (known : List Known) (whole : Whole) (none one : List Term) (made : Linear) → known ≡ context.known.items → none ≡ []
     → one ≡ none ++ (record { counter = whole.outer; stride = whole.factor } ∷ []) → IsSameSum known (record { number = 0; terms = one }) made

@@ -107,7 +107,12 @@ task-emits phase places ticket scope context c0 c1 c2 lt ls begins x z =
         does = λ own good at-places task less sound once sure f memory funcs holds is.
             let values = task_values phase.counter task in
             let knows = begins.knows own.world.hart task f less is.none is.number is.drawn in
-            let a = x.does own good at-places values values (named-same values) begins.holders (begins.meets task less) (record { sound = sound; at_once = once; in_runs = sure }) f memory funcs holds knows in
+            let a = x.does own good at-places values values (named-same values) begins.holders (begins.meets task less) (record {
+              sound = sound;
+              at_once =
+                  once;
+              in_runs = sure;
+            }) f memory funcs holds knows in
             let b = restores own.world a.left a.holds.size a.after ticket phase.tasks lt ls in
             let k = kept-harts scope in
             record {

@@ -83,7 +83,7 @@ fn keep_others(
 }
 
 /// Whether a number is known below which the loop variable stays.
-pub fn is_bounded(bounds: &[Bound], counter: Counter) -> bool
+pub(crate) fn is_bounded(bounds: &[Bound], counter: Counter) -> bool
     ensures { result ≡ contexts.is_bounded bounds.now counter }
 {
     match bounds {

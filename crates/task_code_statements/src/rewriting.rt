@@ -24,7 +24,7 @@ pub fn sum_by_others(alloc: Global, own: &Linear, known: &[Known]) -> Result<Lin
 }
 
 /// A number or a sum as a sum.
-pub fn leaf_sum(alloc: Global, e: &Expr) -> Result<Option<Linear>, AllocError>
+pub(crate) fn leaf_sum(alloc: Global, e: &Expr) -> Result<Option<Linear>, AllocError>
     ensures { IfOk result (λ found. IfSome found (IsLeafSum e.now)) }
 {
     match e {

@@ -94,7 +94,8 @@ remainder-low x k l few =
         let dy : 2 ^ k * (y / 2 ^ k) + t ≡ y = omega (arith, p) in
         let both : (x / 2 ^ k + y / 2 ^ k) * 2 ^ k + (s + t + 1) ≡ 2 ^ 32 = omega (arith, dx, dy, l) in
         let n : 32 - k + k ≡ 32 = omega (arith, few) in
-        let whole : 2 ^ 32 ≡ 2 ^ (32 - k) * 2 ^ k + 0 = ap (λ j. 2 ^ j) (sym n) ∙ pow-add 2 (32 - k) k ∙ (let g : 2 ^ (32 - k) * 2 ^ k ≡ 2 ^ (32 - k) * 2 ^ k + 0 =
+        let whole : 2 ^ 32 ≡ 2 ^ (32 - k) * 2 ^ k + 0 = ap (λ j. 2 ^ j) (sym n) ∙ pow-add 2 (32 - k) k
+        ∙ (let g : 2 ^ (32 - k) * 2 ^ k ≡ 2 ^ (32 - k) * 2 ^ k + 0 =
         omega arith in g) in
         let e = ap (λ j. j % 2 ^ k) (both ∙ whole) ∙ low (2 ^ (32 - k)) k p in
         let g = low-parts k (x / 2 ^ k + y / 2 ^ k) s t ls lt e in

@@ -168,7 +168,8 @@ module _ (places : Places) (scope : List Held) (store : Store) (o : Operation) (
         let sg = λ (n : ℕ) (h : IsKept scope n). g.keeps n (kept-below scope n first_value (omega arith) holders h) in
         let kg = knows-still w.hart scope values b.after g.after sg kb in
         let d = fetched w memory size place g.after second_value first_value offset (address place w.hart xv yv) (reads (sources.Func store.func) xv yv)
-        (omega arith, omega arith) (omega arith) z.fits z.small g.value (can-pixel w place memory xv yv (reads (sources.Func store.func) xv yv) can-pixel-here) in
+        (omega arith, omega arith) (omega arith) z.fits z.small g.value (can-pixel w place memory xv yv (reads (sources.Func store.func) xv yv) can-pixel-here)
+        in
         let sd = λ (n : ℕ) (h : IsKept scope n). d.keeps n (kept-below scope n second_value (omega arith) holders h) in
         let kd = knows-still w.hart scope values g.after d.after sd kg in
         let t = change.does w memory values reads d.after size holders kd both.1 (subst (λ n. n < 2 ^ 32) (sym d.value) d.small) in

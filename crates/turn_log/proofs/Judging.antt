@@ -1,5 +1,6 @@
 -- Judging runs one after the other, as a loop does.
-use Rattle.std.proofs.Common.{◌≡◌, ℕ, suc, ◌+◌, ◌-◌, ◌<◌, ◌≤◌, Bool, true, false, cond, ◌||◌, eqb, ltb, leb, List, [], ◌∷◌, ◌++◌, length, drop, replicate, Option, Some, Result, Ok, Err, refl, sym, ap, ◌∙◌, arith}
+use Rattle.std.proofs.Common.{◌≡◌, ℕ, suc, ◌+◌, ◌-◌, ◌<◌, ◌≤◌, Bool, true, false, cond, ◌||◌, eqb, ltb, leb, List, [], ◌∷◌, ◌++◌, length, drop, replicate}
+use Rattle.std.proofs.Common.{Option, Some, Result, Ok, Err, refl, sym, ap, ◌∙◌, arith}
 use Rattle.std.specs.Prelude.{slice_get, get_or}
 use Rattle.std.specs.List.{AllByRecursion}
 use Rattle.std.specs.Option.{option_eq}
@@ -23,12 +24,14 @@ behind (run ∷ before) runs = behind before (run ∷ runs)
 abbrev pub with_front : List Run → Result (List Run × List ℕ) LogFault → Result (List Run × List ℕ) LogFault
 with_front before read = read >>= λ x. Ok (behind before x.0, x.1)
 
-regroup : (before : List Run) (run : Run) (read : Result (List Run × List ℕ) LogFault) → with_front before (read >>= λ x. Ok (run ∷ x.0, x.1)) ≡ with_front (run ∷ before) read
+regroup : (before : List Run) (run : Run) (read : Result (List Run × List ℕ) LogFault) → with_front before (read >>= λ x. Ok (run ∷ x.0, x.1))
+    ≡ with_front (run ∷ before) read
 regroup before run (Ok x) = refl
 regroup before run (Err fault) = refl
 
 -- the run at the front of enough bytes is the one that they spell, as it is judged
-front_run-long : (harts : ℕ) (before : List Run) (bytes : List ℕ) → 9 ≤ length bytes → front_run harts before bytes ≡ (judged harts before (run_read bytes) >>= λ run. Ok (run, drop 9 bytes))
+front_run-long : (harts : ℕ) (before : List Run) (bytes : List ℕ) → 9 ≤ length bytes
+    → front_run harts before bytes ≡ (judged harts before (run_read bytes) >>= λ run. Ok (run, drop 9 bytes))
 unfolding front_run
 front_run-long harts before bytes long = let e : ltb (length bytes) 9 ≡ false = le-ltb _ _ long in rw e refl
 
@@ -36,18 +39,22 @@ front_run-short : (harts : ℕ) (before : List Run) (bytes : List ℕ) → lengt
 unfolding front_run
 front_run-short harts before bytes short = let e : ltb (length bytes) 9 ≡ true = lt-ltb _ _ short in rw e refl
 
-pub goes_on : (harts count i : ℕ) (before : List Run) (bytes : List ℕ) (run : Run) (total : Result (List Run × List ℕ) LogFault) → i < count → 9 ≤ length bytes → run ≡ run_read bytes → judged harts before run ≡ Ok run
-    → with_front before (front_runs harts (count - i) before bytes) ≡ total → with_front (run ∷ before) (front_runs harts (count - (i + 1)) (run ∷ before) (drop 9 bytes)) ≡ total
+pub goes_on : (harts count i : ℕ) (before : List Run) (bytes : List ℕ) (run : Run) (total : Result (List Run × List ℕ) LogFault) → i < count → 9 ≤ length bytes
+    → run ≡ run_read bytes → judged harts before run ≡ Ok run
+    → with_front before (front_runs harts (count - i) before bytes) ≡ total
+    → with_front (run ∷ before) (front_runs harts (count - (i + 1)) (run ∷ before) (drop 9 bytes)) ≡ total
 unfolding front_runs
 goes_on harts count i before bytes run total lt long is ok so_far =
     let k : count - i ≡ suc (count - (i + 1)) = omega arith in
     let at : front_run harts before bytes ≡ Ok (run, drop 9 bytes) = front_run-long harts before bytes long ∙ rw (← is, ok) refl in
-    let one : with_front before (front_runs harts (count - i) before bytes) ≡ with_front (run ∷ before) (front_runs harts (count - (i + 1)) (run ∷ before) (drop 9 bytes)) =
+    let one : with_front before (front_runs harts (count - i) before bytes) ≡ with_front (run ∷ before) (front_runs harts (count - (i + 1)) (run ∷ before)
+    (drop 9 bytes)) =
     rw (k, at) (regroup before run (front_runs harts (count - (i + 1)) (run ∷ before) (drop 9 bytes))) in
     sym one ∙ so_far
 
 -- the first run that has a fault ends it
-ends : (harts count i : ℕ) (before : List Run) (bytes : List ℕ) (fault : LogFault) (total : Result (List Run × List ℕ) LogFault) → i < count → front_run harts before bytes ≡ Err fault
+ends : (harts count i : ℕ) (before : List Run) (bytes : List ℕ) (fault : LogFault) (total : Result (List Run × List ℕ) LogFault) → i < count
+    → front_run harts before bytes ≡ Err fault
     → with_front before (front_runs harts (count - i) before bytes) ≡ total → total ≡ Err fault
 unfolding front_runs
 ends harts count i before bytes fault total lt at so_far =
@@ -59,12 +66,14 @@ pub ends_short : (harts count i : ℕ) (before : List Run) (bytes : List ℕ) (t
     → with_front before (front_runs harts (count - i) before bytes) ≡ total → total ≡ Err Truncated
 ends_short harts count i before bytes total lt short = ends harts count i before bytes Truncated total lt (front_run-short harts before bytes short)
 
-pub ends_judged : (harts count i : ℕ) (before : List Run) (bytes : List ℕ) (run : Run) (fault : LogFault) (total : Result (List Run × List ℕ) LogFault) → i < count → 9 ≤ length bytes → run ≡ run_read bytes → judged harts before run ≡ Err fault
+pub ends_judged : (harts count i : ℕ) (before : List Run) (bytes : List ℕ) (run : Run) (fault : LogFault) (total : Result (List Run × List ℕ) LogFault)
+    → i < count → 9 ≤ length bytes → run ≡ run_read bytes → judged harts before run ≡ Err fault
     → with_front before (front_runs harts (count - i) before bytes) ≡ total → total ≡ Err fault
 ends_judged harts count i before bytes run fault total lt long is bad =
     ends harts count i before bytes fault total lt (front_run-long harts before bytes long ∙ rw (← is, bad) refl)
 
-pub is_done : (harts count i : ℕ) (before : List Run) (bytes : List ℕ) (total : Result (List Run × List ℕ) LogFault) → count ≤ i → with_front before (front_runs harts (count - i) before bytes) ≡ total → total ≡ Ok (behind before [], bytes)
+pub is_done : (harts count i : ℕ) (before : List Run) (bytes : List ℕ) (total : Result (List Run × List ℕ) LogFault) → count ≤ i
+    → with_front before (front_runs harts (count - i) before bytes) ≡ total → total ≡ Ok (behind before [], bytes)
 unfolding front_runs
 is_done harts count i before bytes total le so_far =
     let k : count - i ≡ 0 = omega arith in
@@ -85,7 +94,8 @@ starts harts count bytes =
 -- the runs in their order stand for the turns so far
 pub expanded-behind : (before runs : List Run) → expanded (behind before runs) ≡ turns_before before ++ expanded runs
 expanded-behind [] runs = refl
-expanded-behind (run ∷ before) runs = expanded-behind before (run ∷ runs) ∙ sym (append_assoc (turns_before before) (replicate run.length run.hart) (expanded runs))
+expanded-behind (run ∷ before) runs = expanded-behind before (run ∷ runs)
+    ∙ sym (append_assoc (turns_before before) (replicate run.length run.hart) (expanded runs))
 
 pub expanded-all : (before : List Run) → expanded (behind before []) ≡ turns_before before
 expanded-all before = expanded-behind before [] ∙ append-nil (turns_before before)
@@ -105,15 +115,18 @@ last_behind turns turn n some =
     let len : length all ≡ length turns + n = length-append turns (replicate n turn) ∙ ap (λ (k : ℕ). length turns + k) (length-replicate n turn) in
     let place : length all - 1 ≡ length turns + (n - 1) = omega (arith, len, some) in
     slice_get-get_or all (length all - 1) 0 (omega (arith, len, some))
-    ∙ ap (λ (h : ℕ). Some h) (ap (λ (k : ℕ). get_or all k 0) place ∙ get_or-append-add turns (replicate n turn) (n - 1) 0 ∙ get_or-replicate n (n - 1) turn 0 (omega (arith, some)))
+    ∙ ap (λ (h : ℕ). Some h) (ap (λ (k : ℕ). get_or all k 0) place ∙ get_or-append-add turns (replicate n turn) (n - 1) 0
+    ∙ get_or-replicate n (n - 1) turn 0 (omega (arith, some)))
 
-pub begins_with-last : (before : List Run) (hart : ℕ) → AllByRecursion (λ run. 0 < run.length) before → begins_with before hart ≡ has_last (turns_before before) hart
+pub begins_with-last : (before : List Run) (hart : ℕ) → AllByRecursion (λ run. 0 < run.length) before
+    → begins_with before hart ≡ has_last (turns_before before) hart
 begins_with-last [] hart some = refl
 begins_with-last (run ∷ before) hart some =
     sym (ap (λ (o : Option ℕ). option_eq eqb o (Some hart)) (last_behind (turns_before before) run.hart run.length some.0))
 
 -- what the log so far says of a further run
-pub judged_too_many : (harts : ℕ) (before : List Run) (run : Run) → run.hart < harts → (run.length ≡ 0 → ⊥) → begins_with before run.hart ≡ false → most_turns < total_of before run.hart + run.length → judged harts before run ≡ Err TooManyTurns
+pub judged_too_many : (harts : ℕ) (before : List Run) (run : Run) → run.hart < harts → (run.length ≡ 0 → ⊥) → begins_with before run.hart ≡ false
+    → most_turns < total_of before run.hart + run.length → judged harts before run ≡ Err TooManyTurns
 unfolding judged
 judged_too_many harts before run below some other many =
     let is_below : leb harts run.hart ≡ false = lt-leb harts run.hart below in
@@ -121,7 +134,8 @@ judged_too_many harts before run below some other many =
     let too_many : ltb most_turns (total_of before run.hart + run.length) ≡ true = lt-ltb _ _ many in
     rw (is_below, goes_on, too_many) refl
 
-pub judged_joins : (harts : ℕ) (before : List Run) (run : Run) → run.hart < harts → (run.length ≡ 0 → ⊥) → begins_with before run.hart ≡ true → judged harts before run ≡ Err NotCanonical
+pub judged_joins : (harts : ℕ) (before : List Run) (run : Run) → run.hart < harts → (run.length ≡ 0 → ⊥) → begins_with before run.hart ≡ true
+    → judged harts before run ≡ Err NotCanonical
 unfolding judged
 judged_joins harts before run below some other =
     let is_below : leb harts run.hart ≡ false = lt-leb harts run.hart below in

@@ -1,10 +1,12 @@
 -- Runs as a log keeps them: where they are found, what one more makes of them, where they end.
-use Rattle.std.proofs.Common.{◌≡◌, ℕ, zero, suc, ◌+◌, ◌-◌, ◌<◌, ◌≤◌, Bool, true, false, cond, eqb, leb, List, [], ◌∷◌, ◌++◌, length, drop, replicate, Option, Some, None, refl, sym, ap, subst, ◌∙◌, zero-add, arith, inl, inr}
+use Rattle.std.proofs.Common.{◌≡◌, ℕ, zero, suc, ◌+◌, ◌-◌, ◌<◌, ◌≤◌, Bool, true, false, cond, eqb, leb, List, [], ◌∷◌, ◌++◌, length, drop, replicate, Option}
+use Rattle.std.proofs.Common.{Some, None, refl, sym, ap, subst, ◌∙◌, zero-add, arith, inl, inr}
 use Rattle.std.specs.Prelude.{slice_get, get_or, set}
 use Rattle.std.specs.List.{flat_map}
 use Rattle.std.specs.List.Sorted.{IsNonDecreasingBy, IsPartitionPoint}
 use Rattle.std.proofs.lemmas.Bool.{cond_both, cond-true, cond-false, eqb-true, eqb-false, ne_eqb, cases_Bool, cases_lt}
-use Rattle.std.proofs.lemmas.List.{append_assoc, append-nil, length-append, length-replicate, get_or-append-add, get_or-replicate, get_or_past, length-set, get_or-set_same, get_or-set_other}
+use Rattle.std.proofs.lemmas.List.{append_assoc, append-nil, length-append, length-replicate, get_or-append-add, get_or-replicate, get_or_past, length-set}
+use Rattle.std.proofs.lemmas.List.{get_or-set_same, get_or-set_other}
 use Rattle.std.proofs.lemmas.List.Elements.{recursion_from_All}
 use Rattle.std.proofs.lemmas.Option.{slice_get-get_or}
 use Rattle.std.proofs.Math.Seq.{drop-nil}
@@ -20,7 +22,8 @@ use Rattle.turn_log.proofs.RunLaws.{runs_of-expanded, IsLog-push_run, count_of-p
 
 -- ---- the ends rise
 
-ends_above : (harts start : ℕ) (runs : List Stretch) → AreRuns harts (runs_from start runs) → (j : ℕ) (d : Stretch) → j < length runs → start < (get_or runs j d).end
+ends_above : (harts start : ℕ) (runs : List Stretch) → AreRuns harts (runs_from start runs) → (j : ℕ) (d : Stretch) → j < length runs
+    → start < (get_or runs j d).end
 ends_above harts start [] are j d lt = absurd (omega arith)
 ends_above harts start (run ∷ runs) are zero d lt = let some = are.0.some in omega (arith, some)
 ends_above harts start (run ∷ runs) are (suc j) d lt =
@@ -72,7 +75,8 @@ found harts start place (suc i) (run ∷ runs) d are le below above =
     ∙ found harts run.end place i runs d are.1 before (λ j lt. below (suc j) (omega arith)) (λ j ge lt. above (suc j) (omega arith) (omega arith))
 
 -- the same by where a search finds it
-pub run_at-found : (harts place i : ℕ) (runs : List Stretch) → AreRuns harts (runs_from 0 runs) → IsPartitionPoint (λ (run : Stretch). run.end ≤ place) (λ (run : Stretch). place < run.end) runs i
+pub run_at-found : (harts place i : ℕ) (runs : List Stretch) → AreRuns harts (runs_from 0 runs)
+    → IsPartitionPoint (λ (run : Stretch). run.end ≤ place) (λ (run : Stretch). place < run.end) runs i
     → run_at (turns_of runs) place ≡ from place (slice_get runs i)
 unfolding run_at
 run_at-found harts place i runs are point =
@@ -89,8 +93,10 @@ same_at (run ∷ runs) zero d e lt = refl
 same_at (run ∷ runs) (suc place) d e lt = same_at runs place d e (omega arith)
 
 -- a run that ends behind a place, where the one before it, if there is one, ends there or before
-pub point-at : (runs : List Stretch) (k place : ℕ) (d : Stretch) → IsNonDecreasingBy (λ (run : Stretch). run.end) runs → place < length runs → k < (get_or runs place d).end
-    → ((j : ℕ) → j < place → (get_or runs (place - 1) d).end ≤ k) → IsPartitionPoint (λ (run : Stretch). run.end ≤ k) (λ (run : Stretch). k < run.end) runs place
+pub point-at : (runs : List Stretch) (k place : ℕ) (d : Stretch) → IsNonDecreasingBy (λ (run : Stretch). run.end) runs → place < length runs
+    → k < (get_or runs place d).end
+    → ((j : ℕ) → j < place → (get_or runs (place - 1) d).end ≤ k) → IsPartitionPoint (λ (run : Stretch). run.end ≤ k) (λ (run : Stretch). k < run.end) runs
+    place
 point-at runs k place d rise within behind before = (
   λ j e _ lt.
       let same = ap (λ (run : Stretch). run.end) (same_at runs j e d (omega (arith, lt, within))) in
@@ -136,14 +142,23 @@ last_end-last [] = refl
 last_end-last (first ∷ others) = last_end-more 0 first others
 
 -- the turns are as many as the last end says
-pub length-turns : (harts start : ℕ) (runs : List Stretch) → AreRuns harts (runs_from start runs) → start + length (expanded (runs_from start runs)) ≡ last_end start runs
+pub length-turns : (harts start : ℕ) (runs : List Stretch) → AreRuns harts (runs_from start runs) → start + length (expanded (runs_from start runs))
+    ≡ last_end start runs
 length-turns harts start [] are = omega arith
 length-turns harts start (run ∷ runs) are =
     let rest = length-turns harts run.end runs are.1 in
     let some = are.0.some in
-    omega (arith, rest, some, length-append (replicate (run.end - start) run.hart) (expanded (runs_from run.end runs)), length-replicate (run.end - start) run.hart)
+    omega (
+      arith,
+      rest,
+      some,
+      length-append (replicate (run.end - start) run.hart) (expanded (runs_from run.end runs)),
+      length-replicate (run.end - start)
+          run.hart,
+    )
 
-pub some_turns : (harts start : ℕ) (run : Stretch) (runs : List Stretch) → AreRuns harts (runs_from start (run ∷ runs)) → 0 < length (expanded (runs_from start (run ∷ runs)))
+pub some_turns : (harts start : ℕ) (run : Stretch) (runs : List Stretch) → AreRuns harts (runs_from start (run ∷ runs))
+    → 0 < length (expanded (runs_from start (run ∷ runs)))
 some_turns harts start run runs are =
     let some = are.0.some in
     omega (arith, some, length-append (replicate (run.end - start) run.hart) (expanded (runs_from run.end runs)), length-replicate (run.end - start) run.hart)
@@ -158,13 +173,15 @@ last_turn harts start (first ∷ []) run are e =
     let turns = replicate n first.hart in
     let len : length turns ≡ n = length-replicate n first.hart in
     let alone : expanded (runs_from start (first ∷ [])) ≡ turns = append-nil turns in
-    ap (λ (ts : List ℕ). get_or ts (length ts - 1) 0) alone ∙ get_or-replicate n (length turns - 1) first.hart 0 (omega (arith, len, some)) ∙ ap (λ (r : Stretch). r.hart) same
+    ap (λ (ts : List ℕ). get_or ts (length ts - 1) 0) alone ∙ get_or-replicate n (length turns - 1) first.hart 0 (omega (arith, len, some))
+    ∙ ap (λ (r : Stretch). r.hart) same
 last_turn harts start (first ∷ (second ∷ others)) run are e =
     let turns = replicate (first.end - start) first.hart in
     let rest = expanded (runs_from first.end (second ∷ others)) in
     let some = some_turns harts first.end second others are.1 in
     let place : length (turns ++ rest) - 1 ≡ length turns + (length rest - 1) = omega (arith, some, length-append turns rest) in
-    ap (λ (k : ℕ). get_or (turns ++ rest) k 0) place ∙ get_or-append-add turns rest (length rest - 1) 0 ∙ last_turn harts first.end (second ∷ others) run are.1 e
+    ap (λ (k : ℕ). get_or (turns ++ rest) k 0) place ∙ get_or-append-add turns rest (length rest - 1) 0
+    ∙ last_turn harts first.end (second ∷ others) run are.1 e
 
 -- ---- one run more
 
@@ -196,7 +213,8 @@ turns-with_run harts start (first ∷ (second ∷ others)) run are lt =
     ap (λ (ts : List ℕ). turns ++ ts) rest
     ∙ sym (append_assoc turns (expanded (runs_from first.end (second ∷ others))) (replicate (run.end - last_end first.end (second ∷ others)) run.hart))
 
-begins_with-with_run : (start : ℕ) (first : Stretch) (others : List Stretch) (run : Stretch) (hart : ℕ) → begins_with (runs_from start (with_run (first ∷ others) run)) hart ≡ begins_with (runs_from start (first ∷ others)) hart
+begins_with-with_run : (start : ℕ) (first : Stretch) (others : List Stretch) (run : Stretch) (hart : ℕ)
+    → begins_with (runs_from start (with_run (first ∷ others) run)) hart ≡ begins_with (runs_from start (first ∷ others)) hart
 begins_with-with_run start first [] run hart =
     cond_both (eqb first.hart run.hart) (run ∷ []) (first ∷ run ∷ []) (λ (made : List Stretch). begins_with (runs_from start made) hart ≡ eqb first.hart hart)
     (λ e. let same : first.hart ≡ run.hart = eqb-true first.hart run.hart e in ap (λ (h : ℕ). eqb h hart) (sym same))
@@ -206,13 +224,25 @@ begins_with-with_run start first (second ∷ others) run hart = refl
 other_way : (a b : ℕ) → eqb a b ≡ false → eqb b a ≡ false
 other_way a b e = ne_eqb b a (λ same. eqb-false a b e (sym same))
 
-pub AreRuns-with_run : (harts start : ℕ) (runs : List Stretch) (run : Stretch) → AreRuns harts (runs_from start runs) → last_end start runs < run.end → run.hart < harts → AreRuns harts (runs_from start (with_run runs run))
+pub AreRuns-with_run : (harts start : ℕ) (runs : List Stretch) (run : Stretch) → AreRuns harts (runs_from start runs) → last_end start runs < run.end
+    → run.hart < harts → AreRuns harts (runs_from start (with_run runs run))
 AreRuns-with_run harts start [] run are lt below = (record { below = below; some = omega (arith, lt); other = refl }, tt)
 AreRuns-with_run harts start (last ∷ []) run are lt below =
     let some = are.0.some in
     cond_both (eqb last.hart run.hart) (run ∷ []) (last ∷ run ∷ []) (λ (made : List Stretch). AreRuns harts (runs_from start made))
     (λ e. (record { below = below; some = omega (arith, lt, some); other = refl }, tt))
-    (λ e. (record { below = are.0.below; some = some; other = other_way last.hart run.hart e }, (record { below = below; some = omega (arith, lt); other = refl }, tt)))
+    (λ e. (
+      record { below = are.0.below; some = some; other = other_way last.hart run.hart e },
+      (
+        record {
+          below = below;
+          some = omega (arith, lt);
+          other =
+              refl;
+        },
+        tt,
+      ),
+    ))
 AreRuns-with_run harts start (first ∷ (second ∷ others)) run are lt below = (
   record { below = are.0.below; some = are.0.some; other = begins_with-with_run first.end second others run first.hart ∙ are.0.other },
   AreRuns-with_run harts first.end (second ∷ others) run are.1 lt below,
@@ -223,7 +253,8 @@ AreRuns-with_run harts start (first ∷ (second ∷ others)) run are lt below = 
 pub with_run-joins : (runs : List Stretch) (run : Stretch) → is_of (last_of runs) run.hart ≡ true → set runs (length runs - 1) run ≡ with_run runs run
 with_run-joins [] run same = absurd cc
 with_run-joins (first ∷ []) run same = sym (cond-true (eqb first.hart run.hart) (run ∷ []) (first ∷ run ∷ []) same)
-with_run-joins (first ∷ (second ∷ others)) run same = ap (λ (k : ℕ). set (first ∷ (second ∷ others)) k run) (one_less first second others) ∙ ap (λ (rs : List Stretch). first ∷ rs) (with_run-joins (second ∷ others) run same)
+with_run-joins (first ∷ (second ∷ others)) run same = ap (λ (k : ℕ). set (first ∷ (second ∷ others)) k run) (one_less first second others)
+    ∙ ap (λ (rs : List Stretch). first ∷ rs) (with_run-joins (second ∷ others) run same)
 
 pub with_run-opens : (runs : List Stretch) (run : Stretch) → is_of (last_of runs) run.hart ≡ false → runs ++ run ∷ [] ≡ with_run runs run
 with_run-opens [] run other = refl
@@ -248,14 +279,16 @@ pub last_hart-none : (runs : List Stretch) → last_of runs ≡ None → slice_g
 last_hart-none [] e = refl
 last_hart-none (first ∷ others) e = absurd (last_of-there first others e)
 
-pub last_hart-some : (harts : ℕ) (runs : List Stretch) (run : Stretch) → AreRuns harts (runs_from 0 runs) → last_of runs ≡ Some run → slice_get (turns_of runs) (length (turns_of runs) - 1) ≡ Some run.hart
+pub last_hart-some : (harts : ℕ) (runs : List Stretch) (run : Stretch) → AreRuns harts (runs_from 0 runs) → last_of runs ≡ Some run
+    → slice_get (turns_of runs) (length (turns_of runs) - 1) ≡ Some run.hart
 last_hart-some harts [] run are e = absurd cc
 last_hart-some harts (first ∷ others) run are e =
     let turns = turns_of (first ∷ others) in
     let some = some_turns harts 0 first others are in
     slice_get-get_or turns (length turns - 1) 0 (omega (arith, some)) ∙ ap (λ (h : ℕ). Some h) (last_turn harts 0 (first ∷ others) run are e)
 
-other_hart : (harts : ℕ) (runs : List Stretch) (hart : ℕ) (last : Option Stretch) → last_of runs ≡ last → AreRuns harts (runs_from 0 runs) → is_of last hart ≡ false
+other_hart : (harts : ℕ) (runs : List Stretch) (hart : ℕ) (last : Option Stretch) → last_of runs ≡ last → AreRuns harts (runs_from 0 runs)
+    → is_of last hart ≡ false
     → slice_get (turns_of runs) (length (turns_of runs) - 1) ≡ Some hart → ⊥
 other_hart harts runs hart None e are other same = let none = last_hart-none runs e in absurd cc
 other_hart harts runs hart (Some run) e are other same =
@@ -273,14 +306,16 @@ last_turn-other harts runs hart are other = other_hart harts runs hart (last_of 
 pub length-none : (runs : List Stretch) → last_of runs ≡ None → length (turns_of runs) ≡ 0
 length-none runs e = ap length (no_turns runs e)
 
-pub length-some : (harts : ℕ) (runs : List Stretch) (run : Stretch) → AreRuns harts (runs_from 0 runs) → last_of runs ≡ Some run → length (turns_of runs) ≡ run.end
+pub length-some : (harts : ℕ) (runs : List Stretch) (run : Stretch) → AreRuns harts (runs_from 0 runs) → last_of runs ≡ Some run
+    → length (turns_of runs) ≡ run.end
 length-some harts runs run are e =
     let all = length-turns harts 0 runs are in
     let last : last_end 0 runs ≡ run.end = last_end-last runs ∙ ap end_of e in
     omega (arith, all, last)
 
 -- a total by its place, also of a hart that there isn't
-pub counted_at : (harts : ℕ) (totals : List ℕ) (runs : List Stretch) (hart : ℕ) → IsKept harts totals runs → get_or totals hart 0 ≡ count_of (turns_of runs) hart
+pub counted_at : (harts : ℕ) (totals : List ℕ) (runs : List Stretch) (hart : ℕ) → IsKept harts totals runs
+    → get_or totals hart 0 ≡ count_of (turns_of runs) hart
 counted_at harts totals runs hart is =
     elim (cases_lt hart 8) [
       | inl lt ↦ is.counted hart lt
@@ -306,7 +341,8 @@ grown harts totals runs run count is below some room ends =
     let all = length-turns harts 0 runs is.runs in
     let later : last_end 0 runs < run.end = omega (arith, all, ends, some) in
     let n : run.end - last_end 0 runs ≡ count = omega (arith, all, ends, some) in
-    let turns : turns_of (with_run runs run) ≡ turns_of runs ++ replicate count run.hart = turns-with_run harts 0 runs run is.runs later ∙ ap (λ (k : ℕ). turns_of runs ++ replicate k run.hart) n in
+    let turns : turns_of (with_run runs run) ≡ turns_of runs ++ replicate count run.hart = turns-with_run harts 0 runs run is.runs later
+    ∙ ap (λ (k : ℕ). turns_of runs ++ replicate k run.hart) n in
     let log : LogState = record { harts = harts; turns = turns_of runs } in
     let total = get_or totals run.hart 0 + count in
     let places = is.places in
@@ -318,13 +354,16 @@ grown harts totals runs run count is below some room ends =
         places = length-set totals run.hart total ∙ is.places;
         counted = λ hart lt.
             let counted = is.counted hart lt in
-            let more : count_of (turns_of (with_run runs run)) hart ≡ count_of (turns_of runs) hart + cond (eqb run.hart hart) count 0 = ap (λ (ts : List ℕ). count_of ts hart) turns ∙ count_of-push_run (turns_of runs) run.hart count hart in
+            let more : count_of (turns_of (with_run runs run)) hart ≡ count_of (turns_of runs) hart + cond (eqb run.hart hart) count 0 =
+            ap (λ (ts : List ℕ). count_of ts hart) turns ∙ count_of-push_run (turns_of runs) run.hart count hart in
             elim (cases_Bool (eqb run.hart hart)) [
               | inl e ↦
                   let same : run.hart ≡ hart = eqb-true run.hart hart e in
                   let here : is_number (cond (eqb run.hart hart) count 0) count = cond-true (eqb run.hart hart) count 0 e in
-                  let new : get_or (set totals run.hart total) run.hart 0 ≡ total = get_or-set_same totals run.hart total 0 (omega (arith, places, few, below)) in
-                  ap (λ (h : ℕ). get_or (set totals run.hart total) h 0) (sym same) ∙ new ∙ ap (λ (h : ℕ). get_or totals h 0 + count) same ∙ ap (λ (k : ℕ). k + count) counted
+                  let new : get_or (set totals run.hart total) run.hart 0 ≡ total = get_or-set_same totals run.hart total 0 (omega (arith, places, few, below))
+                  in
+                  ap (λ (h : ℕ). get_or (set totals run.hart total) h 0) (sym same) ∙ new ∙ ap (λ (h : ℕ). get_or totals h 0 + count) same
+                  ∙ ap (λ (k : ℕ). k + count) counted
                   ∙ ap (λ (k : ℕ). count_of (turns_of runs) hart + k) (sym here) ∙ sym more
               | inr e ↦
                   let none : is_number (cond (eqb run.hart hart) count 0) 0 = cond-false (eqb run.hart hart) count 0 e in
@@ -353,7 +392,8 @@ pub runs_of-kept : (harts : ℕ) (totals : List ℕ) (runs : List Stretch) → I
 runs_of-kept harts totals runs is = runs_of-expanded harts (runs_from 0 runs) is.runs
 
 -- and are spelled
-pub spelled-kept : (harts : ℕ) (totals : List ℕ) (runs : List Stretch) → IsKept harts totals runs → spelled (record { harts = harts; turns = turns_of runs }) ≡ header harts (length runs) ++ flat_map run_bytes (runs_from 0 runs)
+pub spelled-kept : (harts : ℕ) (totals : List ℕ) (runs : List Stretch) → IsKept harts totals runs → spelled (record { harts = harts; turns = turns_of runs })
+    ≡ header harts (length runs) ++ flat_map run_bytes (runs_from 0 runs)
 spelled-kept harts totals runs is =
     ap (λ (rs : List Run). header harts (length rs) ++ flat_map run_bytes rs) (runs_of-kept harts totals runs is)
     ∙ ap (λ (n : ℕ). header harts n ++ flat_map run_bytes (runs_from 0 runs)) (length-runs_from 0 runs)

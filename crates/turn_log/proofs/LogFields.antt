@@ -1,5 +1,6 @@
 -- What is read is what was written, and what was written is read again: numbers, the header, a run.
-use Rattle.std.proofs.Common.{◌≡◌, ℕ, suc, ◌+◌, ◌^◌, ◌<◌, ◌≤◌, Bool, true, false, cond, not, ◌||◌, eqb, ltb, leb, List, [], ◌∷◌, ◌++◌, length, get_or, take, drop, Result, Ok, Err, refl, sym, ap, subst, ◌∙◌, arith, inl, inr}
+use Rattle.std.proofs.Common.{◌≡◌, ℕ, suc, ◌+◌, ◌^◌, ◌<◌, ◌≤◌, Bool, true, false, cond, not, ◌||◌, eqb, ltb, leb, List, [], ◌∷◌, ◌++◌, length, get_or, take}
+use Rattle.std.proofs.Common.{drop, Result, Ok, Err, refl, sym, ap, subst, ◌∙◌, arith, inl, inr}
 use Rattle.std.specs.Prelude.{codes}
 use Rattle.std.specs.List.{starts_with}
 use Rattle.std.specs.Int.{w32, w64, from_le_bytes}
@@ -86,12 +87,15 @@ header_takes bytes x fits e =
     let range = or_parts (eqb harts 0) (ltb 8 harts) g4.0 in
     let some : 1 ≤ harts = let not_zero = eqb-false harts 0 range.0 in omega (arith, not_zero) in
     let few : harts ≤ 8 = ltb-false 8 harts range.1 in
-    let last : drop 8 bytes ≡ little_bytes 8 runs ++ drop 16 bytes = sym (ap (λ (t : List ℕ). t ++ drop 16 bytes) runs_back ∙ ap (λ (t : List ℕ). take 8 (drop 8 bytes) ++ t) (sym (drop-drop 8 8 bytes)) ∙ take-append-drop 8 (drop 8 bytes)) in
-    let middle : drop 4 bytes ≡ little_bytes 4 harts ++ drop 8 bytes = sym (ap (λ (t : List ℕ). t ++ drop 8 bytes) harts_back ∙ ap (λ (t : List ℕ). take 4 (drop 4 bytes) ++ t) (sym (drop-drop 4 4 bytes)) ∙ take-append-drop 4 (drop 4 bytes)) in
+    let last : drop 8 bytes ≡ little_bytes 8 runs ++ drop 16 bytes = sym (ap (λ (t : List ℕ). t ++ drop 16 bytes) runs_back
+    ∙ ap (λ (t : List ℕ). take 8 (drop 8 bytes) ++ t) (sym (drop-drop 8 8 bytes)) ∙ take-append-drop 8 (drop 8 bytes)) in
+    let middle : drop 4 bytes ≡ little_bytes 4 harts ++ drop 8 bytes = sym (ap (λ (t : List ℕ). t ++ drop 8 bytes) harts_back
+    ∙ ap (λ (t : List ℕ). take 4 (drop 4 bytes) ++ t) (sym (drop-drop 4 4 bytes)) ∙ take-append-drop 4 (drop 4 bytes)) in
     let whole : bytes ≡ codes "HRL1" ++ drop 4 bytes = sym (ap (λ (t : List ℕ). t ++ drop 4 bytes) magic ∙ take-append-drop 4 bytes) in
     let parts : bytes ≡ header harts runs ++ drop 16 bytes =
     whole ∙ ap (λ (t : List ℕ). codes "HRL1" ++ t) (middle ∙ ap (λ (t : List ℕ). little_bytes 4 harts ++ t) last)
-    ∙ sym (append_assoc (codes "HRL1" ++ little_bytes 4 harts) (little_bytes 8 runs) (drop 16 bytes) ∙ append_assoc (codes "HRL1") (little_bytes 4 harts) (little_bytes 8 runs ++ drop 16 bytes)) in
+    ∙ sym (append_assoc (codes "HRL1" ++ little_bytes 4 harts) (little_bytes 8 runs) (drop 16 bytes)
+    ∙ append_assoc (codes "HRL1") (little_bytes 4 harts) (little_bytes 8 runs ++ drop 16 bytes)) in
     subst (λ (y : ℕ × ℕ). IsHeader bytes y.0 y.1) (ok_is (harts, runs) x g4.1) (record { parts = parts; some = some; few = few })
 
 -- the bytes behind a header
@@ -162,7 +166,8 @@ pub record IsRunAt (harts : ℕ) (before : List Run) (bytes : List ℕ) (run : R
   pub rest_fits : IsBytes rest
   pub follows : Follows harts before run
 
-pub run_takes : (harts : ℕ) (before : List Run) (bytes : List ℕ) (x : Run × List ℕ) → IsBytes bytes → front_run harts before bytes ≡ Ok x → IsRunAt harts before bytes x.0 x.1
+pub run_takes : (harts : ℕ) (before : List Run) (bytes : List ℕ) (x : Run × List ℕ) → IsBytes bytes → front_run harts before bytes ≡ Ok x
+    → IsRunAt harts before bytes x.0 x.1
 unfolding front_run
 run_takes harts before bytes x fits e =
     let run = run_read bytes in
@@ -175,7 +180,8 @@ run_takes harts before bytes x fits e =
     subst (λ (y : Run × List ℕ). IsRunAt harts before bytes y.0 y.1) (ok_is (b.0, drop 9 bytes) x b.2)
     (subst (λ (r : Run). IsRunAt harts before bytes r (drop 9 bytes)) j.1 here)
 
-pub run_again : (harts : ℕ) (before : List Run) (run : Run) (rest : List ℕ) → Follows harts before run → front_run harts before (run_bytes run ++ rest) ≡ Ok (run, rest)
+pub run_again : (harts : ℕ) (before : List Run) (run : Run) (rest : List ℕ) → Follows harts before run → front_run harts before (run_bytes run ++ rest)
+    ≡ Ok (run, rest)
 unfolding front_run
 run_again harts before run rest follows =
     let few = follows.few in

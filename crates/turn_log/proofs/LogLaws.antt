@@ -1,16 +1,19 @@
 -- The laws of reading: what is read is spelled so, what is spelled so is read, whatever follows.
-use Rattle.std.proofs.Common.{◌≡◌, ℕ, zero, suc, ◌+◌, ◌*◌, ◌^◌, ◌<◌, ◌≤◌, Bool, true, false, cond, eqb, List, [], ◌∷◌, ◌++◌, length, drop, replicate, Result, Ok, Err, refl, sym, ap, subst, ◌∙◌, arith}
+use Rattle.std.proofs.Common.{◌≡◌, ℕ, zero, suc, ◌+◌, ◌*◌, ◌^◌, ◌<◌, ◌≤◌, Bool, true, false, cond, eqb, List, [], ◌∷◌, ◌++◌, length, drop, replicate, Result}
+use Rattle.std.proofs.Common.{Ok, Err, refl, sym, ap, subst, ◌∙◌, arith}
 use Rattle.std.specs.Prelude.{IfOk, IfErr}
 use Rattle.std.specs.List.{flat_map, AllByRecursion}
 use Rattle.std.proofs.lemmas.Bool.{eqb-true}
 use Rattle.std.proofs.lemmas.List.{append_assoc, append-nil, nil_from_length, length-append}
 use Rattle.turn_log.specs.TurnLog.{LogState, IsLog}
-use Rattle.turn_log.specs.LogSpelling.{runs_of, expanded, run_bytes, header, spelled, ◌>>=◌, header_at, run_read, front_run, front_runs, log_at, log_of, Answers, Refuses}
+use Rattle.turn_log.specs.LogSpelling.{runs_of, expanded, run_bytes, header, spelled, ◌>>=◌, header_at, run_read, front_run, front_runs, log_at, log_of}
+use Rattle.turn_log.specs.LogSpelling.{Answers, Refuses}
 use Rattle.turn_log.specs.declared.log_faults.LogFault.{LogFault}
 use Rattle.turn_log.specs.declared.log_faults.LogFault.TheVariants.{Magic, Truncated, Hart, NotCanonical, TooManyTurns, OutOfMemory}
 use Rattle.turn_log.specs.declared.runs.Run.{Run}
 use Rattle.turn_log.proofs.RunLaws.{AllFollow, AllFollow-log, IsLog-expanded, AreRuns-from_follow, runs_of-expanded, expanded-runs_of, few_runs}
-use Rattle.turn_log.proofs.LogFields.{IsBytes, IsBytes-drop, bind_ok, ok_is, header_takes, header_again, drop-header, length-header, run_takes, run_again, run_read-again, drop-run, length-run}
+use Rattle.turn_log.proofs.LogFields.{IsBytes, IsBytes-drop, bind_ok, ok_is, header_takes, header_again, drop-header, length-header, run_takes, run_again}
+use Rattle.turn_log.proofs.LogFields.{run_read-again, drop-run, length-run}
 
 -- ---- runs
 
@@ -18,12 +21,17 @@ pub record AreRunsAt (harts : ℕ) (before : List Run) (bytes : List ℕ) (runs 
   pub parts : bytes ≡ flat_map run_bytes runs ++ rest
   pub follow : AllFollow harts before runs
 
-pub runs_take : (harts count : ℕ) (before : List Run) (bytes : List ℕ) (x : List Run × List ℕ) → IsBytes bytes → front_runs harts count before bytes ≡ Ok x → AreRunsAt harts before bytes x.0 x.1 × (length x.0 ≡ count)
+pub runs_take : (harts count : ℕ) (before : List Run) (bytes : List ℕ) (x : List Run × List ℕ) → IsBytes bytes → front_runs harts count before bytes ≡ Ok x
+    → AreRunsAt harts before bytes x.0 x.1 × (length x.0 ≡ count)
 unfolding front_runs
 runs_take harts zero before bytes x fits e =
-    subst (λ (y : List Run × List ℕ). AreRunsAt harts before bytes y.0 y.1 × (length y.0 ≡ 0)) (ok_is ([], bytes) x e) (record { parts = refl; follow = tt }, refl)
+    subst (λ (y : List Run × List ℕ). AreRunsAt harts before bytes y.0 y.1 × (length y.0 ≡ 0)) (ok_is ([], bytes) x e) (
+      record { parts = refl; follow = tt },
+      refl,
+    )
 runs_take harts (suc count) before bytes x fits e =
-    let a = bind_ok (front_run harts before bytes) (λ first. front_runs harts count (first.0 ∷ before) first.1 >>= λ others. Ok (first.0 ∷ others.0, others.1)) x e in
+    let a = bind_ok (front_run harts before bytes) (λ first. front_runs harts count (first.0 ∷ before) first.1 >>= λ others. Ok (first.0 ∷ others.0, others.1))
+    x e in
     let b = bind_ok (front_runs harts count (a.0.0 ∷ before) a.0.1) (λ others. Ok (a.0.0 ∷ others.0, others.1)) x a.2 in
     let first = run_takes harts before bytes a.0 fits a.1 in
     let others = runs_take harts count (a.0.0 ∷ before) a.0.1 b.0 first.rest_fits b.1 in
@@ -33,11 +41,13 @@ runs_take harts (suc count) before bytes x fits e =
     subst (λ (y : List Run × List ℕ). AreRunsAt harts before bytes y.0 y.1 × (length y.0 ≡ suc count)) (ok_is made x b.2)
     (record { parts = parts; follow = (first.follows, others.0.follow) }, ap suc others.1)
 
-pub runs_again : (harts : ℕ) (before runs : List Run) (rest : List ℕ) → AllFollow harts before runs → front_runs harts (length runs) before (flat_map run_bytes runs ++ rest) ≡ Ok (runs, rest)
+pub runs_again : (harts : ℕ) (before runs : List Run) (rest : List ℕ) → AllFollow harts before runs
+    → front_runs harts (length runs) before (flat_map run_bytes runs ++ rest) ≡ Ok (runs, rest)
 unfolding front_runs
 runs_again harts before [] rest all = refl
 runs_again harts before (run ∷ runs) rest all =
-    let regrouped : flat_map run_bytes (run ∷ runs) ++ rest ≡ run_bytes run ++ (flat_map run_bytes runs ++ rest) = append_assoc (run_bytes run) (flat_map run_bytes runs) rest in
+    let regrouped : flat_map run_bytes (run ∷ runs) ++ rest ≡ run_bytes run ++ (flat_map run_bytes runs ++ rest) = append_assoc (run_bytes run)
+    (flat_map run_bytes runs) rest in
     ap (front_runs harts (suc (length runs)) before) regrouped
     ∙ rw (run_again harts before run (flat_map run_bytes runs ++ rest) all.0, runs_again harts (run ∷ before) runs rest all.1) refl
 
@@ -50,7 +60,14 @@ pub record IsLogAt (bytes : List ℕ) (log : LogState) (rest : List ℕ) : Type 
 pub log_takes : (bytes : List ℕ) (x : LogState × List ℕ) → IsBytes bytes → log_at bytes ≡ Ok x → IsLogAt bytes x.0 x.1
 unfolding log_at
 log_takes bytes x fits e =
-    let a = bind_ok (header_at bytes) (λ numbers. front_runs numbers.0 numbers.1 [] (drop 16 bytes) >>= λ runs. Ok (record { harts = numbers.0; turns = expanded runs.0 }, runs.1)) x e in
+    let a = bind_ok (header_at bytes) (λ numbers. front_runs numbers.0 numbers.1 [] (drop 16 bytes) >>= λ runs. Ok (
+      record {
+        harts = numbers.0;
+        turns =
+            expanded runs.0;
+      },
+      runs.1,
+    )) x e in
     let harts = a.0.0 in
     let b = bind_ok (front_runs harts a.0.1 [] (drop 16 bytes)) (λ runs. Ok (record { harts = harts; turns = expanded runs.0 }, runs.1)) x a.2 in
     let runs = b.0.0 in
@@ -71,7 +88,8 @@ unfolding log_at
 log_again log rest is =
     let runs = runs_of log.turns in
     let text : List ℕ = flat_map run_bytes runs ++ rest in
-    let regrouped : spelled log ++ rest ≡ header log.harts (length runs) ++ text = append_assoc (header log.harts (length runs)) (flat_map run_bytes runs) rest in
+    let regrouped : spelled log ++ rest ≡ header log.harts (length runs) ++ text = append_assoc (header log.harts (length runs)) (flat_map run_bytes runs) rest
+    in
     let again : front_runs log.harts (length runs) [] text ≡ Ok (runs, rest) = runs_again log.harts [] runs rest (AllFollow-log log is) in
     let few = few_runs log is in
     ap log_at regrouped
@@ -125,7 +143,8 @@ pub found_ok : (bytes : List ℕ) (r : Result LogState LogFault) → IsBytes byt
 found_ok bytes (Ok log) fits given = (all_takes bytes log fits given).1
 found_ok bytes (Err fault) fits given = tt
 
-pub only_ok : (bytes : List ℕ) (r : Result LogState LogFault) → IfOk r (λ log. log_of bytes ≡ Ok log) → IfErr r (λ fault. Refuses fault (log_of bytes)) → (log : LogState) → IsLog log → bytes ≡ spelled log → Answers r (Ok log)
+pub only_ok : (bytes : List ℕ) (r : Result LogState LogFault) → IfOk r (λ log. log_of bytes ≡ Ok log) → IfErr r (λ fault. Refuses fault (log_of bytes))
+    → (log : LogState) → IsLog log → bytes ≡ spelled log → Answers r (Ok log)
 only_ok bytes (Ok found) ok err log is e = answers_ok bytes found log is e ok
 only_ok bytes (Err fault) ok err log is e = refuses_ok fault bytes log is e err
 
@@ -143,15 +162,18 @@ pub header_refused : (bytes : List ℕ) (fault : LogFault) → header_at bytes �
 unfolding log_of log_at
 header_refused bytes fault e = rw e refl
 
-pub runs_refused : (bytes : List ℕ) (harts count : ℕ) (fault : LogFault) → header_at bytes ≡ Ok (harts, count) → front_runs harts count [] (drop 16 bytes) ≡ Err fault → log_of bytes ≡ Err fault
+pub runs_refused : (bytes : List ℕ) (harts count : ℕ) (fault : LogFault) → header_at bytes ≡ Ok (harts, count) → front_runs harts count [] (drop 16 bytes)
+    ≡ Err fault → log_of bytes ≡ Err fault
 unfolding log_of log_at
 runs_refused bytes harts count fault e bad = rw (e, bad) refl
 
-pub trailing_refused : (bytes : List ℕ) (harts count : ℕ) (runs : List Run) (rest : List ℕ) → header_at bytes ≡ Ok (harts, count) → front_runs harts count [] (drop 16 bytes) ≡ Ok (runs, rest) → eqb (length rest) 0 ≡ false → log_of bytes ≡ Err NotCanonical
+pub trailing_refused : (bytes : List ℕ) (harts count : ℕ) (runs : List Run) (rest : List ℕ) → header_at bytes ≡ Ok (harts, count)
+    → front_runs harts count [] (drop 16 bytes) ≡ Ok (runs, rest) → eqb (length rest) 0 ≡ false → log_of bytes ≡ Err NotCanonical
 unfolding log_of log_at
 trailing_refused bytes harts count runs rest e good trailing = rw (e, good, trailing) refl
 
-pub whole_log : (bytes : List ℕ) (harts count : ℕ) (runs : List Run) (rest : List ℕ) (log : LogState) → header_at bytes ≡ Ok (harts, count) → front_runs harts count [] (drop 16 bytes) ≡ Ok (runs, rest) → eqb (length rest) 0 ≡ true
+pub whole_log : (bytes : List ℕ) (harts count : ℕ) (runs : List Run) (rest : List ℕ) (log : LogState) → header_at bytes ≡ Ok (harts, count)
+    → front_runs harts count [] (drop 16 bytes) ≡ Ok (runs, rest) → eqb (length rest) 0 ≡ true
     → log.harts ≡ harts → log.turns ≡ expanded runs → log_of bytes ≡ Ok log
 unfolding log_of log_at
 whole_log bytes harts count runs rest log e good ended same_harts same_turns = rw (e, good, ended, ← same_harts, ← same_turns) refl

@@ -1,5 +1,6 @@
 -- The run at a place of a list of turns.
-use Rattle.std.proofs.Common.{◌≡◌, ℕ, zero, suc, ◌+◌, ◌-◌, ◌<◌, ◌≤◌, Bool, true, false, cond, eqb, List, [], ◌∷◌, ◌++◌, length, drop, replicate, Option, Some, None, refl, sym, ap, subst, ◌∙◌, zero-add, arith, inl, inr}
+use Rattle.std.proofs.Common.{◌≡◌, ℕ, zero, suc, ◌+◌, ◌-◌, ◌<◌, ◌≤◌, Bool, true, false, cond, eqb, List, [], ◌∷◌, ◌++◌, length, drop, replicate, Option, Some}
+use Rattle.std.proofs.Common.{None, refl, sym, ap, subst, ◌∙◌, zero-add, arith, inl, inr}
 use Rattle.std.specs.Prelude.{slice_get, get_or, ◌↔◌, All}
 use Rattle.std.specs.List.{AllByRecursion}
 use Rattle.std.proofs.lemmas.Bool.{cond-true, cond-false, eq-eqb, eqb-true, cases_Bool}
@@ -26,7 +27,8 @@ pub ahead-replicate : (hart n : ℕ) (turns : List ℕ) → ahead hart (replicat
 ahead-replicate hart zero turns = omega arith
 ahead-replicate hart (suc n) turns =
     let rest = ahead-replicate hart n turns in
-    let here : ahead hart (replicate (suc n) hart ++ turns) ≡ suc (ahead hart (replicate n hart ++ turns)) = cond-true (eqb hart hart) (suc (ahead hart (replicate n hart ++ turns))) 0 (eq-eqb hart hart refl) in
+    let here : ahead hart (replicate (suc n) hart ++ turns) ≡ suc (ahead hart (replicate n hart ++ turns)) = cond-true (eqb hart hart)
+    (suc (ahead hart (replicate n hart ++ turns))) 0 (eq-eqb hart hart refl) in
     omega (arith, here, rest)
 
 -- the run at a place within a stretch of one hart, behind which another hart's turns stand
@@ -35,7 +37,8 @@ first_run-within hart n m turns within other =
     let k = n - m - 1 in
     let one : n - m ≡ suc k = omega arith in
     let parts : drop m (replicate n hart ++ turns) ≡ hart ∷ (replicate k hart ++ turns) =
-    drop-append-le m (replicate n hart) turns (omega (arith, length-replicate n hart)) ∙ ap (λ (t : List ℕ). t ++ turns) (drop-replicate m n hart ∙ ap (λ (j : ℕ). replicate j hart) one) in
+    drop-append-le m (replicate n hart) turns (omega (arith, length-replicate n hart)) ∙ ap (λ (t : List ℕ). t ++ turns) (drop-replicate m n hart
+    ∙ ap (λ (j : ℕ). replicate j hart) one) in
     let count : suc (ahead hart (replicate k hart ++ turns)) ≡ n - m = let all = ahead-replicate hart k turns in omega (arith, all, other, one) in
     ap first_run parts ∙ ap (λ (j : ℕ). Some (hart, j)) count
 
@@ -89,18 +92,31 @@ pub run_at-stands : (turns : List ℕ) (place hart count : ℕ) → run_at turns
 unfolding run_at
 run_at-stands turns zero hart count e =
     let first = first_run-stands turns hart count e in
-    record { some = first.some; within = let fits = first.within in omega (arith, fits); parts = first.parts ∙ ap (λ (n : ℕ). replicate count hart ++ drop n turns) (sym (zero-add count)) }
+    record {
+      some = first.some;
+      within = let fits = first.within in omega (arith, fits);
+      parts = first.parts
+          ∙ ap (λ (n : ℕ). replicate count hart ++ drop n turns) (sym (zero-add count));
+    }
 run_at-stands [] (suc place) hart count e = absurd cc
 run_at-stands (turn ∷ turns) (suc place) hart count e =
     let rest = run_at-stands turns place hart count e in
     let n : suc (place + count) ≡ suc place + count = omega arith in
-    record { some = rest.some; within = let fits = rest.within in omega (arith, fits); parts = rest.parts ∙ ap (λ (n : ℕ). replicate count hart ++ drop n (turn ∷ turns)) n }
+    record {
+      some = rest.some;
+      within = let fits = rest.within in omega (arith, fits);
+      parts = rest.parts
+          ∙ ap (λ (n : ℕ). replicate count hart ++ drop n (turn ∷ turns)) n;
+    }
 
-first_run-below : (harts : ℕ) (turns : List ℕ) (hart count : ℕ) → AllByRecursion (λ turn. turn < harts) turns → first_run turns ≡ Some (hart, count) → hart < harts
+first_run-below : (harts : ℕ) (turns : List ℕ) (hart count : ℕ) → AllByRecursion (λ turn. turn < harts) turns → first_run turns ≡ Some (hart, count)
+    → hart < harts
 first_run-below harts [] hart count all e = absurd cc
-first_run-below harts (turn ∷ turns) hart count all e = let first : turn ≡ hart = (first_is turn hart (suc (ahead turn turns)) count e).0 in subst (λ (t : ℕ). t < harts) first all.0
+first_run-below harts (turn ∷ turns) hart count all e = let first : turn ≡ hart = (first_is turn hart (suc (ahead turn turns)) count e).0 in
+    subst (λ (t : ℕ). t < harts) first all.0
 
-pub run_at-below : (harts : ℕ) (turns : List ℕ) (place hart count : ℕ) → AllByRecursion (λ turn. turn < harts) turns → run_at turns place ≡ Some (hart, count) → hart < harts
+pub run_at-below : (harts : ℕ) (turns : List ℕ) (place hart count : ℕ) → AllByRecursion (λ turn. turn < harts) turns → run_at turns place ≡ Some (hart, count)
+    → hart < harts
 unfolding run_at
 run_at-below harts turns zero hart count all e = first_run-below harts turns hart count all e
 run_at-below harts [] (suc place) hart count all e = absurd cc
@@ -128,5 +144,6 @@ pub turn_at-some : (turns : List ℕ) (place hart count : ℕ) → run_at turns 
 unfolding run_at
 turn_at-some [] zero hart count e = absurd cc
 turn_at-some [] (suc place) hart count e = absurd cc
-turn_at-some (turn ∷ turns) zero hart count e = let first : turn ≡ hart = (first_is turn hart (suc (ahead turn turns)) count e).0 in ap (λ (t : ℕ). Some t) first
+turn_at-some (turn ∷ turns) zero hart count e = let first : turn ≡ hart = (first_is turn hart (suc (ahead turn turns)) count e).0 in
+    ap (λ (t : ℕ). Some t) first
 turn_at-some (turn ∷ turns) (suc place) hart count e = turn_at-some turns place hart count e

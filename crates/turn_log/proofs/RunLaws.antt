@@ -1,5 +1,6 @@
 -- Runs of turns: the turns that they stand for, and the longest runs of turns.
-use Rattle.std.proofs.Common.{◌≡◌, ℕ, zero, suc, ◌+◌, ◌-◌, ◌*◌, ◌^◌, ◌<◌, ◌≤◌, Bool, true, false, cond, eqb, List, [], ◌∷◌, ◌++◌, length, drop, All, replicate, Some, None, refl, sym, ap, subst, ◌∙◌, arith, add-one, one-add, inl, inr}
+use Rattle.std.proofs.Common.{◌≡◌, ℕ, zero, suc, ◌+◌, ◌-◌, ◌*◌, ◌^◌, ◌<◌, ◌≤◌, Bool, true, false, cond, eqb, List, [], ◌∷◌, ◌++◌, length, drop, All, replicate}
+use Rattle.std.proofs.Common.{Some, None, refl, sym, ap, subst, ◌∙◌, arith, add-one, one-add, inl, inr}
 use Rattle.std.specs.Prelude.{slice_get, sum, get_or}
 use Rattle.std.specs.List.{prefix_len, AllByRecursion}
 use Rattle.std.proofs.lemmas.Bool.{cond_both, cond-true, cond-false, eqb-true, eqb-false, eq-eqb, ne_eqb, cases_Bool}
@@ -60,13 +61,16 @@ AreRuns-runs_of harts (turn ∷ turns) all = AreRuns-joined harts turn (runs_of 
 -- a turn of another hart than the first run's opens a run
 opens : (hart : ℕ) (runs : List Run) → begins_with runs hart ≡ false → joined hart runs ≡ record { hart = hart; length = 1 } ∷ runs
 opens hart [] other = refl
-opens hart (run ∷ runs) other = cond-false (eqb run.hart hart) (record { hart = hart; length = run.length + 1 } ∷ runs) (record { hart = hart; length = 1 } ∷ (run ∷ runs)) other
+opens hart (run ∷ runs) other = cond-false (eqb run.hart hart) (record { hart = hart; length = run.length + 1 } ∷ runs) (record { hart = hart; length = 1 }
+    ∷ (run ∷ runs)) other
 
 -- a turn of the first run's hart joins it
 joins : (hart n : ℕ) (runs : List Run) → joined hart (record { hart = hart; length = n } ∷ runs) ≡ record { hart = hart; length = n + 1 } ∷ runs
-joins hart n runs = cond-true (eqb hart hart) (record { hart = hart; length = n + 1 } ∷ runs) (record { hart = hart; length = 1 } ∷ (record { hart = hart; length = n } ∷ runs)) (eq-eqb hart hart refl)
+joins hart n runs = cond-true (eqb hart hart) (record { hart = hart; length = n + 1 } ∷ runs) (record { hart = hart; length = 1 }
+    ∷ (record { hart = hart; length = n } ∷ runs)) (eq-eqb hart hart refl)
 
-runs_of-replicate : (hart n : ℕ) (turns : List ℕ) → begins_with (runs_of turns) hart ≡ false → runs_of (replicate (suc n) hart ++ turns) ≡ record { hart = hart; length = suc n } ∷ runs_of turns
+runs_of-replicate : (hart n : ℕ) (turns : List ℕ) → begins_with (runs_of turns) hart ≡ false → runs_of (replicate (suc n) hart ++ turns)
+    ≡ record { hart = hart; length = suc n } ∷ runs_of turns
 runs_of-replicate hart zero turns other = opens hart (runs_of turns) other
 runs_of-replicate hart (suc n) turns other =
     ap (joined hart) (runs_of-replicate hart n turns other) ∙ joins hart (suc n) (runs_of turns)
@@ -86,7 +90,8 @@ runs_of-expanded harts (run ∷ runs) are =
 pub All-expanded : (harts : ℕ) (runs : List Run) → AreRuns harts runs → All (λ turn. turn < harts) (expanded runs)
 All-expanded harts [] are = All-nil (λ turn. turn < harts)
 All-expanded harts (run ∷ runs) are =
-    All-append (λ turn. turn < harts) (replicate run.length run.hart) (expanded runs) (All-replicate (λ turn. turn < harts) run.length run.hart are.0.below) (All-expanded harts runs are.1)
+    All-append (λ turn. turn < harts) (replicate run.length run.hart) (expanded runs) (All-replicate (λ turn. turn < harts) run.length run.hart are.0.below)
+    (All-expanded harts runs are.1)
 
 -- ---- runs that may stand behind others
 
@@ -114,7 +119,8 @@ total_of-cons run runs hart = sum_by-cons (λ (r : Run). cond (eqb r.hart hart) 
 
 total_of-own : (run : Run) (runs : List Run) → total_of (run ∷ runs) run.hart ≡ run.length + total_of runs run.hart
 total_of-own run runs =
-    total_of-cons run runs run.hart ∙ ap (λ (n : ℕ). n + total_of runs run.hart) (cond-true (eqb run.hart run.hart) run.length 0 (eq-eqb run.hart run.hart refl))
+    total_of-cons run runs run.hart ∙ ap (λ (n : ℕ). n + total_of runs run.hart) (cond-true (eqb run.hart run.hart) run.length 0 (eq-eqb run.hart run.hart
+    refl))
 
 -- no hart has too many turns in the runs before and these
 abbrev FewIn : List Run → List Run → Type 0
@@ -132,8 +138,11 @@ apart_next harts before run (next ∷ runs) is = other_way next.hart run.hart is
 pub AllFollow-from_runs : (harts : ℕ) (before runs : List Run) → AreRuns harts runs → Apart before runs → FewIn before runs → AllFollow harts before runs
 AllFollow-from_runs harts before [] are apart few = tt
 AllFollow-from_runs harts before (run ∷ runs) are apart few =
-    let here : total_of before run.hart + run.length ≤ most_turns = let all = few run.hart in omega (arith, total_of-own run runs, all) in
-    (record { below = are.0.below; some = are.0.some; other = apart; few = here }, AllFollow-from_runs harts (run ∷ before) runs are.1 (apart_next harts before run runs are.0) (few_moved before run runs few))
+    let here : total_of before run.hart + run.length ≤ most_turns = let all = few run.hart in omega (arith, total_of-own run runs, all) in (
+      record { below = are.0.below; some = are.0.some; other = apart; few = here },
+      AllFollow-from_runs harts (run ∷ before) runs are.1 (apart_next harts before
+          run runs are.0) (few_moved before run runs few),
+    )
 
 next_apart : (harts : ℕ) (before : List Run) (run : Run) (runs : List Run) → AllFollow harts (run ∷ before) runs → begins_with runs run.hart ≡ false
 next_apart harts before run [] all = refl
@@ -150,7 +159,8 @@ AreRuns-from_follow harts before (run ∷ runs) all =
     (record { below = all.0.below; some = all.0.some; other = next_apart harts before run runs all.1 }, AreRuns-from_follow harts (run ∷ before) runs all.1)
 
 -- one more run keeps each hart's total small
-pub few_with : (harts : ℕ) (before : List Run) (run : Run) → Follows harts before run → ((hart : ℕ) → total_of before hart ≤ most_turns) → (hart : ℕ) → total_of (run ∷ before) hart ≤ most_turns
+pub few_with : (harts : ℕ) (before : List Run) (run : Run) → Follows harts before run → ((hart : ℕ) → total_of before hart ≤ most_turns) → (hart : ℕ)
+    → total_of (run ∷ before) hart ≤ most_turns
 few_with harts before run follows few hart =
     elim (cases_Bool (eqb run.hart hart)) [
       | inl e ↦
@@ -162,7 +172,8 @@ few_with harts before run follows few hart =
           omega (arith, total_of-cons run before hart, zero_here, here)
     ]
 
-pub FewIn-from_follow : (harts : ℕ) (before runs : List Run) → AllFollow harts before runs → ((hart : ℕ) → total_of before hart ≤ most_turns) → FewIn before runs
+pub FewIn-from_follow : (harts : ℕ) (before runs : List Run) → AllFollow harts before runs → ((hart : ℕ) → total_of before hart ≤ most_turns)
+    → FewIn before runs
 FewIn-from_follow harts before [] all few hart = let here = few hart in omega (arith, here)
 FewIn-from_follow harts before (run ∷ runs) all few hart =
     let rest = FewIn-from_follow harts (run ∷ before) runs all.1 (few_with harts before run all.0 few) hart in
@@ -184,7 +195,8 @@ AllFollow-log log is =
     let all = recursion_from_All (λ turn. turn < log.harts) log.turns is.turns_below in
     AllFollow-from_runs log.harts [] (runs_of log.turns) (AreRuns-runs_of log.harts log.turns all) (first_apart (runs_of log.turns))
     (λ hart.
-    let total : total_of (runs_of log.turns) hart ≡ count_of log.turns hart = sym (count_of-expanded (runs_of log.turns) hart) ∙ ap (λ (turns : List ℕ). count_of turns hart) (expanded-runs_of log.turns) in
+    let total : total_of (runs_of log.turns) hart ≡ count_of log.turns hart = sym (count_of-expanded (runs_of log.turns) hart)
+    ∙ ap (λ (turns : List ℕ). count_of turns hart) (expanded-runs_of log.turns) in
     let few = is.few_turns hart in
     omega (arith, total, few))
   where
@@ -206,7 +218,8 @@ length-runs_of [] = omega arith
 length-runs_of (turn ∷ turns) = let one = length-joined turn (runs_of turns) in let rest = length-runs_of turns in omega (arith, one, rest)
 
 -- a hart below eight is one of the eight
-one_of_eight : (t : ℕ) → t < 8 → cond (eqb t 0) 1 0 + cond (eqb t 1) 1 0 + cond (eqb t 2) 1 0 + cond (eqb t 3) 1 0 + cond (eqb t 4) 1 0 + cond (eqb t 5) 1 0 + cond (eqb t 6) 1 0 + cond (eqb t 7) 1 0 ≡ 1
+one_of_eight : (t : ℕ) → t < 8 → cond (eqb t 0) 1 0 + cond (eqb t 1) 1 0 + cond (eqb t 2) 1 0 + cond (eqb t 3) 1 0 + cond (eqb t 4) 1 0 + cond (eqb t 5) 1 0
+    + cond (eqb t 6) 1 0 + cond (eqb t 7) 1 0 ≡ 1
 one_of_eight zero below = refl
 one_of_eight (suc zero) below = refl
 one_of_eight (suc (suc zero)) below = refl
@@ -230,7 +243,17 @@ length-counts [] all = refl
 length-counts (t ∷ ts) all =
     let rest = length-counts ts all.1 in
     let one = one_of_eight t all.0 in
-    rw (count_of-cons t ts 0, count_of-cons t ts 1, count_of-cons t ts 2, count_of-cons t ts 3, count_of-cons t ts 4, count_of-cons t ts 5, count_of-cons t ts 6, count_of-cons t ts 7) (omega (arith, rest, one))
+    rw (
+      count_of-cons t ts 0,
+      count_of-cons t ts 1,
+      count_of-cons t ts 2,
+      count_of-cons t ts 3,
+      count_of-cons t ts 4,
+      count_of-cons t ts 5,
+      count_of-cons t ts
+          6,
+      count_of-cons t ts 7,
+    ) (omega (arith, rest, one))
 
 -- a log has few turns
 pub few_turns_all : (log : LogState) → IsLog log → length log.turns ≤ 8 * most_turns
@@ -266,7 +289,8 @@ count_of-push_run turns turn n hart = count_of-append turns (replicate n turn) h
 abbrev is_number : ℕ → ℕ → Type 0
 is_number m n = m ≡ n
 
-pub IsLog-push_run : (log : LogState) (turn n : ℕ) → IsLog log → turn < log.harts → count_of log.turns turn + n ≤ most_turns → IsLog (record { harts = log.harts; turns = log.turns ++ replicate n turn })
+pub IsLog-push_run : (log : LogState) (turn n : ℕ) → IsLog log → turn < log.harts → count_of log.turns turn + n ≤ most_turns
+    → IsLog (record { harts = log.harts; turns = log.turns ++ replicate n turn })
 IsLog-push_run log turn n is below room =
     record {
       some_hart = is.some_hart;

@@ -2,7 +2,8 @@
 -- The bytes are `HRL1`, the number of harts (4 bytes), the number of runs (8), and for each run its
 -- hart (1) and its length (8), each number with its lowest byte first.
 -- This project's own.
-use Rattle.std.specs.Prelude.{◌≡◌, ℕ, zero, suc, ◌+◌, Bool, false, not, ◌||◌, ◌==◌, nat_eq, nat_lt, nat_le, if◌then◌else◌, List, [], ◌∷◌, ◌++◌, length, drop, slice_index, replicate, codes, Option, Some, None, Result, Ok, Err}
+use Rattle.std.specs.Prelude.{◌≡◌, ℕ, zero, suc, ◌+◌, Bool, false, not, ◌||◌, ◌==◌, nat_eq, nat_lt, nat_le, if◌then◌else◌, List, [], ◌∷◌, ◌++◌, length, drop}
+use Rattle.std.specs.Prelude.{slice_index, replicate, codes, Option, Some, None, Result, Ok, Err}
 use Rattle.std.specs.List.{flat_map, starts_with, sum_by}
 use Rattle.byteorder.specs.Endian.{little_bytes, little_number}
 use Rattle.turn_log.specs.TurnLog.{LogState, most_turns}

@@ -1,5 +1,6 @@
 -- Where the parts of a program of phases stand.
-use Rattle.std.proofs.Common.{◌≡◌, ℕ, zero, suc, ◌+◌, ◌-◌, ◌*◌, ◌%◌, ◌^◌, ◌<◌, ◌≤◌, List, [], ◌∷◌, ◌++◌, length, Bool, true, false, refl, ap, ◌∙◌, sym, subst, arith, length-append}
+use Rattle.std.proofs.Common.{◌≡◌, ℕ, zero, suc, ◌+◌, ◌-◌, ◌*◌, ◌%◌, ◌^◌, ◌<◌, ◌≤◌, List, [], ◌∷◌, ◌++◌, length, Bool, true, false, refl, ap, ◌∙◌, sym, subst}
+use Rattle.std.proofs.Common.{arith, length-append}
 use Rattle.std.specs.Prelude.{slice_index_or, pos}
 use Rattle.std.proofs.Math.IntN.{pos-*ℤ-pos, pos-*ℤ-negsuc, neg_ℤ}
 use Rattle.rv_insn.specs.declared.instructions.Insn.{Insn}
@@ -49,7 +50,8 @@ which-down : (is_last : Bool) (k n : ℕ) → Which is_last (suc k) (suc n) → 
 which-down true k n e = omega (arith, e)
 which-down false k n e = omega (arith, e)
 
-pub stand-phase : (text : List ℕ) (parts : List Part) (at number k t : ℕ) (is_last : Bool) → Stand text at (program number parts) → k < length parts → Which is_last k (length parts) → t ≡ ticket_word (number + k)
+pub stand-phase : (text : List ℕ) (parts : List Part) (at number k t : ℕ) (is_last : Bool) → Stand text at (program number parts) → k < length parts
+    → Which is_last k (length parts) → t ≡ ticket_word (number + k)
     → Stand text (begin at parts k) (phase_code is_last t (slice_index_or parts k no_part))
 stand-phase text [] at number k t is_last s l e u = absurd (omega (arith, l))
 stand-phase text (part ∷ []) at number zero t true s l e u =
@@ -60,14 +62,17 @@ stand-phase text (part ∷ []) at number (suc k) t is_last s l e u = absurd (ome
 stand-phase text (part ∷ other ∷ others) at number zero t true s l e u = absurd (omega (arith, e))
 stand-phase text (part ∷ other ∷ others) at number zero t false s l e u =
     let n : number + 0 ≡ number = omega arith in
-    subst (λ x. Stand text at (phase_code false x part)) (sym (u ∙ ap ticket_word n)) (stand-front text at (phase_code false (ticket_word number) part) (program (suc number) (other ∷ others)) s)
+    subst (λ x. Stand text at (phase_code false x part)) (sym (u ∙ ap ticket_word n)) (stand-front text at (phase_code false (ticket_word number) part)
+    (program (suc number) (other ∷ others)) s)
 stand-phase text (part ∷ other ∷ others) at number (suc k) t is_last s l e u =
     let first = phase_code false (ticket_word number) part in
     let rest = program (suc number) (other ∷ others) in
-    let q : end at first ≡ at + 4 * (length part.insns + 16) = end-is at first ∙ ap (λ n. at + 4 * n) (phase-length false (ticket_word number) part ∙ omega arith) in
+    let q : end at first ≡ at + 4 * (length part.insns + 16) = end-is at first ∙ ap (λ n. at + 4 * n) (phase-length false (ticket_word number) part
+    ∙ omega arith) in
     let n : number + suc k ≡ suc number + k = omega arith in
     stand-phase text (other ∷ others) (at + 4 * (length part.insns + 16)) (suc number) k t is_last
-    (subst (λ a. Stand text a rest) q (stand-back text at first rest s)) (omega (arith, l)) (which-down is_last k (length (other ∷ others)) e) (u ∙ ap ticket_word n)
+    (subst (λ a. Stand text a rest) q (stand-back text at first rest s)) (omega (arith, l)) (which-down is_last k (length (other ∷ others)) e) (u
+    ∙ ap ticket_word n)
 
 -- ---- the parts of one
 
@@ -94,7 +99,8 @@ module _ (text : List ℕ) (at : ℕ) (is_last : Bool) (ticket : ℕ) (part : Pa
   behind-setup = omega arith
 
   from-way : Stand text (at + 32) (way_in ∷ (door ++ (draw ++ tasks_code part.insns)))
-  from-way = moved (end at setup) (at + 32) (way_in ∷ (door ++ (draw ++ tasks_code part.insns))) behind-setup (stand-back text at setup (way_in ∷ (door ++ (draw ++ tasks_code part.insns))) s)
+  from-way = moved (end at setup) (at + 32) (way_in ∷ (door ++ (draw ++ tasks_code part.insns))) behind-setup (stand-back text at setup (way_in
+      ∷ (door ++ (draw ++ tasks_code part.insns))) s)
 
   pub at-way : Says text (at + 32) way_in
   at-way = from-way.0
@@ -111,7 +117,8 @@ module _ (text : List ℕ) (at : ℕ) (is_last : Bool) (ticket : ℕ) (part : Pa
 
   from-draw : Stand text (draw_at is_last at) (draw ++ tasks_code part.insns)
   from-draw =
-      moved (end (door_at at) door) (draw_at is_last at) (draw ++ tasks_code part.insns) (end-is (door_at at) door ∙ ap (λ n. door_at at + 4 * n) (door-length is_last (length part.insns + 3)))
+      moved (end (door_at at) door) (draw_at is_last at) (draw ++ tasks_code part.insns) (end-is (door_at at) door
+      ∙ ap (λ n. door_at at + 4 * n) (door-length is_last (length part.insns + 3)))
       (stand-back text (door_at at) door (draw ++ tasks_code part.insns) from-door)
 
   pub at-draw : Stand text (draw_at is_last at) draw
@@ -131,5 +138,6 @@ module _ (text : List ℕ) (at : ℕ) (is_last : Bool) (ticket : ℕ) (part : Pa
 
   pub behind : Spot (draw_at is_last at + 12 + 4 * length part.insns)
   behind =
-      let e : end (draw_at is_last at + 8) part.insns + 4 ≡ draw_at is_last at + 12 + 4 * length part.insns = let q = end-is (draw_at is_last at + 8) part.insns in omega (arith, q) in
+      let e : end (draw_at is_last at + 8) part.insns + 4 ≡ draw_at is_last at + 12 + 4 * length part.insns = let q = end-is (draw_at is_last at + 8) part.insns
+      in omega (arith, q) in
       subst Spot e from-back.1

@@ -1,5 +1,6 @@
 -- The words of a program have it.
-use Rattle.std.proofs.Common.{◌≡◌, ◌≤◌, ◌<◌, ℕ, suc, ◌+◌, ◌-◌, Bool, true, false, List, [], ◌∷◌, ◌++◌, get_or, take, drop, length, refl, sym, ap, subst, ◌∙◌, arith, append_assoc, length-append}
+use Rattle.std.proofs.Common.{◌≡◌, ◌≤◌, ◌<◌, ℕ, suc, ◌+◌, ◌-◌, Bool, true, false, List, [], ◌∷◌, ◌++◌, get_or, take, drop, length, refl, sym, ap, subst, ◌∙◌}
+use Rattle.std.proofs.Common.{arith, append_assoc, length-append}
 use Rattle.std.specs.Prelude.{◌==◌}
 use Rattle.std.specs.List.{AllByRecursion}
 use Rattle.std.proofs.Math.Seq.{take-length}
@@ -45,7 +46,8 @@ no_ends : (ends : List ℕ) (number first : ℕ) → ends ≡ ends ++ ends_from 
 unfolding ends_from
 no_ends ends number first = sym (append-nil ends)
 
-one_end : (ends : List ℕ) (number end first : ℕ) (part : Part) (parts : List Part) → end ≡ first + length (phase_code (length parts == 0) (ticket_word number) part)
+one_end : (ends : List ℕ) (number end first : ℕ) (part : Part) (parts : List Part)
+    → end ≡ first + length (phase_code (length parts == 0) (ticket_word number) part)
     → ends ++ end ∷ ends_from (suc number) end parts ≡ ends ++ ends_from number first (part ∷ parts)
 unfolding ends_from
 one_end ends number end first part parts e = ap (λ (n : ℕ). ends ++ n ∷ ends_from (suc number) n parts) e
@@ -69,7 +71,8 @@ module _ (places : Places) where
   parts-length number (phase ∷ phases) [] are = absurd are
   parts-length number (phase ∷ phases) (part ∷ parts) are = ap suc (parts-length (suc number) phases parts are.1)
 
-  put-front : {old mid new ends between later : List ℕ} (number : ℕ) (phase : Phase) (others : List Phase) → EmitsPhase old mid places number (length others == 0) phase
+  put-front : {old mid new ends between later : List ℕ} (number : ℕ) (phase : Phase) (others : List Phase)
+      → EmitsPhase old mid places number (length others == 0) phase
       → between ≡ ends ++ length mid ∷ [] → EmitsPhases mid new between later places (suc number) others
       → EmitsPhases old new ends later places number (phase ∷ others)
   put-front {old} {mid} {new} {ends} {between} {later} number phase others first pushed rest =
@@ -117,7 +120,8 @@ module _ (places : Places) where
 
 -- ---- the whole
 
-pub program-made : (places : Places) (phases : List Phase) (start words begin ends : List ℕ) → start ≡ [] → begin ≡ [] → EmitsPhases start words begin ends places 0 phases
+pub program-made : (places : Places) (phases : List Phase) (start words begin ends : List ℕ) → start ≡ [] → begin ≡ []
+    → EmitsPhases start words begin ends places 0 phases
     → AllByRecursion HasFewTasks phases → length words ≤ most_words
     → IsProgramTo places phases words ends
 program-made places phases start words begin ends e0 f0 x few l =
@@ -126,7 +130,8 @@ program-made places phases start words begin ends e0 f0 x few l =
     record { program = record { parts = made.parts; are_parts = made.are_parts; emits = made.emits; few_tasks = few; few = l }; ends_are = made.ends_are }
 
 -- each phase ends where the text ends, or before
-ends-within : (most number first : ℕ) (parts : List Part) → first + length (program number parts) ≤ most → AllByRecursion (λ end. end ≤ most) (ends_from number first parts)
+ends-within : (most number first : ℕ) (parts : List Part) → first + length (program number parts) ≤ most
+    → AllByRecursion (λ end. end ≤ most) (ends_from number first parts)
 unfolding ends_from
 ends-within most number first [] l = tt
 ends-within most number first (part ∷ parts) l =
@@ -134,7 +139,8 @@ ends-within most number first (part ∷ parts) l =
     let e = ap length (in-front number part parts) ∙ length-append own (program (suc number) parts) in
     (omega (arith, l, e), ends-within most (suc number) (first + length own) parts (omega (arith, l, e)))
 
-pub ends-fit : (places : Places) (phases : List Phase) (start words begin ends : List ℕ) → start ≡ [] → begin ≡ [] → EmitsPhases start words begin ends places 0 phases
+pub ends-fit : (places : Places) (phases : List Phase) (start words begin ends : List ℕ) → start ≡ [] → begin ≡ []
+    → EmitsPhases start words begin ends places 0 phases
     → length words ≤ most_words → AllByRecursion IsEnd ends
 ends-fit places phases start words begin ends e0 f0 x l =
     let begun = subst (λ (z : List ℕ). EmitsPhases z words begin ends places 0 phases) e0 x in

@@ -45,15 +45,20 @@ module _ (w : World) (m : List ℕ) (l : length m ≡ w.size) (f : ℕ → ℕ) 
   sets-tasks = fourth.value
 
   pub keeps-low : (q : ℕ) → q < 13 → after q ≡ f q
-  keeps-low q n = fourth.others q (λ e. omega (arith, e, n)) ∙ third.others q (λ e. omega (arith, e, n)) ∙ second.others q (λ e. omega (arith, e, n)) ∙ first.others q (λ e. omega (arith, e, n))
+  keeps-low q n = fourth.others q (λ e. omega (arith, e, n)) ∙ third.others q (λ e. omega (arith, e, n)) ∙ second.others q (λ e. omega (arith, e, n))
+      ∙ first.others q (λ e. omega (arith, e, n))
 
   -- from where the phase begins to its draw
-  pub comes : (at : ℕ) (is_last : Bool) (part : Part) → part.tasks ≡ tasks → at % 4 ≡ 0 → Stand w.text at (phase_code is_last ticket part) → Path w at (draw_at is_last at) 9 f m after m
+  pub comes : (at : ℕ) (is_last : Bool) (part : Part) → part.tasks ≡ tasks → at % 4 ≡ 0 → Stand w.text at (phase_code is_last ticket part)
+      → Path w at (draw_at is_last at) 9 f m after m
   comes at is_last part e al s =
-      let into : Path w at (end at (restored ticket tasks)) 8 f m after m = sets at (subst (λ n. Stand w.text at (restored ticket n)) e (at-setup w.text at is_last ticket part s)) in
-      let into' : Path w at (at + 32) 8 f m after m = subst (λ to. Path w at to 8 f m after m) (let q : end at (restored ticket tasks) ≡ at + 32 = omega arith in q) into in
+      let into : Path w at (end at (restored ticket tasks)) 8 f m after m = sets at (subst (λ n. Stand w.text at (restored ticket n)) e
+      (at-setup w.text at is_last ticket part s)) in
+      let into' : Path w at (at + 32) 8 f m after m = subst (λ to. Path w at to 8 f m after m) (let q : end at (restored ticket tasks) ≡ at + 32 =
+      omega arith in q) into in
       let low : draw_at is_last at < 2 ^ 32 = let q = (at-draw w.text at is_last ticket part s).1.1.low in omega (arith, q) in
       let to : at + 32 + 4 * (door_words is_last + 1) ≡ draw_at is_last at = omega arith in
       let four : draw_at is_last at % 4 ≡ 0 = omega (arith, al) in
       path-then w at (at + 32) (draw_at is_last at) 8 1 f after after m m m into'
-      (jump w after m l (at + 32) (draw_at is_last at) (forth (door_words is_last + 1)) (at-way w.text at is_last ticket part s) (forth-to (at + 32) (door_words is_last + 1) (draw_at is_last at) to low) four)
+      (jump w after m l (at + 32) (draw_at is_last at) (forth (door_words is_last + 1)) (at-way w.text at is_last ticket part s)
+      (forth-to (at + 32) (door_words is_last + 1) (draw_at is_last at) to low) four)

@@ -1,5 +1,6 @@
 -- A program of phases shares its work.
-use Rattle.std.proofs.Common.{◌≡◌, ℕ, zero, suc, ◌+◌, ◌*◌, ◌%◌, ◌^◌, ◌<◌, ◌≤◌, List, [], ◌∷◌, length, Bool, true, false, Some, refl, ap, ◌∙◌, sym, subst, arith, inl, inr}
+use Rattle.std.proofs.Common.{◌≡◌, ℕ, zero, suc, ◌+◌, ◌*◌, ◌%◌, ◌^◌, ◌<◌, ◌≤◌, List, [], ◌∷◌, length, Bool, true, false, Some, refl, ap, ◌∙◌, sym, subst, arith}
+use Rattle.std.proofs.Common.{inl, inr}
 use Rattle.std.specs.Prelude.{◌==◌, slice_get, slice_index, slice_index_or, replicate, negsuc}
 use Rattle.std.proofs.lemmas.Bool.{cases_lt}
 use Rattle.std.proofs.lemmas.Bool.Decides.{nat_tests}
@@ -27,7 +28,8 @@ use Rattle.vector_codegen.specs.Sharing.{Matter, no_part, part_at, is_last, phas
 use Rattle.vector_codegen.proofs.PhaseStanding.{forth-to, back-to, Which, end-is, stand-phase, at-door, at-draw, at-tasks, at-back, behind}
 use Rattle.vector_codegen.proofs.Setting.{after, sets-ticket, sets-gate, sets-one, sets-tasks, keeps-low, comes}
 
-module _ (text : List ℕ) (size harts : ℕ) (parts : List Part) (matter : ℕ → Matter) (last : ℕ) (memory : List ℕ) (s : IsShared text size harts parts matter last memory) where
+module _ (text : List ℕ) (size harts : ℕ) (parts : List Part) (matter : ℕ → Matter) (last : ℕ) (memory : List ℕ) (s : IsShared text size harts parts matter last
+    memory) where
   abbrev P : ℕ → Phase
   P k = phase text size harts parts matter k
 
@@ -57,7 +59,8 @@ module _ (text : List ℕ) (size harts : ℕ) (parts : List Part) (matter : ℕ 
   ]
 
   stands-code : (k : ℕ) → k ≤ last → Stand text (at k) (phase_code (ends k) (ticket_word k) (part k))
-  stands-code k l = stand-phase text parts text_start 0 k (ticket_word k) (ends k) s.stands (let c = s.count in omega (arith, c, l)) (which k l) (ap ticket_word (let e : k ≡ 0 + k = omega arith in e))
+  stands-code k l = stand-phase text parts text_start 0 k (ticket_word k) (ends k) s.stands (let c = s.count in omega (arith, c, l)) (which k l)
+      (ap ticket_word (let e : k ≡ 0 + k = omega arith in e))
 
   not-last : (k : ℕ) → k < last → ends k ≡ false
   not-last k l = let c = s.count in let e : (suc k == length parts) ≡ false = grind (arith, nat_tests, c, l) in e
@@ -115,7 +118,8 @@ module _ (text : List ℕ) (size harts : ℕ) (parts : List Part) (matter : ℕ 
   }
 
   door-says : (k : ℕ) → k ≤ last → (b : Bool) → ends k ≡ b → Stand text (door_at (at k)) (door_code b (length (part k).insns + 3))
-  door-says k l b e = subst (λ c. Stand text (door_at (at k)) (door_code c (length (part k).insns + 3))) e (at-door text (at k) (ends k) (ticket_word k) (part k) (stands-code k l))
+  door-says k l b e = subst (λ c. Stand text (door_at (at k)) (door_code c (length (part k).insns + 3))) e (at-door text (at k) (ends k) (ticket_word k)
+      (part k) (stands-code k l))
 
   gates : (k : ℕ) → k < last → HasGate (P k)
   gates k l =
@@ -138,10 +142,13 @@ module _ (text : List ℕ) (size harts : ℕ) (parts : List Part) (matter : ℕ 
   control-small : (k : ℕ) → k ≤ last → ticket_word k + 4 < 2 ^ 32
   control-small k l = let r = room-for k l in let c = s.small in omega (arith, r, c)
 
-  way : (k number : ℕ) (f : ℕ → ℕ) (m : List ℕ) (l : k ≤ last) (e : length m ≡ size) → Path (world (P k) Setup number) (at k) (draw_at (ends k) (at k)) 9 f m (after (world (P k) Setup number) m e f (ticket_word k) (part k).tasks (control-small k l) (s.words k l)) m
-  way k number f m l e = comes (world (P k) Setup number) m e f (ticket_word k) (part k).tasks (control-small k l) (s.words k l) (at k) (ends k) (part k) refl (aligned k) (stands-code k l)
+  way : (k number : ℕ) (f : ℕ → ℕ) (m : List ℕ) (l : k ≤ last) (e : length m ≡ size) → Path (world (P k) Setup number) (at k) (draw_at (ends k) (at k)) 9 f m
+      (after (world (P k) Setup number) m e f (ticket_word k) (part k).tasks (control-small k l) (s.words k l)) m
+  way k number f m l e = comes (world (P k) Setup number) m e f (ticket_word k) (part k).tasks (control-small k l) (s.words k l) (at k) (ends k) (part k) refl
+      (aligned k) (stands-code k l)
 
-  way-keeps : (k number : ℕ) (f : ℕ → ℕ) (m : List ℕ) (l : k ≤ last) (e : length m ≡ size) → f 10 ≡ number → f 11 ≡ harts → Keep (P k) number (after (world (P k) Setup number) m e f (ticket_word k) (part k).tasks (control-small k l) (s.words k l))
+  way-keeps : (k number : ℕ) (f : ℕ → ℕ) (m : List ℕ) (l : k ≤ last) (e : length m ≡ size) → f 10 ≡ number → f 11 ≡ harts
+      → Keep (P k) number (after (world (P k) Setup number) m e f (ticket_word k) (part k).tasks (control-small k l) (s.words k l))
   way-keeps k number f m l e en eh = record {
     number_is = keeps-low (world (P k) Setup number) m e f (ticket_word k) (part k).tasks (control-small k l) (s.words k l) 10 (omega arith) ∙ en;
     harts = keeps-low (world (P k) Setup number) m e f (ticket_word k) (part k).tasks (control-small k l) (s.words k l) 11 (omega arith) ∙ eh;
@@ -152,17 +159,21 @@ module _ (text : List ℕ) (size harts : ℕ) (parts : List Part) (matter : ℕ 
   }
 
   -- from the gate of one phase to the draw of the next
-  crosses : (k number : ℕ) (h : HartState) (m : List ℕ) → k < last → Stands (P k) number h (door_at (at k) + 12) → length m ≡ size → AreBytes m → SoonDone (P (suc k)) Setup number 10 h m
+  crosses : (k number : ℕ) (h : HartState) (m : List ℕ) → k < last → Stands (P k) number h (door_at (at k) + 12) → length m ≡ size → AreBytes m
+      → SoonDone (P (suc k)) Setup number 10 h m
   crosses k number h m l st e b =
       let w = world (P (suc k)) Setup number in
       let f = numbers_of h in
       let here : At (door_at (at k) + 12) f h = stands-there (P k) number (door_at (at k) + 12) h st in
       let d = door-says k (omega (arith, l)) false (not-last k l) in
-      let says : Says text (door_at (at k) + 12) (Jal 0 (forth (length (part k).insns + 3 + 1))) = subst (λ a. Says text a (Jal 0 (forth (length (part k).insns + 3 + 1)))) (let q : door_at (at k) + 4 + 4 + 4 ≡ door_at (at k) + 12 = omega arith in q) d.1.1.1.0 in
+      let says : Says text (door_at (at k) + 12) (Jal 0 (forth (length (part k).insns + 3 + 1))) =
+      subst (λ a. Says text a (Jal 0 (forth (length (part k).insns + 3 + 1)))) (let q : door_at (at k) + 4 + 4 + 4 ≡ door_at (at k) + 12 = omega arith in q)
+      d.1.1.1.0 in
       let next = next-at text_start parts k (let c = s.count in omega (arith, c, l)) in
       let to : door_at (at k) + 12 + 4 * (length (part k).insns + 3 + 1) ≡ at (suc k) = omega (arith, next) in
       let low : at (suc k) < 2 ^ 32 = let q = low-draw (suc k) (omega (arith, l)) in omega (arith, q) in
-      let over : Path w (door_at (at k) + 12) (at (suc k)) 1 f m f m = jump w f m e (door_at (at k) + 12) (at (suc k)) (forth (length (part k).insns + 3 + 1)) says (forth-to (door_at (at k) + 12) (length (part k).insns + 3 + 1) (at (suc k)) to low) (aligned (suc k)) in
+      let over : Path w (door_at (at k) + 12) (at (suc k)) 1 f m f m = jump w f m e (door_at (at k) + 12) (at (suc k)) (forth (length (part k).insns + 3 + 1))
+      says (forth-to (door_at (at k) + 12) (length (part k).insns + 3 + 1) (at (suc k)) to low) (aligned (suc k)) in
       let g = after w m e f (ticket_word (suc k)) (part (suc k)).tasks (control-small (suc k) (omega (arith, l))) (s.words (suc k) (omega (arith, l))) in
       let n : numbers_of h 10 ≡ number = sym (here.same 10 (omega arith)) ∙ st.kept.number in
       path-does (P (suc k)) Setup number (door_at (at k) + 12) 10 f g h m m here
@@ -188,10 +199,13 @@ module _ (text : List ℕ) (size harts : ℕ) (parts : List Part) (matter : ℕ 
       let f = numbers_of h in
       let draw = draw_at (ends k) (at k) in
       let here : At (from k) f h = stands-there (P k) number (from k) h b.stands in
-      let through : Path w (from k) (end (from k) (part k).insns) n f m r.after r.left = r.block (from k) (at-tasks text (at k) (ends k) (ticket_word k) (part k) (stands-code k l)) in
+      let through : Path w (from k) (end (from k) (part k).insns) n f m r.after r.left = r.block (from k) (at-tasks text (at k) (ends k) (ticket_word k)
+      (part k) (stands-code k l)) in
       let al : draw % 4 ≡ 0 = let q = aligned k in omega (arith, q) in
-      let home : Path w (end (from k) (part k).insns) draw 1 r.after r.left r.after r.left = jump w r.after r.left r.size_stays (end (from k) (part k).insns) draw (back (length (part k).insns + 2)) (at-back text (at k) (ends k) (ticket_word k) (part k) (stands-code k l)) (back-at k l) al in
-      let whole : Path w (from k) draw (suc n) f m r.after r.left = subst (λ i. Path w (from k) draw i f m r.after r.left) (let q : n + 1 ≡ suc n = omega arith in q) (path-then w (from k) (end (from k) (part k).insns) draw n 1 f r.after r.after m r.left r.left through home) in
+      let home : Path w (end (from k) (part k).insns) draw 1 r.after r.left r.after r.left = jump w r.after r.left r.size_stays (end (from k) (part k).insns)
+      draw (back (length (part k).insns + 2)) (at-back text (at k) (ends k) (ticket_word k) (part k) (stands-code k l)) (back-at k l) al in
+      let whole : Path w (from k) draw (suc n) f m r.after r.left = subst (λ i. Path w (from k) draw i f m r.after r.left) (let q : n + 1 ≡ suc n =
+      omega arith in q) (path-then w (from k) (end (from k) (part k).insns) draw n 1 f r.after r.after m r.left r.left through home) in
       path-does (P k) (Task task) number (from k) (suc n) f r.after h m r.left here whole r.keeps r.does
 
   writes : (k : ℕ) → k ≤ last → TaskWrites (P k)
@@ -271,11 +285,18 @@ module _ (text : List ℕ) (size harts : ℕ) (parts : List Part) (matter : ℕ 
       let f = numbers_of h in
       let here : At text_start f h = at-numbers text_start h refl refl refl refl vectors-are in
       let g = after (world (P 0) Setup number) memory s.whole f (ticket_word 0) (part 0).tasks (control-small 0 (omega arith)) (s.words 0 (omega arith)) in
-      path-does (P 0) Setup number text_start 9 f g h memory memory here (way 0 number f memory (omega arith) s.whole) (way-keeps 0 number f memory (omega arith) s.whole refl refl) tt
+      path-does (P 0) Setup number text_start 9 f g h memory memory here (way 0 number f memory (omega arith) s.whole) (way-keeps 0 number f memory
+      (omega arith) s.whole refl refl) tt
 
   zero-word : (a : ℕ) → data_start ≤ a → a + 4 ≤ data_start + 8 → word_at text memory a ≡ 0
   zero-word a l h =
-      rw (s.zeros a (l, omega (arith, h)), s.zeros (a + 1) (omega (arith, l), omega (arith, h)), s.zeros (a + 2) (omega (arith, l), omega (arith, h)), s.zeros (a + 3) (omega (arith, l), omega (arith, h))) refl
+      rw (
+        s.zeros a (l, omega (arith, h)),
+        s.zeros (a + 1) (omega (arith, l), omega (arith, h)),
+        s.zeros (a + 2) (omega (arith, l), omega (arith, h)),
+        s.zeros
+            (a + 3) (omega (arith, l), omega (arith, h)),
+      ) refl
 
   pub opens : Opens (P 0) text_start memory
   opens = record {
@@ -288,5 +309,11 @@ module _ (text : List ℕ) (size harts : ℕ) (parts : List Part) (matter : ℕ 
   }
 
 pub programs-share : ProgramsShare
-programs-share text size harts parts matter last memory s =
-    (shares text size harts parts matter last memory s, (opens text size harts parts matter last memory s, task-writes text size harts parts matter last memory s))
+programs-share text size harts parts matter last memory s = (
+  shares text size harts parts matter last memory s,
+  (
+    opens text size harts parts matter last memory s,
+    task-writes text size harts parts matter last memory
+        s,
+  ),
+)

@@ -20,7 +20,8 @@ use Rattle.vector_codegen_laws.proofs.Facts.{Work, point_there}
 use Rattle.vector_codegen_laws.proofs.Matters.{owners_of, start_of, result_of, part_of, byte_of_planes, greatest_none}
 
 module _ (pipeline : Pipeline) (schedule : Schedule) (boxes : Boxes) (inputs : Planes) (work : Work) (number : ℕ)
-    (does : DoesPhase (box_points boxes.funcs) (is_private schedule.standings) work.place (start_of pipeline schedule boxes inputs work) (result_of pipeline schedule boxes inputs work) work.phase.tasks work.owned
+    (does : DoesPhase (box_points boxes.funcs) (is_private schedule.standings) work.place (start_of pipeline schedule boxes inputs work)
+    (result_of pipeline schedule boxes inputs work) work.phase.tasks work.owned
     (run_task (box_points boxes.funcs) inputs work.phase)) where
   abbrev start : Planes
   start = start_of pipeline schedule boxes inputs work
@@ -34,7 +35,8 @@ module _ (pipeline : Pipeline) (schedule : Schedule) (boxes : Boxes) (inputs : P
   -- what no task writes is in the result what it is in the start
   pub record Stays (address : ℕ) : Type 0 where
     pub fixed : uses pipeline schedule boxes.funcs number (owners_of work) address ≡ Fixed
-    pub same : byte_of_planes pipeline schedule boxes inputs (start_of pipeline schedule boxes inputs work) address ≡ byte_of_planes pipeline schedule boxes inputs (result_of pipeline schedule boxes inputs work) address
+    pub same : byte_of_planes pipeline schedule boxes inputs (start_of pipeline schedule boxes inputs work) address ≡ byte_of_planes pipeline schedule boxes
+        inputs (result_of pipeline schedule boxes inputs work) address
 
   -- one task owns it
   pub record HasOwner (address : ℕ) : Type 0 where
@@ -55,9 +57,11 @@ module _ (pipeline : Pipeline) (schedule : Schedule) (boxes : Boxes) (inputs : P
     abbrev owner : Option ℕ
     owner = greatest work.phase.tasks (λ task. work.owned task x y)
 
-    same_byte : start place x y ≡ result place x y → byte_of_planes pipeline schedule boxes inputs start address ≡ byte_of_planes pipeline schedule boxes inputs result address
+    same_byte : start place x y ≡ result place x y → byte_of_planes pipeline schedule boxes inputs start address ≡ byte_of_planes pipeline schedule boxes inputs
+        result address
     same_byte same =
-        ap (byte_in pipeline.inputs boxes.funcs inputs start) e ∙ (ap (λ n. byte_of n (offset % 4)) same ∙ sym (ap (byte_in pipeline.inputs boxes.funcs inputs result) e))
+        ap (byte_in pipeline.inputs boxes.funcs inputs start) e ∙ (ap (λ n. byte_of n (offset % 4)) same
+        ∙ sym (ap (byte_in pipeline.inputs boxes.funcs inputs result) e))
 
     own_use : place ≡ work.place → use_at address ≡ use_of_owner owner
     own_use same = ap (use_of boxes.funcs number (owners_of work)) e ∙ ap (λ (b : Bool). cond b (use_of_owner owner) Fixed) (eq-eqb place work.place same)
@@ -66,7 +70,8 @@ module _ (pipeline : Pipeline) (schedule : Schedule) (boxes : Boxes) (inputs : P
     unowned same none =
         let there = point_there pipeline schedule boxes place x y point in
         sym (subst (λ (n : ℕ). result n x y ≡ start n x y) (sym same)
-        (does.unowned x y (subst (λ (n : ℕ). box_points boxes.funcs n x y ≡ true) same there) (λ n l. greatest_none work.phase.tasks (λ task. work.owned task x y) none n l)))
+        (does.unowned x y (subst (λ (n : ℕ). box_points boxes.funcs n x y ≡ true) same there) (λ n l. greatest_none work.phase.tasks (λ task. work.owned task x
+        y) none n l)))
 
     by_owner : place ≡ work.place → (found : Option ℕ) → owner ≡ found → Stays address ⊎ HasOwner address
     by_owner same None f = inl (record { fixed = own_use same ∙ ap use_of_owner f; same = same_byte (unowned same f) })

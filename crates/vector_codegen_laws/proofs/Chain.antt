@@ -1,5 +1,6 @@
 -- The phases of a pipeline one behind the other: each begins with what the one before it leaves at the points of Funcs at root.
-use Rattle.std.proofs.Common.{◌≡◌, ℕ, zero, suc, ◌<◌, ◌≤◌, Bool, true, false, cond, List, [], ◌∷◌, ◌++◌, length, Option, Some, None, refl, sym, ap, subst, ◌∙◌, arith, inl, inr}
+use Rattle.std.proofs.Common.{◌≡◌, ℕ, zero, suc, ◌<◌, ◌≤◌, Bool, true, false, cond, List, [], ◌∷◌, ◌++◌, length, Option, Some, None, refl, sym, ap, subst, ◌∙◌}
+use Rattle.std.proofs.Common.{arith, inl, inr}
 use Rattle.std.specs.Prelude.{◌==◌, nat_lt, slice_get, Ok}
 use Rattle.std.proofs.lemmas.Bool.{cases_lt, cases_eq, ne_eqb, lt-ltb, le-ltb}
 use Rattle.std.proofs.lemmas.List.{append_assoc, append-nil}
@@ -163,27 +164,41 @@ module _ (pipeline : Pipeline) (schedule : Schedule) (boxes : Boxes) (inputs : P
       stage_more k l =
           let same = told.stages_are in
           elim (cases_lt k (length phases)) [
-            | inl b ↦ get_before all (stage_of last) k (omega (arith, b, same)) ∙ (told.stage_is k b ∙ ap (λ (w : Work). Some (stage_of w)) (sym (more_before k b)))
+            | inl b ↦ get_before all (stage_of last) k (omega (arith, b, same))
+                ∙ (told.stage_is k b ∙ ap (λ (w : Work). Some (stage_of w)) (sym (more_before k b)))
             | inr b ↦
                 let here = same_count k l b in
                 get_last all (stage_of last) k (omega (arith, here, same)) ∙ ap (λ (w : Work). Some (stage_of w)) (sym (more_last k b))
           ]
 
       told_more : Told (phases ++ last.phase ∷ []) (all ++ stage_of last ∷ []) (result last)
-      told_more = record { works = more; known = known_more; phase_is = phase_more; starts = starts_more; ends = ends_more; stages_are = stages_more; stage_is = stage_more }
+      told_more = record {
+        works = more;
+        known = known_more;
+        phase_is = phase_more;
+        starts = starts_more;
+        ends = ends_more;
+        stages_are = stages_more;
+        stage_is =
+            stage_more;
+      }
 
   -- ---- the stages of a Func
 
-  stages_told : (place : ℕ) (func : Func) (plan : FuncPlan) (own : SourceBox) → IsAtRoot pipeline schedule boxes place func plan own → (others phases : List Phase) (number : ℕ)
+  stages_told : (place : ℕ) (func : Func) (plan : FuncPlan) (own : SourceBox) → IsAtRoot pipeline schedule boxes place func plan own
+      → (others phases : List Phase) (number : ℕ)
       → ArePhasesOf pipeline schedule boxes place func plan own others number phases
-      → (all : List StagePlace) → Told others all (before place) → Told phases (all ++ stages_to place number) (held boxes.funcs (after_stages pipeline.funcs inputs place func number))
-  stages_told place func plan own at others _ _ None_yet all told = subst (λ (list : List StagePlace). Told others list (before place)) (sym (append-nil all)) told
+      → (all : List StagePlace) → Told others all (before place)
+      → Told phases (all ++ stages_to place number) (held boxes.funcs (after_stages pipeline.funcs inputs place func number))
+  stages_told place func plan own at others _ _ None_yet all told = subst (λ (list : List StagePlace). Told others list (before place)) (sym (append-nil all))
+      told
   stages_told place func plan own at others _ _ (One_more number phases phase rest one) all told =
       let known = known_phase pipeline schedule boxes place func plan own at number phase one in
       let last : Work = record { place = place; func = func; plan = plan; own = own; number = number; owned = known.owned; phase = phase } in
       subst (λ (list : List StagePlace). Told (phases ++ phase ∷ []) list (held boxes.funcs (after_stages pipeline.funcs inputs place func (suc number))))
       (append_assoc all (stages_to place number) (stage_of last ∷ []))
-      (told_more phases (all ++ stages_to place number) (held boxes.funcs (after_stages pipeline.funcs inputs place func number)) (stages_told place func plan own at others phases number rest all told)
+      (told_more phases (all ++ stages_to place number) (held boxes.funcs (after_stages pipeline.funcs inputs place func number)) (stages_told place func plan
+      own at others phases number rest all told)
       last known.known (λ k x y p. refl))
 
   -- ---- from the pixels of some Funcs to those of one more
@@ -192,17 +207,21 @@ module _ (pipeline : Pipeline) (schedule : Schedule) (boxes : Boxes) (inputs : P
   unfolding pixels
   same_elsewhere place k x y d =
       let corner = corner_of (box_in (slice_get boxes.funcs k)) in
-      sym (ap (λ (b : Bool). cond b (func_plane place (slice_get pipeline.funcs place) inputs (pixels pipeline.funcs inputs place)) (pixels pipeline.funcs inputs place k) (word.add corner.x x) (word.add corner.y y)) (ne_eqb k place d))
+      sym (ap (λ (b : Bool). cond b (func_plane place (slice_get pipeline.funcs place) inputs (pixels pipeline.funcs inputs place))
+      (pixels pipeline.funcs inputs place k) (word.add corner.x x) (word.add corner.y y)) (ne_eqb k place d))
 
-  done_agree : (place : ℕ) (func : Func) → slice_get pipeline.funcs place ≡ Some func → Agree (held boxes.funcs (after_stages pipeline.funcs inputs place func (suc (length func.updates)))) (before (suc place))
+  done_agree : (place : ℕ) (func : Func) → slice_get pipeline.funcs place ≡ Some func
+      → Agree (held boxes.funcs (after_stages pipeline.funcs inputs place func (suc (length func.updates)))) (before (suc place))
   unfolding pixels
   done_agree place func found k x y p =
       let corner = corner_of (box_in (slice_get boxes.funcs k)) in
       let earlier = pixels pipeline.funcs inputs place in
-      let mine : Option Func → ℕ = λ (own : Option Func). cond (k == place) (func_plane place own inputs earlier) (earlier k) (word.add corner.x x) (word.add corner.y y) in
+      let mine : Option Func → ℕ = λ (own : Option Func). cond (k == place) (func_plane place own inputs earlier) (earlier k) (word.add corner.x x)
+      (word.add corner.y y) in
       by_test (k == place) (word.add corner.x x) (word.add corner.y y) ∙ sym (ap mine found)
     where
-      by_test : (test : Bool) (a b : ℕ) → cond test (stage place func inputs (pixels pipeline.funcs inputs place) (length func.updates)) (pixels pipeline.funcs inputs place k) a b
+      by_test : (test : Bool) (a b : ℕ) → cond test (stage place func inputs (pixels pipeline.funcs inputs place) (length func.updates))
+          (pixels pipeline.funcs inputs place k) a b
           ≡ cond test (func_plane place (Some func) inputs (pixels pipeline.funcs inputs place)) (pixels pipeline.funcs inputs place k) a b
       by_test true a b = refl
       by_test false a b = refl
@@ -213,9 +232,18 @@ module _ (pipeline : Pipeline) (schedule : Schedule) (boxes : Boxes) (inputs : P
     no_point place x y not_root p =
         let b = has_box pipeline schedule boxes accepted is place p.own p.box_is in
         let plan = pair_there IsPlan pipeline.funcs schedule.funcs place b.func accepted.plans b.func_is in
-        not_root b.func plan.value p.own (record { func_is = b.func_is; plan_is = plan.is; box_is = p.box_is; standing = b.standing; there = b.there; placed_is = same b.standing p.standing b.there.standing p.standing_is p.at_root })
+        not_root b.func plan.value p.own (record {
+          func_is = b.func_is;
+          plan_is = plan.is;
+          box_is = p.box_is;
+          standing = b.standing;
+          there =
+              b.there;
+          placed_is = same b.standing p.standing b.there.standing p.standing_is p.at_root;
+        })
       where
-        same : (one other : Standing) → slice_get schedule.standings place ≡ Some one → slice_get schedule.standings place ≡ Some other → other.place ≡ standpoints.Root → one.place ≡ standpoints.Root
+        same : (one other : Standing) → slice_get schedule.standings place ≡ Some one → slice_get schedule.standings place ≡ Some other
+            → other.place ≡ standpoints.Root → one.place ≡ standpoints.Root
         same one other e f r = let q : one ≡ other = cc in ap (λ (s : Standing). s.place) q ∙ r
 
     passed_agree : (place : ℕ) → IsNotAtRoot pipeline schedule boxes place → Agree (before place) (before (suc place))
@@ -232,7 +260,8 @@ module _ (pipeline : Pipeline) (schedule : Schedule) (boxes : Boxes) (inputs : P
     abbrev so_far : ℕ → List StagePlace
     so_far count = stages_below pipeline schedule boxes count
 
-    stages_root : (place : ℕ) (func : Func) (plan : FuncPlan) (own : SourceBox) → IsAtRoot pipeline schedule boxes place func plan own → stages_here place ≡ stages_to place (suc (length func.updates))
+    stages_root : (place : ℕ) (func : Func) (plan : FuncPlan) (own : SourceBox) → IsAtRoot pipeline schedule boxes place func plan own
+        → stages_here place ≡ stages_to place (suc (length func.updates))
     stages_root place func plan own at =
         ap (λ (s : Option Standing). stages_at place s (slice_get pipeline.funcs place) (slice_get boxes.funcs place)) at.there.standing
         ∙ (ap (λ (f : Option Func). stages_at place (Some at.standing) f (slice_get boxes.funcs place)) at.func_is
@@ -240,18 +269,28 @@ module _ (pipeline : Pipeline) (schedule : Schedule) (boxes : Boxes) (inputs : P
         ∙ ap (λ (p : Place). stages_where p func (Some own) place) at.placed_is))
 
     -- a Func at root with a box has phases
-    root_passed : (place : ℕ) (standing : Standing) (func : Func) (own : SourceBox) → slice_get schedule.standings place ≡ Some standing → slice_get boxes.funcs place ≡ Some (Some own)
+    root_passed : (place : ℕ) (standing : Standing) (func : Func) (own : SourceBox) → slice_get schedule.standings place ≡ Some standing
+        → slice_get boxes.funcs place ≡ Some (Some own)
         → standing.place ≡ standpoints.Root → IsNotAtRoot pipeline schedule boxes place → ⊥
     root_passed place standing func own s b root not_root =
         let box = has_box pipeline schedule boxes accepted is place own b in
         let plan = pair_there IsPlan pipeline.funcs schedule.funcs place box.func accepted.plans box.func_is in
         let same : box.standing ≡ standing = let p = box.there.standing in cc in
-        not_root box.func plan.value own (record { func_is = box.func_is; plan_is = plan.is; box_is = b; standing = box.standing; there = box.there; placed_is = ap (λ (t : Standing). t.place) same ∙ root })
+        not_root box.func plan.value own (record {
+          func_is = box.func_is;
+          plan_is = plan.is;
+          box_is = b;
+          standing = box.standing;
+          there = box.there;
+          placed_is =
+              ap (λ (t : Standing). t.place) same ∙ root;
+        })
 
     stages_passed : (place : ℕ) → IsNotAtRoot pipeline schedule boxes place → stages_here place ≡ []
     stages_passed place not_root = by_all (slice_get schedule.standings place) (slice_get pipeline.funcs place) (slice_get boxes.funcs place) refl refl
       where
-        by_place : (standing : Standing) (func : Func) (own : Option SourceBox) (at : Place) → slice_get schedule.standings place ≡ Some standing → slice_get boxes.funcs place ≡ Some own → standing.place ≡ at
+        by_place : (standing : Standing) (func : Func) (own : Option SourceBox) (at : Place) → slice_get schedule.standings place ≡ Some standing
+            → slice_get boxes.funcs place ≡ Some own → standing.place ≡ at
             → stages_where at func own place ≡ []
         by_place standing func None standpoints.Root s b e = refl
         by_place standing func (Some own) standpoints.Root s b e = absurd (root_passed place standing func own s b e not_root)
@@ -259,7 +298,8 @@ module _ (pipeline : Pipeline) (schedule : Schedule) (boxes : Boxes) (inputs : P
         by_place standing func own (standpoints.At at) s b e = refl
         by_place standing func own standpoints.Nowhere s b e = refl
 
-        by_all : (standing : Option Standing) (func : Option Func) (own : Option (Option SourceBox)) → slice_get schedule.standings place ≡ standing → slice_get boxes.funcs place ≡ own
+        by_all : (standing : Option Standing) (func : Option Func) (own : Option (Option SourceBox)) → slice_get schedule.standings place ≡ standing
+            → slice_get boxes.funcs place ≡ own
             → stages_at place standing func own ≡ []
         by_all None func own s b = refl
         by_all (Some standing) None own s b = refl
@@ -269,7 +309,8 @@ module _ (pipeline : Pipeline) (schedule : Schedule) (boxes : Boxes) (inputs : P
     -- ---- all of them
 
     -- with any work in the place of those that aren't there
-    pub funcs_told : (other : Work) (count : ℕ) (phases : List Phase) → AreLowered pipeline schedule boxes count phases → Told phases (so_far count) (before count)
+    pub funcs_told : (other : Work) (count : ℕ) (phases : List Phase) → AreLowered pipeline schedule boxes count phases
+        → Told phases (so_far count) (before count)
     funcs_told other _ _ No_func = record {
       works = λ k. other;
       known = λ k l. absurd (omega (arith, l));
@@ -280,20 +321,35 @@ module _ (pipeline : Pipeline) (schedule : Schedule) (boxes : Boxes) (inputs : P
       stage_is = λ k l. absurd (omega (arith, l));
     }
     funcs_told other _ _ (Passed place phases rest not_root) =
-        subst (λ (list : List StagePlace). Told phases list (before (suc place))) (sym (ap (λ (list : List StagePlace). so_far place ++ list) (stages_passed place not_root) ∙ append-nil (so_far place)))
+        subst (λ (list : List StagePlace). Told phases list (before (suc place))) (sym (ap (λ (list : List StagePlace). so_far place ++ list)
+        (stages_passed place not_root) ∙ append-nil (so_far place)))
         (told_same phases (so_far place) (before place) (funcs_told other place phases rest) (before (suc place)) (passed_agree place not_root))
     funcs_told other _ _ (Computed place others phases func plan own rest at stages) =
-        subst (λ (list : List StagePlace). Told phases list (before (suc place))) (ap (λ (list : List StagePlace). so_far place ++ list) (sym (stages_root place func plan own at)))
-        (told_same phases (so_far place ++ stages_to place (suc (length func.updates))) (held boxes.funcs (after_stages pipeline.funcs inputs place func (suc (length func.updates))))
-        (stages_told place func plan own at others phases (suc (length func.updates)) stages (so_far place) (funcs_told other place others rest)) (before (suc place)) (done_agree place func at.func_is))
+        subst (λ (list : List StagePlace). Told phases list (before (suc place))) (ap (λ (list : List StagePlace). so_far place ++ list)
+        (sym (stages_root place func plan own at)))
+        (told_same phases (so_far place ++ stages_to place (suc (length func.updates))) (held boxes.funcs (after_stages pipeline.funcs inputs place func
+        (suc (length func.updates))))
+        (stages_told place func plan own at others phases (suc (length func.updates)) stages (so_far place) (funcs_told other place others rest))
+        (before (suc place)) (done_agree place func at.func_is))
 
 module _ (pipeline : Pipeline) (schedule : Schedule) (boxes : Boxes) where
-  stage_work : (place : ℕ) (func : Func) (plan : FuncPlan) (own : SourceBox) (others phases : List Phase) (number : ℕ) → ArePhasesOf pipeline schedule boxes place func plan own others number phases → 0 < number → Work
+  stage_work : (place : ℕ) (func : Func) (plan : FuncPlan) (own : SourceBox) (others phases : List Phase) (number : ℕ)
+      → ArePhasesOf pipeline schedule boxes place func plan own others number phases → 0 < number → Work
   stage_work place func plan own others _ _ None_yet l = absurd (omega (arith, l))
-  stage_work place func plan own others _ _ (One_more number phases phase rest one) l = record { place = place; func = func; plan = plan; own = own; number = number; owned = λ task x y. false; phase = phase }
+  stage_work place func plan own others _ _ (One_more number phases phase rest one) l = record {
+    place = place;
+    func = func;
+    plan = plan;
+    own = own;
+    number =
+        number;
+    owned = λ task x y. false;
+    phase = phase;
+  }
 
   -- where there are phases there is some work
   pub some_work : (count last : ℕ) (phases : List Phase) → AreLowered pipeline schedule boxes count phases → length phases ≡ suc last → Work
   some_work _ last _ No_func e = absurd (omega (arith, e))
   some_work _ last _ (Passed place phases rest not_root) e = some_work place last phases rest e
-  some_work _ last _ (Computed place others phases func plan own rest at stages) e = stage_work place func plan own others phases (suc (length func.updates)) stages (omega arith)
+  some_work _ last _ (Computed place others phases func plan own rest at stages) e = stage_work place func plan own others phases (suc (length func.updates))
+      stages (omega arith)

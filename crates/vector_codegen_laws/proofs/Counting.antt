@@ -30,7 +30,8 @@ none_to : (standings : List Standing) (funcs : List Func) (boxes : List (Option 
 unfolding phases_to
 none_to standings funcs boxes = refl
 
-all_of : (n : ℕ) (standings : List Standing) (funcs : List Func) (boxes : List (Option SourceBox)) → phases_to n standings funcs boxes ≤ phases standings funcs boxes
+all_of : (n : ℕ) (standings : List Standing) (funcs : List Func) (boxes : List (Option SourceBox))
+    → phases_to n standings funcs boxes ≤ phases standings funcs boxes
 unfolding phases_to
 all_of zero standings funcs boxes = omega arith
 all_of (suc n) [] funcs boxes = omega arith
@@ -38,7 +39,8 @@ all_of (suc n) (standing ∷ standings) [] boxes = omega arith
 all_of (suc n) (standing ∷ standings) (func ∷ funcs) [] = omega arith
 all_of (suc n) (standing ∷ standings) (func ∷ funcs) (own ∷ boxes) = let l = all_of n standings funcs boxes in omega (arith, l)
 
-one_to : (n : ℕ) (standings : List Standing) (funcs : List Func) (boxes : List (Option SourceBox)) → phases_to n standings funcs boxes ≤ phases_to (suc n) standings funcs boxes
+one_to : (n : ℕ) (standings : List Standing) (funcs : List Func) (boxes : List (Option SourceBox))
+    → phases_to n standings funcs boxes ≤ phases_to (suc n) standings funcs boxes
 unfolding phases_to
 one_to zero standings funcs boxes = omega arith
 one_to (suc n) [] funcs boxes = omega arith
@@ -58,15 +60,18 @@ more_to zero (first ∷ standings) (other ∷ funcs) (box ∷ boxes) standing fu
     let same_func : other ≡ func = cc in
     let same_box : box ≡ own = cc in
     let q : phases_of first.place other box ≡ phases_of standing.place func own =
-    ap (λ (t : Standing). phases_of t.place other box) same_standing ∙ (ap (λ (g : Func). phases_of standing.place g box) same_func ∙ ap (phases_of standing.place func) same_box) in
+    ap (λ (t : Standing). phases_of t.place other box) same_standing ∙ (ap (λ (g : Func). phases_of standing.place g box) same_func
+    ∙ ap (phases_of standing.place func) same_box) in
     omega (arith, q)
-more_to (suc n) (first ∷ standings) (other ∷ funcs) (box ∷ boxes) standing func own s f b = let l = more_to n standings funcs boxes standing func own s f b in omega (arith, l)
+more_to (suc n) (first ∷ standings) (other ∷ funcs) (box ∷ boxes) standing func own s f b = let l = more_to n standings funcs boxes standing func own s f b in
+    omega (arith, l)
 
 module _ (pipeline : Pipeline) (schedule : Schedule) (boxes : Boxes) where
   abbrev to : ℕ → ℕ
   to count = phases_to count schedule.standings pipeline.funcs boxes.funcs
 
-  stages_count : (place : ℕ) (func : Func) (plan : FuncPlan) (own : SourceBox) (others phases : List Phase) (number : ℕ) → ArePhasesOf pipeline schedule boxes place func plan own others number phases
+  stages_count : (place : ℕ) (func : Func) (plan : FuncPlan) (own : SourceBox) (others phases : List Phase) (number : ℕ)
+      → ArePhasesOf pipeline schedule boxes place func plan own others number phases
       → length phases ≡ length others + number
   stages_count place func plan own others _ _ None_yet = omega arith
   stages_count place func plan own others _ _ (One_more number phases phase rest one) =
@@ -87,5 +92,6 @@ module _ (pipeline : Pipeline) (schedule : Schedule) (boxes : Boxes) where
       let s : phases_of at.standing.place func (Some own) ≡ length func.updates + 1 = ap (λ p. phases_of p func (Some own)) at.placed_is in
       omega (arith, l, e, m, s)
 
-  pub all_counted : (count : ℕ) (list : List Phase) → AreLowered pipeline schedule boxes count list → length list ≤ phases schedule.standings pipeline.funcs boxes.funcs
+  pub all_counted : (count : ℕ) (list : List Phase) → AreLowered pipeline schedule boxes count list
+      → length list ≤ phases schedule.standings pipeline.funcs boxes.funcs
   all_counted count list are = let l = counted count list are in let m = all_of count schedule.standings pipeline.funcs boxes.funcs in omega (arith, l, m)

@@ -1,5 +1,6 @@
 -- What is known of the phase of a stage of a Func, whichever stage it is, and of points of buffers.
-use Rattle.std.proofs.Common.{◌≡◌, ℕ, suc, ◌+◌, ◌<◌, ◌≤◌, Bool, true, false, cond, List, [], ◌∷◌, length, Option, Some, None, refl, sym, ap, ◌∙◌, arith, inl, inr, true≢false}
+use Rattle.std.proofs.Common.{◌≡◌, ℕ, suc, ◌+◌, ◌<◌, ◌≤◌, Bool, true, false, cond, List, [], ◌∷◌, length, Option, Some, None, refl, sym, ap, ◌∙◌, arith, inl}
+use Rattle.std.proofs.Common.{inr, true≢false}
 use Rattle.std.specs.Prelude.{◌&&◌, ◌||◌, nat_lt, slice_get, Ok}
 use Rattle.std.proofs.lemmas.Bool.{and_parts, and_from, cases_eq, ne_eqb, lt-ltb, ltb-true}
 use Rattle.std.proofs.lemmas.Option.{slice_get_within}
@@ -30,7 +31,8 @@ use Rattle.lowering.specs.ProducedFuncs.{produced_from, is_produced, is_at_loop_
 use Rattle.lowering.specs.Lowered.{IsStagePhase, Pure, Updating}
 use Rattle.lowering.specs.Phases.{Hold}
 use Rattle.lowering.specs.Planes.{held, has_point, box_points}
-use Rattle.bounds.specs.Stages.{IsAtRoot, names, StagePlace, iterations, iterations_in, iterations_of, update_iterations, writes, writes_in, writes_of, update_writes}
+use Rattle.bounds.specs.Stages.{IsAtRoot, names, StagePlace, iterations, iterations_in, iterations_of, update_iterations, writes, writes_in, writes_of}
+use Rattle.bounds.specs.Stages.{update_writes}
 use Rattle.lowering.specs.Stages.{is_at_loop, is_private_in, is_private, after_stages, DoesStage}
 use Rattle.lowering.specs.Rounds.{RoundsMayBeAtOnce}
 use Rattle.lowering.specs.Runs.{StoresInRuns}
@@ -68,7 +70,8 @@ root_of own standpoints.Inlined e t = absurd (true≢false (sym t))
 root_of own standpoints.Nowhere e t = absurd (true≢false (sym t))
 
 module _ (pipeline : Pipeline) (schedule : Schedule) (boxes : Boxes) where
-  pub root_point : (func x y : ℕ) (standing : Standing) → slice_get schedule.standings func ≡ Some standing → standing.place ≡ standpoints.Root → box_points boxes.funcs func x y ≡ true
+  pub root_point : (func x y : ℕ) (standing : Standing) → slice_get schedule.standings func ≡ Some standing → standing.place ≡ standpoints.Root
+      → box_points boxes.funcs func x y ≡ true
       → RootPoint pipeline schedule boxes.funcs func x y
   root_point func x y standing e r t =
       let p = point_in (slice_get boxes.funcs func) x y t in
@@ -77,13 +80,25 @@ module _ (pipeline : Pipeline) (schedule : Schedule) (boxes : Boxes) where
   pub private_point : (func x y : ℕ) → IsAtLoop schedule func → box_points boxes.funcs func x y ≡ true → PrivatePoint pipeline schedule boxes.funcs func x y
   private_point func x y l t =
       let p = point_in (slice_get boxes.funcs func) x y t in
-      record { standing = l.standing; standing_is = l.standing_is; loop = l.loop; at_loop = l.at_loop; own = p.own; box_is = p.is; column = p.column; row = p.row }
+      record {
+        standing = l.standing;
+        standing_is = l.standing_is;
+        loop = l.loop;
+        at_loop = l.at_loop;
+        own = p.own;
+        box_is = p.is;
+        column = p.column;
+        row =
+            p.row;
+      }
 
   -- a point of a Func that is known to stand at root
-  pub listed_root_point : (func x y : ℕ) → is_root_at schedule.standings func ≡ true → box_points boxes.funcs func x y ≡ true → RootPoint pipeline schedule boxes.funcs func x y
+  pub listed_root_point : (func x y : ℕ) → is_root_at schedule.standings func ≡ true → box_points boxes.funcs func x y ≡ true
+      → RootPoint pipeline schedule boxes.funcs func x y
   listed_root_point func x y r t = by_standing (slice_get schedule.standings func) refl r
     where
-      by_standing : (standing : Option Standing) → slice_get schedule.standings func ≡ standing → is_root_in standing ≡ true → RootPoint pipeline schedule boxes.funcs func x y
+      by_standing : (standing : Option Standing) → slice_get schedule.standings func ≡ standing → is_root_in standing ≡ true
+          → RootPoint pipeline schedule boxes.funcs func x y
       by_standing None e s = absurd (true≢false (sym s))
       by_standing (Some own) e s = root_point func x y own e (root_of own own.place refl (and_parts own.is_reached (is_root own.place) s).1) t
 
@@ -95,16 +110,19 @@ module _ (pipeline : Pipeline) (schedule : Schedule) (boxes : Boxes) where
 
   -- a point of a buffer that isn't private is one of a Func at root
   module _ (accepted : IsAccepted pipeline schedule) (is : inferred pipeline schedule ≡ Ok boxes) where
-    pub shared_point : (func x y : ℕ) → is_private schedule.standings func ≡ false → box_points boxes.funcs func x y ≡ true → RootPoint pipeline schedule boxes.funcs func x y
+    pub shared_point : (func x y : ℕ) → is_private schedule.standings func ≡ false → box_points boxes.funcs func x y ≡ true
+        → RootPoint pipeline schedule boxes.funcs func x y
     shared_point func x y shared t =
         let p = point_in (slice_get boxes.funcs func) x y t in
         let b = has_box pipeline schedule boxes accepted is func p.own p.is in
         by_place p.own b b.standing.place refl b.computed
       where
-        by_place : (own : SourceBox) → (b : HasBox pipeline schedule boxes func own) → (place : Place) → b.standing.place ≡ place → IsComputed func place → RootPoint pipeline schedule boxes.funcs func x y
+        by_place : (own : SourceBox) → (b : HasBox pipeline schedule boxes func own) → (place : Place) → b.standing.place ≡ place → IsComputed func place
+            → RootPoint pipeline schedule boxes.funcs func x y
         by_place own b standpoints.Root w c = root_point func x y b.standing b.there.standing w t
         by_place own b (standpoints.At at) w c =
-            absurd (true≢false (sym (ap is_private_in b.there.standing ∙ (ap (λ (r : Bool). r && is_at_loop b.standing.place) b.there.reached ∙ ap is_at_loop w)) ∙ shared))
+            absurd (true≢false (sym (ap is_private_in b.there.standing ∙ (ap (λ (r : Bool). r && is_at_loop b.standing.place) b.there.reached
+            ∙ ap is_at_loop w)) ∙ shared))
         by_place own b standpoints.Inlined w c = absurd c
         by_place own b standpoints.Nowhere w c = absurd c
 
@@ -118,19 +136,30 @@ record Listed (consumer at k : ℕ) (standings : List Standing) : Type 0 where
   produced : is_produced consumer own ≡ true
 
 listed_later : (consumer at k : ℕ) (first : Standing) (others : List Standing) → Listed consumer (suc at) k others → Listed consumer at k (first ∷ others)
-listed_later consumer at k first others l = let e = l.place_is in record { n = suc l.n; place_is = omega (arith, e); own = l.own; there = l.there; produced = l.produced }
+listed_later consumer at k first others l = let e = l.place_is in record {
+  n = suc l.n;
+  place_is = omega (arith, e);
+  own = l.own;
+  there = l.there;
+  produced =
+      l.produced;
+}
 
-listed_here : (consumer at k : ℕ) (first : Standing) (others : List Standing) → (is_listed (produced_from consumer (suc at) others) k ≡ true → Listed consumer (suc at) k others)
-    → (b : Bool) → is_produced consumer first ≡ b → is_listed (cond b (at ∷ produced_from consumer (suc at) others) (produced_from consumer (suc at) others)) k ≡ true → Listed consumer at k (first ∷ others)
+listed_here : (consumer at k : ℕ) (first : Standing) (others : List Standing) → (is_listed (produced_from consumer (suc at) others) k ≡ true
+    → Listed consumer (suc at) k others)
+    → (b : Bool) → is_produced consumer first ≡ b → is_listed (cond b (at ∷ produced_from consumer (suc at) others) (produced_from consumer (suc at) others)) k
+    ≡ true → Listed consumer at k (first ∷ others)
 listed_here consumer at k first others next false f e = listed_later consumer at k first others (next e)
 listed_here consumer at k first others next true f e = elim (cases_eq at k) [
   | inl q ↦ record { n = 0; place_is = omega (arith, q); own = first; there = refl; produced = f }
-  | inr d ↦ listed_later consumer at k first others (next (sym (ap (λ (b : Bool). b || is_listed (produced_from consumer (suc at) others) k) (ne_eqb at k d)) ∙ e))
+  | inr d ↦ listed_later consumer at k first others (next (sym (ap (λ (b : Bool). b || is_listed (produced_from consumer (suc at) others) k) (ne_eqb at k d))
+      ∙ e))
 ]
 
 listed_of : (consumer at : ℕ) (standings : List Standing) (k : ℕ) → is_listed (produced_from consumer at standings) k ≡ true → Listed consumer at k standings
 listed_of consumer at [] k e = absurd (true≢false (sym e))
-listed_of consumer at (first ∷ others) k e = listed_here consumer at k first others (λ f. listed_of consumer (suc at) others k f) (is_produced consumer first) refl e
+listed_of consumer at (first ∷ others) k e = listed_here consumer at k first others (λ f. listed_of consumer (suc at) others k f) (is_produced consumer first)
+    refl e
 
 record LoopOf (place : Place) : Type 0 where
   loop : LoopPlace
@@ -181,13 +210,17 @@ pub record IsKnown (pipeline : Pipeline) (schedule : Schedule) (boxes : Boxes) (
   pub rounds : RoundsMayBeAtOnce work.phase
   pub tasks_are : work.phase.tasks ≡ iterations pipeline schedule boxes (stage_of work)
   -- from what the stage begins with, a task stores at the points that its iteration writes, and owns them
-  pub stores : (inputs : Planes) → AnswerWords pipeline.inputs (reads_of inputs (pixels pipeline.funcs inputs 0)) → (funcs : Planes) (task : ℕ) → task < work.phase.tasks
-      → Hold (box_points boxes.funcs) (is_private schedule.standings) work.place (work.owned task) (held boxes.funcs (after_stages pipeline.funcs inputs work.place work.func work.number)) funcs
-      → (x y : ℕ) → is_stored_by_task (box_points boxes.funcs) inputs work.phase task work.place x y funcs ≡ writes pipeline schedule boxes inputs (stage_of work) task x y
+  pub stores : (inputs : Planes) → AnswerWords pipeline.inputs (reads_of inputs (pixels pipeline.funcs inputs 0)) → (funcs : Planes) (task : ℕ)
+      → task < work.phase.tasks
+      → Hold (box_points boxes.funcs) (is_private schedule.standings) work.place (work.owned task) (held boxes.funcs (after_stages pipeline.funcs inputs
+      work.place work.func work.number)) funcs
+      → (x y : ℕ) → is_stored_by_task (box_points boxes.funcs) inputs work.phase task work.place x y funcs ≡ writes pipeline schedule boxes inputs
+      (stage_of work) task x y
   pub owned_writes : (inputs : Planes) → AnswerWords pipeline.inputs (reads_of inputs (pixels pipeline.funcs inputs 0)) → (task : ℕ) → task < work.phase.tasks
       → (x y : ℕ) → writes pipeline schedule boxes inputs (stage_of work) task x y ≡ true → work.owned task x y ≡ true
 
-pub record KnownPhase (pipeline : Pipeline) (schedule : Schedule) (boxes : Boxes) (place : ℕ) (func : Func) (plan : FuncPlan) (own : SourceBox) (number : ℕ) (phase : Phase) : Type 0 where
+pub record KnownPhase (pipeline : Pipeline) (schedule : Schedule) (boxes : Boxes) (place : ℕ) (func : Func) (plan : FuncPlan) (own : SourceBox) (number : ℕ)
+    (phase : Phase) : Type 0 where
   pub owned : ℕ → ℕ → ℕ → Bool
   pub known : IsKnown pipeline schedule boxes (record {
     place = place;
@@ -199,34 +232,41 @@ pub record KnownPhase (pipeline : Pipeline) (schedule : Schedule) (boxes : Boxes
     phase = phase;
   })
 
-module _ (pipeline : Pipeline) (schedule : Schedule) (boxes : Boxes) (place : ℕ) (func : Func) (plan : FuncPlan) (own : SourceBox) (at : IsAtRoot pipeline schedule boxes place func plan own) where
-  iterations_are : (number : ℕ) → iterations pipeline schedule boxes (record { func = place; number = number }) ≡ iterations_of pipeline schedule boxes func plan own number
+module _ (pipeline : Pipeline) (schedule : Schedule) (boxes : Boxes) (place : ℕ) (func : Func) (plan : FuncPlan) (own : SourceBox)
+    (at : IsAtRoot pipeline schedule boxes place func plan own) where
+  iterations_are : (number : ℕ) → iterations pipeline schedule boxes (record { func = place; number = number }) ≡ iterations_of pipeline schedule boxes func
+      plan own number
   iterations_are number =
       ap (λ (f : Option Func). iterations_in pipeline schedule boxes f (slice_get schedule.funcs place) (slice_get boxes.funcs place) number) at.func_is
       ∙ (ap (λ (q : Option FuncPlan). iterations_in pipeline schedule boxes (Some func) q (slice_get boxes.funcs place) number) at.plan_is
       ∙ ap (λ (b : Option (Option SourceBox)). iterations_in pipeline schedule boxes (Some func) (Some plan) b number) at.box_is)
 
   writes_are : (inputs : Planes) (number task x y : ℕ)
-      → writes pipeline schedule boxes inputs (record { func = place; number = number }) task x y ≡ writes_of pipeline schedule boxes inputs place func plan own number task x y
+      → writes pipeline schedule boxes inputs (record { func = place; number = number }) task x y ≡ writes_of pipeline schedule boxes inputs place func plan own
+      number task x y
   writes_are inputs number task x y =
-      ap (λ (f : Option Func). writes_in pipeline schedule boxes inputs place f (slice_get schedule.funcs place) (slice_get boxes.funcs place) number task x y) at.func_is
+      ap (λ (f : Option Func). writes_in pipeline schedule boxes inputs place f (slice_get schedule.funcs place) (slice_get boxes.funcs place) number task x y)
+      at.func_is
       ∙ (ap (λ (q : Option FuncPlan). writes_in pipeline schedule boxes inputs place (Some func) q (slice_get boxes.funcs place) number task x y) at.plan_is
       ∙ ap (λ (b : Option (Option SourceBox)). writes_in pipeline schedule boxes inputs place (Some func) (Some plan) b number task x y) at.box_is)
 
   module _ (number : ℕ) (update : Update) (stage : Stage) (it : IsUpdateAt schedule place func plan number update stage) where
-    update_iterations_are : iterations pipeline schedule boxes (record { func = place; number = suc number }) ≡ iteration_count (update_extents own update) stage
+    update_iterations_are : iterations pipeline schedule boxes (record { func = place; number = suc number }) ≡ iteration_count (update_extents own update)
+        stage
     update_iterations_are =
         iterations_are (suc number)
         ∙ (ap (λ (u : Option Update). update_iterations pipeline schedule boxes own u (slice_get plan.updates number)) it.update_is
         ∙ ap (λ (s : Option Stage). update_iterations pipeline schedule boxes own (Some update) s) it.stage_is)
 
-    update_writes_are : (inputs : Planes) (task x y : ℕ) → writes pipeline schedule boxes inputs (record { func = place; number = suc number }) task x y ≡ names pipeline inputs place own update stage task x y
+    update_writes_are : (inputs : Planes) (task x y : ℕ) → writes pipeline schedule boxes inputs (record { func = place; number = suc number }) task x y
+        ≡ names pipeline inputs place own update stage task x y
     update_writes_are inputs task x y =
         writes_are inputs (suc number) task x y
         ∙ (ap (λ (u : Option Update). update_writes pipeline schedule boxes inputs place own u (slice_get plan.updates number) task x y) it.update_is
         ∙ ap (λ (s : Option Stage). update_writes pipeline schedule boxes inputs place own (Some update) s task x y) it.stage_is)
 
-  pub known_phase : (number : ℕ) (phase : Phase) → IsStagePhase pipeline schedule boxes place func plan own number phase → KnownPhase pipeline schedule boxes place func plan own number phase
+  pub known_phase : (number : ℕ) (phase : Phase) → IsStagePhase pipeline schedule boxes place func plan own number phase
+      → KnownPhase pipeline schedule boxes place func plan own number phase
   known_phase _ _ (Pure phase tasks private_is bytes does touches few stores rounds in_runs) = record {
     owned = owns (extents_of own) plan.pure;
     known = record {
@@ -261,7 +301,9 @@ module _ (pipeline : Pipeline) (schedule : Schedule) (boxes : Boxes) (place : �
       touches = touches;
       rounds = rounds;
       tasks_are = tasks ∙ sym (update_iterations_are number update stage it);
-      stores = λ inputs begun funcs task below holds x y. stores.exactly inputs begun funcs task below holds x y ∙ sym (update_writes_are number update stage it inputs task x y);
-      owned_writes = λ inputs begun task below x y written. stores.owned inputs begun task below x y (sym (update_writes_are number update stage it inputs task x y) ∙ written);
+      stores = λ inputs begun funcs task below holds x y. stores.exactly inputs begun funcs task below holds x y
+          ∙ sym (update_writes_are number update stage it inputs task x y);
+      owned_writes = λ inputs begun task below x y written. stores.owned inputs begun task below x y (sym (update_writes_are number update stage it inputs task
+          x y) ∙ written);
     };
   }

@@ -1,5 +1,6 @@
 -- What memory holds before and behind a task.
-use Rattle.std.proofs.Common.{◌≡◌, ℕ, zero, suc, ◌+◌, ◌*◌, ◌/◌, ◌%◌, ◌^◌, ◌<◌, ◌≤◌, List, [], ◌∷◌, Option, Some, None, true, false, Bool, refl, ap, ◌∙◌, sym, subst, arith, inl, inr}
+use Rattle.std.proofs.Common.{◌≡◌, ℕ, zero, suc, ◌+◌, ◌*◌, ◌/◌, ◌%◌, ◌^◌, ◌<◌, ◌≤◌, List, [], ◌∷◌, Option, Some, None, true, false, Bool, refl, ap, ◌∙◌, sym}
+use Rattle.std.proofs.Common.{subst, arith, inl, inr}
 use Rattle.std.specs.Prelude.{◌==◌, nat_le, slice_get, slice_index, if◌then◌else◌}
 use Rattle.std.specs.Int.{w8, from_le_bytes}
 use Rattle.std.proofs.lemmas.Bool.{cases_Bool, cases_lt, cases_eq, ne_eqb}
@@ -101,7 +102,8 @@ module _ (pipeline : Pipeline) (schedule : Schedule) (boxes : List (Option Sourc
             record {
               offset = offset;
               part_is = e ∙ ap (λ n. Root n offset) f;
-              owned = (greatest-found owners.tasks (λ k. owners.owns k (offset / 4 % width_of boxes owners.func) (offset / 4 / width_of boxes owners.func)) task r).1;
+              owned = (greatest-found owners.tasks (λ k. owners.owns k (offset / 4 % width_of boxes owners.func) (offset / 4 / width_of boxes owners.func)) task
+                  r).1;
             }
         | inr d ↦
             let q : Fixed ≡ Owned task = sym (ap (λ b. if b then use_of_owner (found func) else Fixed) (ne_eqb func owners.func d)) ∙ u in
@@ -124,14 +126,16 @@ module _ (pipeline : Pipeline) (schedule : Schedule) (boxes : List (Option Sourc
     byte_is : offset % 4 ≡ byte
     address_is : address ≡ address_at pipeline schedule boxes hart (sources.Func func) x y + byte
 
-  root-at : (a func offset x y : ℕ) → part pipeline schedule boxes a ≡ Root func offset → (p : RootPoint pipeline schedule boxes func x y) → offset / 4 % width_of boxes func ≡ x → offset / 4 / width_of boxes func ≡ y
+  root-at : (a func offset x y : ℕ) → part pipeline schedule boxes a ≡ Root func offset → (p : RootPoint pipeline schedule boxes func x y)
+      → offset / 4 % width_of boxes func ≡ x → offset / 4 / width_of boxes func ≡ y
       → Is a func x y offset
   root-at a func offset x y e p ex ey =
       let w = extent p.own.x in
       let wide : width_of boxes func ≡ w = ap (λ b. width_in (box_in b)) p.box_is in
       let lies = roots-lie (sizes_of pipeline schedule boxes) a func offset e in
       let start = slice_index (placed (roots_at (sizes_of pipeline schedule boxes)) (sizes_of pipeline schedule boxes).roots) func in
-      let here : address_at pipeline schedule boxes hart (sources.Func func) x y ≡ start + 0 * hart + 4 * (y * w + x) = ap (λ z. address z hart x y) (root-place pipeline schedule boxes func x y p) in
+      let here : address_at pipeline schedule boxes hart (sources.Func func) x y ≡ start + 0 * hart + 4 * (y * w + x) = ap (λ z. address z hart x y)
+      (root-place pipeline schedule boxes func x y p) in
       let column : offset / 4 % w ≡ x = ap (λ v. offset / 4 % v) (sym wide) ∙ ex in
       let row : offset / 4 / w ≡ y = ap (λ v. offset / 4 / v) (sym wide) ∙ ey in
       let k : y * w + x ≡ offset / 4 = numbered (offset / 4) w x y p.column column row in
@@ -161,7 +165,8 @@ module _ (pipeline : Pipeline) (schedule : Schedule) (boxes : List (Option Sourc
 
     -- ---- any memory holds some Funcs
 
-    module _ (text memory : List ℕ) (bytes : AreBytes memory) (inputs earlier : Planes) (answer : AnswerWords pipeline.inputs (reads_of inputs earlier)) (has : HasInputs pipeline schedule boxes text memory inputs) where
+    module _ (text memory : List ℕ) (bytes : AreBytes memory) (inputs earlier : Planes) (answer : AnswerWords pipeline.inputs (reads_of inputs earlier))
+        (has : HasInputs pipeline schedule boxes text memory inputs) where
       input-bytes : (place x y : ℕ) → (p : InputPoint pipeline schedule boxes place x y) → p.input.is_bytes ≡ false → (byte : ℕ) → byte < 4
           → byte_at text memory (at (sources.Input place) x y + byte) ≡ byte_of (inputs place x y) byte
       input-bytes place x y p e byte l =
@@ -174,7 +179,8 @@ module _ (pipeline : Pipeline) (schedule : Schedule) (boxes : List (Option Sourc
           ∙ (ap (λ i. byte_of (inputs place i (o / 4 / w)) (o % 4)) (column-of w x y byte p.column l)
           ∙ (ap (λ j. byte_of (inputs place x j) (o % 4)) (row-of w x y byte p.column l) ∙ ap (byte_of (inputs place x y)) (last-two (y * w + x) byte l)))))
 
-      input-byte : (place x y : ℕ) → (p : InputPoint pipeline schedule boxes place x y) → p.input.is_bytes ≡ true → byte_at text memory (at (sources.Input place) x y) ≡ inputs place x y
+      input-byte : (place x y : ℕ) → (p : InputPoint pipeline schedule boxes place x y) → p.input.is_bytes ≡ true
+          → byte_at text memory (at (sources.Input place) x y) ≡ inputs place x y
       input-byte place x y p e =
           let there = byte-inputs-are-there pipeline schedule boxes hart place x y p e in
           let w = p.input.width in
@@ -184,32 +190,43 @@ module _ (pipeline : Pipeline) (schedule : Schedule) (boxes : List (Option Sourc
           ∙ (ap (λ b. if b then inputs place (o % w) (o / w) else byte_of (inputs place (o / 4 % w) (o / 4 / w)) (o % 4)) e
           ∙ (ap (λ i. inputs place i (o / w)) (mod-mul-add y w x p.column) ∙ ap (λ j. inputs place x j) (div-mul-add y w x p.column))))
 
-      input-holds : (place x y : ℕ) → (p : InputPoint pipeline schedule boxes place x y) → (is_bytes : Bool) → p.input.is_bytes ≡ is_bytes → inputs place x y < 2 ^ 32
-          → number_in text memory (size_of (places pipeline schedule boxes) (record { source = sources.Input place; x = x; y = y })) (at (sources.Input place) x y) ≡ inputs place x y
+      input-holds : (place x y : ℕ) → (p : InputPoint pipeline schedule boxes place x y) → (is_bytes : Bool) → p.input.is_bytes ≡ is_bytes
+          → inputs place x y < 2 ^ 32
+          → number_in text memory (size_of (places pipeline schedule boxes) (record { source = sources.Input place; x = x; y = y })) (at (sources.Input place) x
+          y) ≡ inputs place x y
       input-holds place x y p false e l =
-          ap (λ (z : Place). number_in text memory (load_size (load_op z.pixels)) (at (sources.Input place) x y)) (input-place-is pipeline schedule boxes place x y p false e)
+          ap (λ (z : Place). number_in text memory (load_size (load_op z.pixels)) (at (sources.Input place) x y)) (input-place-is pipeline schedule boxes place
+          x y p false e)
           ∙ bytes-word text memory (at (sources.Input place) x y) (inputs place x y) l (input-bytes place x y p e)
       input-holds place x y p true e l =
-          ap (λ (z : Place). number_in text memory (load_size (load_op z.pixels)) (at (sources.Input place) x y)) (input-place-is pipeline schedule boxes place x y p true e)
-          ∙ single-byte (byte_at text memory (at (sources.Input place) x y)) (inputs place x y) (input-byte place x y p e) (answer.bytes place p.input p.input_is e x y)
+          ap (λ (z : Place). number_in text memory (load_size (load_op z.pixels)) (at (sources.Input place) x y)) (input-place-is pipeline schedule boxes place
+          x y p true e)
+          ∙ single-byte (byte_at text memory (at (sources.Input place) x y)) (inputs place x y) (input-byte place x y p e) (answer.bytes place p.input
+          p.input_is e x y)
 
-      func-holds : (func x y : ℕ) → (s : Size) → s ≡ Word → number_in text memory s (at (sources.Func func) x y) ≡ funcs_in pipeline schedule boxes text memory hart func x y
+      func-holds : (func x y : ℕ) → (s : Size) → s ≡ Word → number_in text memory s (at (sources.Func func) x y) ≡ funcs_in pipeline schedule boxes text memory
+          hart func x y
       func-holds func x y s e = ap (λ z. number_in text memory z (at (sources.Func func) x y)) e
 
       holds-at : (source : Source) (x y : ℕ) → IsLoaded pipeline schedule boxes number owners task source x y
-          → number_in text memory (size_of (places pipeline schedule boxes) (record { source = source; x = x; y = y })) (at source x y) ≡ reads_of inputs (funcs_in pipeline schedule boxes text memory hart) source x y
+          → number_in text memory (size_of (places pipeline schedule boxes) (record { source = source; x = x; y = y })) (at source x y)
+          ≡ reads_of inputs (funcs_in pipeline schedule boxes text memory hart) source x y
       holds-at (sources.Input place) x y p =
           let may = loaded_at pipeline schedule boxes number owners text task hart it.few_harts it.below it.one_owner it.fits (sources.Input place) x y p in
           input-holds place x y p p.input.is_bytes refl (answer.words (sources.Input place) x y may.column may.row)
       holds-at (sources.Func func) x y (inl r) =
-          func-holds func x y (size_of (places pipeline schedule boxes) (func_point func x y)) (ap (λ (z : Place). load_size (load_op z.pixels)) (root-place pipeline schedule boxes func x y r.0))
+          func-holds func x y (size_of (places pipeline schedule boxes) (func_point func x y)) (ap (λ (z : Place). load_size (load_op z.pixels))
+          (root-place pipeline schedule boxes func x y r.0))
       holds-at (sources.Func func) x y (inr p) =
-          func-holds func x y (size_of (places pipeline schedule boxes) (func_point func x y)) (ap (λ (z : Place). load_size (load_op z.pixels)) (copies-place pipeline schedule boxes func x y p))
+          func-holds func x y (size_of (places pipeline schedule boxes) (func_point func x y)) (ap (λ (z : Place). load_size (load_op z.pixels))
+          (copies-place pipeline schedule boxes func x y p))
 
     -- ---- what a task finds
 
-    finds : (text memory : List ℕ) (inputs start : Planes) → ((address : ℕ) → Given task (uses pipeline schedule boxes number owners address) → byte_at text memory address ≡ byte_in pipeline.inputs boxes inputs start (part_of address))
-        → (func x y : ℕ) → RootPoint pipeline schedule boxes func x y → (func ≡ owners.func → owners.owns task x y ≡ true) → start func x y < 2 ^ 32 → funcs_in pipeline schedule boxes text memory hart func x y ≡ start func x y
+    finds : (text memory : List ℕ) (inputs start : Planes) → ((address : ℕ) → Given task (uses pipeline schedule boxes number owners address)
+        → byte_at text memory address ≡ byte_in pipeline.inputs boxes inputs start (part_of address))
+        → (func x y : ℕ) → RootPoint pipeline schedule boxes func x y → (func ≡ owners.func → owners.owns task x y ≡ true) → start func x y < 2 ^ 32
+        → funcs_in pipeline schedule boxes text memory hart func x y ≡ start func x y
     finds text memory inputs start given func x y p own l = bytes-word text memory (at (sources.Func func) x y) (start func x y) l each
       where
         may : Given task (root_use boxes number owners func x y)
@@ -225,7 +242,8 @@ module _ (pipeline : Pipeline) (schedule : Schedule) (boxes : List (Option Sourc
             let wide : width_of boxes func ≡ w = ap (λ z. width_in (box_in z)) p.box_is in
             let there = (roots-are-there pipeline schedule boxes hart func x y p).parts byte b in
             let purpose : uses pipeline schedule boxes number owners (at (sources.Func func) x y + byte) ≡ root_use boxes number owners func x y =
-            ap (use_of boxes number owners) there ∙ root-use boxes number owners func o x y w wide (column-of w x y byte p.column b) (row-of w x y byte p.column b) in
+            ap (use_of boxes number owners) there ∙ root-use boxes number owners func o x y w wide (column-of w x y byte p.column b) (row-of w x y byte p.column
+            b) in
             given (at (sources.Func func) x y + byte) (subst (λ u. Given task u) (sym purpose) may)
             ∙ (ap (byte_in pipeline.inputs boxes inputs start) there
             ∙ (ap (λ v. byte_of (start func (o / 4 % v) (o / 4 / v)) (o % 4)) wide
@@ -242,9 +260,11 @@ module _ (pipeline : Pipeline) (schedule : Schedule) (boxes : List (Option Sourc
       owned-word : (x y : ℕ) → owners.owns task x y ≡ true → word_at text left (at (sources.Func owners.func) x y) ≡ result owners.func x y
       owned-word x y e =
           let size_is = ap (λ (z : Place). load_size (load_op z.pixels)) (root-place pipeline schedule boxes owners.func x y (there x y e)) in
-          sym (ap (λ z. number_in text left z (at (sources.Func owners.func) x y)) size_is) ∙ (holds.holds (func_point owners.func x y) (load x y e) ∙ same x y e)
+          sym (ap (λ z. number_in text left z (at (sources.Func owners.func) x y)) size_is) ∙ (holds.holds (func_point owners.func x y) (load x y e)
+          ∙ same x y e)
 
-      leaves : (address : ℕ) → uses pipeline schedule boxes number owners address ≡ Owned task → byte_at text left address ≡ byte_in pipeline.inputs boxes inputs result (part_of address)
+      leaves : (address : ℕ) → uses pipeline schedule boxes number owners address ≡ Owned task
+          → byte_at text left address ≡ byte_in pipeline.inputs boxes inputs result (part_of address)
       leaves address own =
           let o = own-byte pipeline schedule boxes number owners task address own in
           let x = o.offset / 4 % width_of boxes owners.func in
@@ -255,29 +275,39 @@ module _ (pipeline : Pipeline) (schedule : Schedule) (boxes : List (Option Sourc
           ∙ (ap (byte_of (result owners.func x y)) (sym i.byte_is) ∙ sym (ap (byte_in pipeline.inputs boxes inputs result) o.part_is)))
 
 -- a byte that a task owns lies in the word of its point
-pub own-byte-lies : (pipeline : Pipeline) (schedule : Schedule) (boxes : List (Option SourceBox)) (number : ℕ) (owners : Owners) (task hart : ℕ) (address : ℕ) → (o : OwnByte pipeline schedule boxes number owners task address)
+pub own-byte-lies : (pipeline : Pipeline) (schedule : Schedule) (boxes : List (Option SourceBox)) (number : ℕ) (owners : Owners) (task hart : ℕ) (address : ℕ)
+    → (o : OwnByte pipeline schedule boxes number owners task address)
     → RootPoint pipeline schedule boxes owners.func (o.offset / 4 % width_of boxes owners.func) (o.offset / 4 / width_of boxes owners.func)
-    → let here = address_at pipeline schedule boxes hart (sources.Func owners.func) (o.offset / 4 % width_of boxes owners.func) (o.offset / 4 / width_of boxes owners.func) in
+    → let here = address_at pipeline schedule boxes hart (sources.Func owners.func) (o.offset / 4 % width_of boxes owners.func) (o.offset / 4 / width_of boxes
+    owners.func) in
     (here ≤ address) × (address < here + 4)
 own-byte-lies pipeline schedule boxes number owners task hart address o p =
-    let i = root-at pipeline schedule boxes hart address owners.func o.offset (o.offset / 4 % width_of boxes owners.func) (o.offset / 4 / width_of boxes owners.func) o.part_is p refl refl in
+    let i = root-at pipeline schedule boxes hart address owners.func o.offset (o.offset / 4 % width_of boxes owners.func) (o.offset / 4 / width_of boxes
+    owners.func) o.part_is p refl refl in
     let e = i.address_is in
     let l = i.byte_below in
     (omega (arith, e), omega (arith, e, l))
 
-pub memory-holds-funcs : (pipeline : Pipeline) (schedule : Schedule) (boxes : List (Option SourceBox)) (number : ℕ) (owners : Owners) → MemoryHoldsFuncs pipeline schedule boxes number owners
-memory-holds-funcs pipeline schedule boxes number owners text memory harts task hart inputs earlier points written loaded it size_is bytes answer has may = record {
-  size = size_is;
-  are_bytes = bytes;
-  are_words = λ place x y lx ly. word-small text memory (address_at pipeline schedule boxes hart (sources.Func place) x y) bytes;
-  holds = λ point e. holds-at pipeline schedule boxes number owners task hart it text memory bytes inputs earlier answer has point.source point.x point.y (may point e);
-}
+pub memory-holds-funcs : (pipeline : Pipeline) (schedule : Schedule) (boxes : List (Option SourceBox)) (number : ℕ) (owners : Owners)
+    → MemoryHoldsFuncs pipeline schedule boxes number owners
+memory-holds-funcs pipeline schedule boxes number owners text memory harts task hart inputs earlier points written loaded it size_is bytes answer has may =
+    record {
+      size = size_is;
+      are_bytes = bytes;
+      are_words = λ place x y lx ly. word-small text memory (address_at pipeline schedule boxes hart (sources.Func place) x y) bytes;
+      holds = λ point e. holds-at pipeline schedule boxes number owners task hart it text memory bytes inputs earlier answer has point.source point.x point.y
+          (may point e);
+    }
 
-pub tasks-find-theirs : (pipeline : Pipeline) (schedule : Schedule) (boxes : List (Option SourceBox)) (number : ℕ) (owners : Owners) → TasksFindTheirs pipeline schedule boxes number owners
-tasks-find-theirs pipeline schedule boxes number owners text memory task hart inputs start it given func x y p own l = finds pipeline schedule boxes number owners task hart it text memory inputs start given func x y p own l
+pub tasks-find-theirs : (pipeline : Pipeline) (schedule : Schedule) (boxes : List (Option SourceBox)) (number : ℕ) (owners : Owners)
+    → TasksFindTheirs pipeline schedule boxes number owners
+tasks-find-theirs pipeline schedule boxes number owners text memory task hart inputs start it given func x y p own l = finds pipeline schedule boxes number
+    owners task hart it text memory inputs start given func x y p own l
 
-pub tasks-leave-theirs : (pipeline : Pipeline) (schedule : Schedule) (boxes : List (Option SourceBox)) (number : ℕ) (owners : Owners) → TasksLeaveTheirs pipeline schedule boxes number owners
-tasks-leave-theirs pipeline schedule boxes number owners text left harts task hart inputs funcs result points written loaded it bytes holds there load same address own =
+pub tasks-leave-theirs : (pipeline : Pipeline) (schedule : Schedule) (boxes : List (Option SourceBox)) (number : ℕ) (owners : Owners)
+    → TasksLeaveTheirs pipeline schedule boxes number owners
+tasks-leave-theirs pipeline schedule boxes number owners text left harts task hart inputs funcs result points written loaded it bytes holds there load same
+    address own =
     leaves pipeline schedule boxes number owners task hart it text left harts inputs funcs result points written loaded bytes holds there load same address own
 
 -- ---- each byte of the box of a Func at root is one of a point
@@ -294,14 +324,16 @@ no-size : (place offset : ℕ) → offset < slice_index [] place → ⊥
 no-size zero offset l = omega (arith, l)
 no-size (suc place) offset l = omega (arith, l)
 
-first-found : (s : Standing) (ss : List Standing) (own : Option SourceBox) (bs : List (Option SourceBox)) (offset : ℕ) (place : Standpoint) → s.place ≡ place → offset < root_bytes place own → RootFound (s ∷ ss) (own ∷ bs) 0 offset
+first-found : (s : Standing) (ss : List Standing) (own : Option SourceBox) (bs : List (Option SourceBox)) (offset : ℕ) (place : Standpoint) → s.place ≡ place
+    → offset < root_bytes place own → RootFound (s ∷ ss) (own ∷ bs) 0 offset
 first-found s ss (Some own) bs offset standpoints.Root e l = record { standing = s; standing_is = refl; at_root = e; own = own; box_is = refl; below = l }
 first-found s ss None bs offset standpoints.Root e l = absurd (omega (arith, l))
 first-found s ss own bs offset (standpoints.At at) e l = absurd (omega (arith, l))
 first-found s ss own bs offset standpoints.Inlined e l = absurd (omega (arith, l))
 first-found s ss own bs offset standpoints.Nowhere e l = absurd (omega (arith, l))
 
-root-found : (standings : List Standing) (boxes : List (Option SourceBox)) (place offset : ℕ) → offset < slice_index (root_sizes standings boxes) place → RootFound standings boxes place offset
+root-found : (standings : List Standing) (boxes : List (Option SourceBox)) (place offset : ℕ) → offset < slice_index (root_sizes standings boxes) place
+    → RootFound standings boxes place offset
 root-found [] boxes place offset l = absurd (no-size place offset l)
 root-found (s ∷ ss) [] place offset l = absurd (no-size place offset l)
 root-found (s ∷ ss) (b ∷ bs) zero offset l = first-found s ss b bs offset s.place refl l
@@ -328,7 +360,8 @@ in-box (suc v) h k l = elim (cases_lt (k / suc v) h) [
     mod-below : k % suc v < suc v
     mod-below = omega arith
 
-pub root-byte-point : (pipeline : Pipeline) (schedule : Schedule) (boxes : List (Option SourceBox)) (address place offset : ℕ) → part pipeline schedule boxes address ≡ Root place offset
+pub root-byte-point : (pipeline : Pipeline) (schedule : Schedule) (boxes : List (Option SourceBox)) (address place offset : ℕ)
+    → part pipeline schedule boxes address ≡ Root place offset
     → RootPoint pipeline schedule boxes place (offset / 4 % width_of boxes place) (offset / 4 / width_of boxes place)
 root-byte-point pipeline schedule boxes address place offset e =
     let lies = roots-lie (sizes_of pipeline schedule boxes) address place offset e in

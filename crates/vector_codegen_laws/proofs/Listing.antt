@@ -1,5 +1,6 @@
 -- What stands at a place of the layout's lists.
-use Rattle.std.proofs.Common.{◌≡◌, ℕ, zero, suc, ◌+◌, ◌*◌, ◌/◌, ◌%◌, ◌<◌, ◌≤◌, List, [], ◌∷◌, length, map, Option, Some, None, true, false, Bool, refl, ap, ◌∙◌, arith}
+use Rattle.std.proofs.Common.{◌≡◌, ℕ, zero, suc, ◌+◌, ◌*◌, ◌/◌, ◌%◌, ◌<◌, ◌≤◌, List, [], ◌∷◌, length, map, Option, Some, None, true, false, Bool, refl, ap, ◌∙◌}
+use Rattle.std.proofs.Common.{arith}
 use Rattle.std.specs.Prelude.{slice_get, slice_index, slice_index_or, if◌then◌else◌}
 use Rattle.std.specs.List.{AllByRecursion}
 use Rattle.halide_pipeline.specs.declared.definitions.Input.{Input}
@@ -23,7 +24,8 @@ placed-length start (size ∷ sizes) = ap suc (placed-length (start + size) size
 
 -- ---- inputs
 
-pub input-at : (ats : List ℕ) (inputs : List Input) (k : ℕ) (input : Input) → slice_get inputs k ≡ Some input → length inputs ≤ length ats → slice_index_or (input_places ats inputs) k nowhere ≡ input_place (slice_index ats k) input
+pub input-at : (ats : List ℕ) (inputs : List Input) (k : ℕ) (input : Input) → slice_get inputs k ≡ Some input → length inputs ≤ length ats
+    → slice_index_or (input_places ats inputs) k nowhere ≡ input_place (slice_index ats k) input
 input-at ats [] k input e l = absurd (cc e)
 input-at [] (first ∷ inputs) k input e l = absurd (omega (arith, l))
 input-at (at ∷ ats) (first ∷ inputs) zero input e l = let q : first ≡ input = cc e in ap (input_place at) q
@@ -64,7 +66,8 @@ func-at (s ∷ ss) (b ∷ bs) (r ∷ rs) (q ∷ qs) zero standing own e f l m =
     ap (λ z. func_place z.place b r q) es ∙ ap (λ z. func_place standing.place z r q) eb
 func-at (s ∷ ss) (b ∷ bs) (r ∷ rs) (q ∷ qs) (suc k) standing own e f l m = func-at ss bs rs qs k standing own e f (omega (arith, l)) (omega (arith, m))
 
-pub root-size : (standings : List Standing) (boxes : List (Option SourceBox)) (k : ℕ) (standing : Standing) (own : Option SourceBox) → slice_get standings k ≡ Some standing → slice_get boxes k ≡ Some own
+pub root-size : (standings : List Standing) (boxes : List (Option SourceBox)) (k : ℕ) (standing : Standing) (own : Option SourceBox)
+    → slice_get standings k ≡ Some standing → slice_get boxes k ≡ Some own
     → slice_index (root_sizes standings boxes) k ≡ root_bytes standing.place own
 root-size [] boxes k standing own e f = absurd (cc e)
 root-size (s ∷ ss) [] k standing own e f = absurd (cc f)
@@ -74,7 +77,8 @@ root-size (s ∷ ss) (b ∷ bs) zero standing own e f =
     ap (λ z. root_bytes z.place b) es ∙ ap (root_bytes standing.place) eb
 root-size (s ∷ ss) (b ∷ bs) (suc k) standing own e f = root-size ss bs k standing own e f
 
-pub private-size : (standings : List Standing) (boxes : List (Option SourceBox)) (k : ℕ) (standing : Standing) (own : Option SourceBox) → slice_get standings k ≡ Some standing → slice_get boxes k ≡ Some own
+pub private-size : (standings : List Standing) (boxes : List (Option SourceBox)) (k : ℕ) (standing : Standing) (own : Option SourceBox)
+    → slice_get standings k ≡ Some standing → slice_get boxes k ≡ Some own
     → slice_index (private_sizes standings boxes) k ≡ private_bytes standing.place own
 private-size [] boxes k standing own e f = absurd (cc e)
 private-size (s ∷ ss) [] k standing own e f = absurd (cc f)
@@ -84,13 +88,15 @@ private-size (s ∷ ss) (b ∷ bs) zero standing own e f =
     ap (λ z. private_bytes z.place b) es ∙ ap (private_bytes standing.place) eb
 private-size (s ∷ ss) (b ∷ bs) (suc k) standing own e f = private-size ss bs k standing own e f
 
-pub root-below : (standings : List Standing) (boxes : List (Option SourceBox)) (k : ℕ) → k < length standings → k < length boxes → k < length (root_sizes standings boxes)
+pub root-below : (standings : List Standing) (boxes : List (Option SourceBox)) (k : ℕ) → k < length standings → k < length boxes
+    → k < length (root_sizes standings boxes)
 root-below [] boxes k l m = absurd (omega (arith, l))
 root-below (s ∷ ss) [] k l m = absurd (omega (arith, m))
 root-below (s ∷ ss) (b ∷ bs) zero l m = omega arith
 root-below (s ∷ ss) (b ∷ bs) (suc k) l m = let r = root-below ss bs k (omega (arith, l)) (omega (arith, m)) in omega (arith, r)
 
-pub private-below : (standings : List Standing) (boxes : List (Option SourceBox)) (k : ℕ) → k < length standings → k < length boxes → k < length (private_sizes standings boxes)
+pub private-below : (standings : List Standing) (boxes : List (Option SourceBox)) (k : ℕ) → k < length standings → k < length boxes
+    → k < length (private_sizes standings boxes)
 private-below [] boxes k l m = absurd (omega (arith, l))
 private-below (s ∷ ss) [] k l m = absurd (omega (arith, m))
 private-below (s ∷ ss) (b ∷ bs) zero l m = omega arith

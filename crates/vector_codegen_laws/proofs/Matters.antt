@@ -53,18 +53,21 @@ module _ (pipeline : Pipeline) (schedule : Schedule) (boxes : Boxes) where
   abbrev pub byte_of_planes : Planes → Planes → ℕ → ℕ
   byte_of_planes inputs funcs address = byte_in pipeline.inputs boxes.funcs inputs funcs (part_of address)
 
-  same_in : (inputs one other : Planes) → AgreeAtRoots one other → (address : ℕ) → (p : Part) → part_of address ≡ p → byte_in pipeline.inputs boxes.funcs inputs one p ≡ byte_in pipeline.inputs boxes.funcs inputs other p
+  same_in : (inputs one other : Planes) → AgreeAtRoots one other → (address : ℕ) → (p : Part) → part_of address ≡ p
+      → byte_in pipeline.inputs boxes.funcs inputs one p ≡ byte_in pipeline.inputs boxes.funcs inputs other p
   same_in inputs one other agree address (Control phase) e = refl
   same_in inputs one other agree address (InputPart place offset) e = refl
   same_in inputs one other agree address (Root place offset) e =
       ap (λ n. byte_of n (offset % 4))
-      (agree place (offset / 4 % width_of boxes.funcs place) (offset / 4 / width_of boxes.funcs place) (root-byte-point pipeline schedule boxes.funcs address place offset e))
+      (agree place (offset / 4 % width_of boxes.funcs place) (offset / 4 / width_of boxes.funcs place) (root-byte-point pipeline schedule boxes.funcs address
+      place offset e))
   same_in inputs one other agree address (Copies place offset) e = refl
   same_in inputs one other agree address (Frame hart) e = refl
   same_in inputs one other agree address Outside e = refl
 
   -- so they agree at all bytes
-  pub same_bytes : (inputs one other : Planes) → AgreeAtRoots one other → (address : ℕ) → byte_of_planes inputs one address ≡ byte_of_planes inputs other address
+  pub same_bytes : (inputs one other : Planes) → AgreeAtRoots one other → (address : ℕ)
+      → byte_of_planes inputs one address ≡ byte_of_planes inputs other address
   same_bytes inputs one other agree address = same_in inputs one other agree address (part_of address) refl
 
   -- ---- the matter
@@ -72,7 +75,8 @@ module _ (pipeline : Pipeline) (schedule : Schedule) (boxes : Boxes) where
   -- the byte is one of a point that the task's iteration writes
   abbrev pub is_written : Planes → Work → ℕ → Part → Bool
   is_written inputs work task (Root func offset) =
-      cond (func == work.place) (writes pipeline schedule boxes inputs (stage_of work) task (offset / 4 % width_of boxes.funcs func) (offset / 4 / width_of boxes.funcs func)) false
+      cond (func == work.place) (writes pipeline schedule boxes inputs (stage_of work) task (offset / 4 % width_of boxes.funcs func)
+      (offset / 4 / width_of boxes.funcs func)) false
   is_written inputs work task _ = false
 
   -- where the tasks of each phase take so many turns

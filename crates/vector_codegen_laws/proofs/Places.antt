@@ -1,5 +1,6 @@
 -- The numbers that say where buffers lie are words.
-use Rattle.std.proofs.Common.{◌≡◌, ℕ, zero, suc, ◌+◌, ◌*◌, ◌^◌, ◌<◌, ◌≤◌, Bool, true, false, cond, List, [], ◌∷◌, map, Option, Some, None, refl, ap, subst, arith}
+use Rattle.std.proofs.Common.{◌≡◌, ℕ, zero, suc, ◌+◌, ◌*◌, ◌^◌, ◌<◌, ◌≤◌, Bool, true, false, cond, List, [], ◌∷◌, map, Option, Some, None, refl, ap, subst}
+use Rattle.std.proofs.Common.{arith}
 use Rattle.std.specs.Prelude.{◌-◌, ◌&&◌, nat_le, not, slice_get, slice_index, slice_index_or, Result, Ok, Err}
 use Rattle.std.proofs.lemmas.Bool.{and_parts, leb-true}
 use Rattle.halide_pipeline.specs.declared.definitions.Input.{Input}
@@ -43,15 +44,18 @@ kept true own boxes wrong e = cc
 kept false own boxes wrong e = absurd cc
 
 module _ (pipeline : Pipeline) (schedule : Schedule) (boxes : Boxes) where
-  judged_so : (funcs inputs : List (Option SourceBox)) → judged pipeline schedule funcs inputs ≡ Ok boxes → boxes.layout ≡ laid_out pipeline schedule boxes.funcs
+  judged_so : (funcs inputs : List (Option SourceBox)) → judged pipeline schedule funcs inputs ≡ Ok boxes
+      → boxes.layout ≡ laid_out pipeline schedule boxes.funcs
   judged_so funcs inputs e =
       let own = boxes_of pipeline schedule funcs inputs in
-      let a = passed (inputs_hold pipeline.inputs inputs) faults.InputExtents (cond (not (shifts_hold schedule.funcs funcs)) (Err faults.ShortShift) (sized own)) boxes e in
+      let a = passed (inputs_hold pipeline.inputs inputs) faults.InputExtents (cond (not (shifts_hold schedule.funcs funcs)) (Err faults.ShortShift)
+      (sized own)) boxes e in
       let b = passed (shifts_hold schedule.funcs funcs) faults.ShortShift (sized own) boxes a in
       let c = kept (have_few_points own.inputs && (have_few_points own.funcs && nat_le own.layout.size 33554432)) own boxes faults.TooLarge b in
       subst (λ (b : Boxes). b.layout ≡ laid_out pipeline schedule b.funcs) c refl
 
-  inputs_so : (funcs : List (Option SourceBox)) (inputs : Option (List (Option SourceBox))) → with_inputs pipeline schedule funcs inputs ≡ Ok boxes → boxes.layout ≡ laid_out pipeline schedule boxes.funcs
+  inputs_so : (funcs : List (Option SourceBox)) (inputs : Option (List (Option SourceBox))) → with_inputs pipeline schedule funcs inputs ≡ Ok boxes
+      → boxes.layout ≡ laid_out pipeline schedule boxes.funcs
   inputs_so funcs None e = absurd cc
   inputs_so funcs (Some inputs) e = judged_so funcs inputs e
 
@@ -67,7 +71,8 @@ module _ (pipeline : Pipeline) (schedule : Schedule) (boxes : Boxes) where
     judged_few : (have_few_points boxes.funcs ≡ true) × (nat_le boxes.layout.size 33554432 ≡ true)
     judged_few =
         and_parts (have_few_points boxes.funcs) (nat_le boxes.layout.size 33554432)
-        (and_parts (have_few_points boxes.inputs) (have_few_points boxes.funcs && nat_le boxes.layout.size 33554432) (is_judged pipeline schedule boxes is).few).1
+        (and_parts (have_few_points boxes.inputs) (have_few_points boxes.funcs && nat_le boxes.layout.size 33554432) (is_judged pipeline schedule boxes
+        is).few).1
 
     pub size_fits : size pipeline schedule boxes.funcs ≤ 33554432
     size_fits = subst (λ (l : Layout). l.size ≤ 33554432) (layout_is is) (leb-true boxes.layout.size 33554432 judged_few.1)
@@ -120,7 +125,8 @@ input_width width height rest e =
     let c = and_parts (nat_le 1 width) (nat_le width 65536) b.0 in
     omega (arith, leb-true width 65536 c.1)
 
-inputs_placed : (ats : List ℕ) (inputs : List Input) → ((k : ℕ) → slice_index ats k < 2 ^ 32) → ((k : ℕ) (input : Input) → slice_get inputs k ≡ Some input → input.width < 2 ^ 32)
+inputs_placed : (ats : List ℕ) (inputs : List Input) → ((k : ℕ) → slice_index ats k < 2 ^ 32) → ((k : ℕ) (input : Input) → slice_get inputs k ≡ Some input
+    → input.width < 2 ^ 32)
     → (k : ℕ) → IsPlace (slice_index_or (input_places ats inputs) k nowhere)
 inputs_placed [] inputs low wide k = nowhere_place
 inputs_placed (at ∷ ats) [] low wide k = nowhere_place
@@ -138,7 +144,8 @@ one_placed (standpoints.At at) None root private lr lp small = nowhere_place
 one_placed standpoints.Inlined None root private lr lp small = nowhere_place
 one_placed standpoints.Nowhere None root private lr lp small = nowhere_place
 
-funcs_placed : (standings : List Standing) (boxes : List (Option SourceBox)) (roots privates : List ℕ) → ((k : ℕ) → slice_index roots k < 2 ^ 32) → ((k : ℕ) → slice_index privates k < 2 ^ 32)
+funcs_placed : (standings : List Standing) (boxes : List (Option SourceBox)) (roots privates : List ℕ) → ((k : ℕ) → slice_index roots k < 2 ^ 32)
+    → ((k : ℕ) → slice_index privates k < 2 ^ 32)
     → ((k : ℕ) (box : SourceBox) → slice_get boxes k ≡ Some (Some box) → (extent box.x < 2 ^ 32) × (4 * points box < 2 ^ 32))
     → (k : ℕ) → IsPlace (slice_index_or (func_places standings boxes roots privates) k nowhere)
 funcs_placed [] boxes roots privates lr lp small k = nowhere_place
@@ -150,25 +157,33 @@ funcs_placed (standing ∷ standings) (own ∷ boxes) (root ∷ roots) (private 
 funcs_placed (standing ∷ standings) (own ∷ boxes) (root ∷ roots) (private ∷ privates) lr lp small (suc k) =
     funcs_placed standings boxes roots privates (λ n. lr (suc n)) (λ n. lp (suc n)) (λ n box e. small (suc n) box e) k
 
-pub are_places : (pipeline : Pipeline) (schedule : Schedule) (boxes : Boxes) → IsWellFormed pipeline → IsAccepted pipeline schedule → inferred pipeline schedule ≡ Ok boxes → ArePlaces (places pipeline schedule boxes.funcs)
+pub are_places : (pipeline : Pipeline) (schedule : Schedule) (boxes : Boxes) → IsWellFormed pipeline → IsAccepted pipeline schedule
+    → inferred pipeline schedule ≡ Ok boxes → ArePlaces (places pipeline schedule boxes.funcs)
 are_places pipeline schedule boxes rules accepted is = by_source
   where
     low : AreLow (laid_out pipeline schedule boxes.funcs)
     low =
-        are_low (phases schedule.standings pipeline.funcs boxes.funcs) (map input_bytes pipeline.inputs) (root_sizes schedule.standings boxes.funcs) (private_sizes schedule.standings boxes.funcs)
+        are_low (phases schedule.standings pipeline.funcs boxes.funcs) (map input_bytes pipeline.inputs) (root_sizes schedule.standings boxes.funcs)
+        (private_sizes schedule.standings boxes.funcs)
         (has_frames (needs pipeline schedule))
 
     fits : size pipeline schedule boxes.funcs ≤ 33554432
     fits = size_fits pipeline schedule boxes is
 
     small : (k : ℕ) (box : SourceBox) → slice_get boxes.funcs k ≡ Some (Some box) → (extent box.x < 2 ^ 32) × (4 * points box < 2 ^ 32)
-    small k box e = (near_width box (has_box pipeline schedule boxes accepted is k box e).near, let f = few_points pipeline schedule boxes is k box e in omega (arith, f))
+    small k box e = (
+      near_width box (has_box pipeline schedule boxes accepted is k box e).near,
+      let f = few_points pipeline schedule boxes is k box e in
+          omega (arith, f),
+    )
 
     wide : (k : ℕ) (input : Input) → slice_get pipeline.inputs k ≡ Some input → input.width < 2 ^ 32
     wide k input e = input_width input.width input.height (are_dimensions input.dimensions input.height) (rules.inputs k input e)
 
     by_source : ArePlaces (places pipeline schedule boxes.funcs)
-    by_source (sources.Input k) = inputs_placed (laid_out pipeline schedule boxes.funcs).inputs pipeline.inputs (λ n. let l = low.inputs n in omega (arith, l, fits)) wide k
+    by_source (sources.Input k) = inputs_placed (laid_out pipeline schedule boxes.funcs).inputs pipeline.inputs (λ n. let l = low.inputs n in
+        omega (arith, l, fits)) wide k
     by_source (sources.Func k) =
-        funcs_placed schedule.standings boxes.funcs (laid_out pipeline schedule boxes.funcs).roots (laid_out pipeline schedule boxes.funcs).privates (λ n. let l = low.roots n in omega (arith, l, fits))
+        funcs_placed schedule.standings boxes.funcs (laid_out pipeline schedule boxes.funcs).roots (laid_out pipeline schedule boxes.funcs).privates
+        (λ n. let l = low.roots n in omega (arith, l, fits))
         (λ n. let l = low.privates n in omega (arith, l, fits)) small k

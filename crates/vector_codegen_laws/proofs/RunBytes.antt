@@ -1,5 +1,6 @@
 -- Points that are one run may be written in one turn, and what a phase's rule says of the places that one turn writes.
-use Rattle.std.proofs.Common.{◌≡◌, ℕ, zero, suc, ◌+◌, ◌-◌, ◌*◌, ◌<◌, List, [], ◌∷◌, length, map, true, false, Bool, cond, refl, ap, ◌∙◌, sym, subst, arith, inl, inr, true≢false}
+use Rattle.std.proofs.Common.{◌≡◌, ℕ, zero, suc, ◌+◌, ◌-◌, ◌*◌, ◌<◌, List, [], ◌∷◌, length, map, true, false, Bool, cond, refl, ap, ◌∙◌, sym, subst, arith, inl}
+use Rattle.std.proofs.Common.{inr, true≢false}
 use Rattle.std.specs.Prelude.{◌⊎◌, ◌==◌, ◌&&◌, ◌||◌, nat_le, nat_lt, slice_index_or, if◌then◌else◌, Option}
 use Rattle.std.specs.List.{Contains, list_all, list_any}
 use Rattle.std.proofs.lemmas.Bool.{and_parts, and_from, cases_eq, eq-eqb, ne_eqb, eqb-true, leb-true, ltb-true, le-leb, lt-ltb}
@@ -47,7 +48,8 @@ found {A} test (x ∷ xs) e = by-test (test x) refl e (found test xs)
         let below = l.there.1 in
         record { one = l.one; there = (suc l.there.0, omega (arith, below), l.there.2); passes = l.passes }
 
-some-passes : {A : Type 0} (test : A → Bool) (x : A) → test x ≡ true → (xs : List A) (k : ℕ) → k < length xs → slice_index_or xs k x ≡ x → list_any test xs ≡ true
+some-passes : {A : Type 0} (test : A → Bool) (x : A) → test x ≡ true → (xs : List A) (k : ℕ) → k < length xs → slice_index_or xs k x ≡ x
+    → list_any test xs ≡ true
 some-passes test x is [] k l e = absurd (omega (arith, l))
 some-passes test x is (y ∷ xs) zero l e = ap (λ (b : Bool). b || list_any test xs) (ap test e ∙ is)
 some-passes test x is (y ∷ xs) (suc k) l e = or-true (test y) (list_any test xs) (some-passes test x is xs k (omega (arith, l)) e)
@@ -105,7 +107,8 @@ record ByteAt (a p : ℕ) : Type 0 where
   small : byte < 4
   is : p ≡ a + byte
 
-one-word : (p a : ℕ) (rest : Bool) → cond (p == a) true (cond (p == a + 1) true (cond (p == a + 2) true (cond (p == a + 3) true rest))) ≡ true → ByteAt a p ⊎ (rest ≡ true)
+one-word : (p a : ℕ) (rest : Bool) → cond (p == a) true (cond (p == a + 1) true (cond (p == a + 2) true (cond (p == a + 3) true rest))) ≡ true
+    → ByteAt a p ⊎ (rest ≡ true)
 one-word p a rest e = elim (cases_eq p a) [
   | inl q ↦ inl (record { byte = 0; small = omega arith; is = omega (arith, q) })
   | inr d0 ↦ elim (cases_eq p (a + 1)) [
@@ -136,7 +139,14 @@ in-words : (a : ℕ → ℕ) (i n p : ℕ) → is_in p (touched (map (access_at 
 in-words a i zero p e = absurd (true≢false (sym e))
 in-words a i (suc n) p e = elim (one-word p (a i) (is_in p (touched (map (access_at Word) (firsts (suc i) n a)))) e) [
   | inl b ↦ record { k = i; below = omega arith; byte = b.byte; small = b.small; is = b.is }
-  | inr r ↦ let w = in-words a (suc i) n p r in let below = w.below in record { k = w.k; below = omega (arith, below); byte = w.byte; small = w.small; is = w.is }
+  | inr r ↦ let w = in-words a (suc i) n p r in let below = w.below in record {
+    k = w.k;
+    below = omega (arith, below);
+    byte = w.byte;
+    small = w.small;
+    is =
+        w.is;
+  }
 ]
 
 -- ---- the test of a run
@@ -144,14 +154,16 @@ in-words a i (suc n) p e = elim (one-word p (a i) (is_in p (touched (map (access
 four-bytes : (places : List ℕ) (address : ℕ) → ((byte : ℕ) → byte < 4 → is_in (address + byte) places ≡ true) → has_word places address ≡ true
 four-bytes places address each =
     let e : address + 0 ≡ address = omega arith in
-    and_from (is_in address places) (is_in (address + 1) places && (is_in (address + 2) places && is_in (address + 3) places)) (ap (λ p. is_in p places) (sym e) ∙ each 0 (omega arith))
+    and_from (is_in address places) (is_in (address + 1) places && (is_in (address + 2) places && is_in (address + 3) places)) (ap (λ p. is_in p places) (sym e)
+    ∙ each 0 (omega arith))
     (and_from (is_in (address + 1) places) (is_in (address + 2) places && is_in (address + 3) places) (each 1 (omega arith))
     (and_from (is_in (address + 2) places) (is_in (address + 3) places) (each 2 (omega arith)) (each 3 (omega arith))))
 
 each-byte : (places : List ℕ) (address : ℕ) → has_word places address ≡ true → (byte : ℕ) → byte < 4 → is_in (address + byte) places ≡ true
 each-byte places address has zero l =
     let e : address + 0 ≡ address = omega arith in
-    ap (λ p. is_in p places) e ∙ (and_parts (is_in address places) (is_in (address + 1) places && (is_in (address + 2) places && is_in (address + 3) places)) has).0
+    ap (λ p. is_in p places) e ∙ (and_parts (is_in address places) (is_in (address + 1) places && (is_in (address + 2) places && is_in (address + 3) places))
+    has).0
 each-byte places address has (suc zero) l =
     let r = (and_parts (is_in address places) (is_in (address + 1) places && (is_in (address + 2) places && is_in (address + 3) places)) has).1 in
     (and_parts (is_in (address + 1) places) (is_in (address + 2) places && is_in (address + 3) places) r).0
@@ -173,7 +185,8 @@ itself : (visit : Visit) → is_slice visit.x visit.y visit ≡ true
 itself visit = and_from (visit.x == visit.x) (visit.y == visit.y) (eq-eqb visit.x visit.x refl) (eq-eqb visit.y visit.y refl)
 
 module _ (at : ℕ → ℕ → ℕ) (visits : List Visit) (places : List ℕ) where
-  pub run-given : ((visit : Visit) → Contains visits visit → (byte : ℕ) → byte < 4 → is_in (at visit.x visit.y + byte) places ≡ true) → ((place : ℕ) → is_in place places ≡ true → IsByteOf at visits place) → is_run at places visits ≡ true
+  pub run-given : ((visit : Visit) → Contains visits visit → (byte : ℕ) → byte < 4 → is_in (at visit.x visit.y + byte) places ≡ true)
+      → ((place : ℕ) → is_in place places ≡ true → IsByteOf at visits place) → is_run at places visits ≡ true
   run-given all no_other =
       and_from (list_all (λ visit. has_word places (at visit.x visit.y)) visits) (list_all (is_byte_of at visits) places)
       (all-given (λ (visit : Visit). has_word places (at visit.x visit.y)) visits (λ visit there. four-bytes places (at visit.x visit.y) (all visit there)))
@@ -204,7 +217,8 @@ module _ (at : ℕ → ℕ → ℕ) (visits : List Visit) (places : List ℕ) wh
 
     pub run-no-other : (place : ℕ) → is_in place places ≡ true → IsByteOf at visits place
     run-no-other place i =
-        let f = found (λ (visit : Visit). nat_le (at visit.x visit.y) place && nat_lt place (at visit.x visit.y + 4)) visits (place-passes (is_byte_of at visits) places place both.1 i) in
+        let f = found (λ (visit : Visit). nat_le (at visit.x visit.y) place && nat_lt place (at visit.x visit.y + 4)) visits
+        (place-passes (is_byte_of at visits) places place both.1 i) in
         let ends = and_parts (nat_le (at f.one.x f.one.y) place) (nat_lt place (at f.one.x f.one.y + 4)) f.passes in
         let low = leb-true (at f.one.x f.one.y) place ends.0 in
         let high = ltb-true place (at f.one.x f.one.y + 4) ends.1 in
@@ -232,9 +246,11 @@ private-use hart owner e = cc e
 no-distance : (s r d hart : ℕ) → d ≡ 0 → s + d * hart + r ≡ s + d * 0 + r
 no-distance s r d hart e = subst (λ n. s + n * hart + r ≡ s + n * 0 + r) (sym e) (omega arith)
 
-module _ (pipeline : Pipeline) (schedule : Schedule) (boxes : List (Option SourceBox)) (number : ℕ) (owners : Owners) (text : List ℕ) (harts task hart : ℕ) (inputs : Planes) (points written : Points)
+module _ (pipeline : Pipeline) (schedule : Schedule) (boxes : List (Option SourceBox)) (number : ℕ) (owners : Owners) (text : List ℕ) (harts task hart : ℕ)
+    (inputs : Planes) (points written : Points)
     (loaded : Point → Bool) (it : IsTask pipeline schedule boxes number owners task hart) (named : RunsAreNamed owners)
-    (may : (func x y : ℕ) → written func x y ≡ true → IsWritten pipeline schedule boxes number owners task func x y) (n func : ℕ) (x y : ℕ → ℕ) (can : (k : ℕ) → k < n → written func (x k) (y k) ≡ true) where
+    (may : (func x y : ℕ) → written func x y ≡ true → IsWritten pipeline schedule boxes number owners task func x y) (n func : ℕ) (x y : ℕ → ℕ) (can : (k : ℕ)
+    → k < n → written func (x k) (y k) ≡ true) where
   abbrev spot : ℕ → ℕ
   spot k = address_at pipeline schedule boxes hart (sources.Func func) (x k) (y k)
 
@@ -252,7 +268,8 @@ module _ (pipeline : Pipeline) (schedule : Schedule) (boxes : List (Option Sourc
       (are : AreRun (setting pipeline schedule boxes number owners text harts task hart inputs points written loaded) n func x y) where
     lies : (a b : ℕ) → address_at pipeline schedule boxes hart (sources.Func func) a b ≡ at a b
     lies a b =
-        same-for-all (place_of (places pipeline schedule boxes) (sources.Func func)) (ap (λ (z : Place). z.distance) (root-place pipeline schedule boxes func (x k) (y k) root)) a b
+        same-for-all (place_of (places pipeline schedule boxes) (sources.Func func)) (ap (λ (z : Place). z.distance) (root-place pipeline schedule boxes func
+        (x k) (y k) root)) a b
         ∙ ap (λ f. address_at pipeline schedule boxes 0 (sources.Func f) a b) same
 
     one : IsNamed owners are.values
@@ -260,7 +277,8 @@ module _ (pipeline : Pipeline) (schedule : Schedule) (boxes : List (Option Sourc
 
     every-byte : (visit : Visit) → Contains one.visits visit → (byte : ℕ) → byte < 4 → is_in (at visit.x visit.y + byte) all_places ≡ true
     every-byte visit there byte small =
-        let ran : owners.run visit.x visit.y are.values ≡ true = one.is visit.x visit.y ∙ any-given (is_slice visit.x visit.y) one.visits visit there (itself visit) in
+        let ran : owners.run visit.x visit.y are.values ≡ true = one.is visit.x visit.y ∙ any-given (is_slice visit.x visit.y) one.visits visit there
+        (itself visit) in
         let w = are.all visit.x visit.y ran in
         let here : spot w.number ≡ at visit.x visit.y = lies (x w.number) (y w.number) ∙ ap (λ a. at a (y w.number)) w.x_is ∙ ap (at visit.x) w.y_is in
         let b = w.below in
@@ -280,7 +298,8 @@ module _ (pipeline : Pipeline) (schedule : Schedule) (boxes : List (Option Sourc
         ap (λ b. if b then list_any (is_run at all_places) owners.runs else true) run
         ∙ any-given (is_run at all_places) owners.runs one.visits one.there (run-given at one.visits all_places every-byte none-else)
 
-  keeps : (func == owners.func && owners.in_runs ≡ true → AreRun (setting pipeline schedule boxes number owners text harts task hart inputs points written loaded) n func x y)
+  keeps : (func == owners.func && owners.in_runs ≡ true → AreRun (setting pipeline schedule boxes number owners text harts task hart inputs points written
+      loaded) n func x y)
       → Keeps (task_world pipeline schedule boxes number owners text task hart) all_places
   keeps are address owner i owned =
       let w = in-words spot 0 n address i in
@@ -289,14 +308,17 @@ module _ (pipeline : Pipeline) (schedule : Schedule) (boxes : List (Option Sourc
       elim (may func (x w.k) (y w.k) (can w.k l)) [
         | inl r ↦ by-runs w.k l r.0 r.1.0 owners.in_runs refl
         | inr p ↦
-            let own = copy-byte pipeline schedule boxes number owners text task hart it.few_harts it.below it.one_owner it.fits func (x w.k) (y w.k) p w.byte w.small in
+            let own = copy-byte pipeline schedule boxes number owners text task hart it.few_harts it.below it.one_owner it.fits func (x w.k) (y w.k) p w.byte
+            w.small in
             absurd (private-use hart owner (sym own ∙ ap (uses pipeline schedule boxes number owners) (sym w.is) ∙ owned))
       ]
     where
-      by-runs : (k : ℕ) → k < n → RootPoint pipeline schedule boxes func (x k) (y k) → func ≡ owners.func → (b : Bool) → owners.in_runs ≡ b → rule_of pipeline schedule boxes owners all_places ≡ true
+      by-runs : (k : ℕ) → k < n → RootPoint pipeline schedule boxes func (x k) (y k) → func ≡ owners.func → (b : Bool) → owners.in_runs ≡ b
+          → rule_of pipeline schedule boxes owners all_places ≡ true
       by-runs k below root same false e = ap (λ b. if b then list_any (is_run at all_places) owners.runs else true) e
       by-runs k below root same true e = kept k below root same e (are (and_from (func == owners.func) owners.in_runs (eq-eqb func owners.func same) e))
 
-pub tasks-may-write-runs : (pipeline : Pipeline) (schedule : Schedule) (boxes : List (Option SourceBox)) (number : ℕ) (owners : Owners) → TasksMayWriteRuns pipeline schedule boxes number owners
+pub tasks-may-write-runs : (pipeline : Pipeline) (schedule : Schedule) (boxes : List (Option SourceBox)) (number : ℕ) (owners : Owners)
+    → TasksMayWriteRuns pipeline schedule boxes number owners
 tasks-may-write-runs pipeline schedule boxes number owners text harts task hart inputs points written loaded it named may n func x y can are =
     keeps pipeline schedule boxes number owners text harts task hart inputs points written loaded it named may n func x y can are

@@ -1,5 +1,6 @@
 -- The code of a task does the task: it leaves the result's bytes at the points that the task owns.
-use Rattle.std.proofs.Common.{◌≡◌, ℕ, ◌^◌, ◌<◌, ◌≤◌, Bool, true, false, cond, List, length, Option, Some, None, refl, sym, ap, subst, ◌∙◌, arith, inl, inr, true≢false}
+use Rattle.std.proofs.Common.{◌≡◌, ℕ, ◌^◌, ◌<◌, ◌≤◌, Bool, true, false, cond, List, length, Option, Some, None, refl, sym, ap, subst, ◌∙◌, arith, inl, inr}
+use Rattle.std.proofs.Common.{true≢false}
 use Rattle.std.specs.List.{list_any}
 use Rattle.std.specs.Prelude.{◌⊎◌, ◌==◌, ◌&&◌, ◌||◌, slice_get, nat_lt, Ok}
 use Rattle.std.proofs.lemmas.Bool.{and_parts, cases_eq, ne_eqb, eq-eqb, eqb-true, ltb-true}
@@ -89,8 +90,10 @@ runs_named work values x y is =
       is = λ a b. ap (λ (t : Bool). t && list_any (is_slice a b) (run_of extents stage turns)) in_turns;
     }
 
-module _ (pipeline : Pipeline) (schedule : Schedule) (boxes : Boxes) (rules : IsWellFormed pipeline) (accepted : IsAccepted pipeline schedule) (is : inferred pipeline schedule ≡ Ok boxes)
-    (inputs : Planes) (begun : AnswerWords pipeline.inputs (reads_of inputs (pixels pipeline.funcs inputs 0))) (work : Work) (known : IsKnown pipeline schedule boxes work) where
+module _ (pipeline : Pipeline) (schedule : Schedule) (boxes : Boxes) (rules : IsWellFormed pipeline) (accepted : IsAccepted pipeline schedule)
+    (is : inferred pipeline schedule ≡ Ok boxes)
+    (inputs : Planes) (begun : AnswerWords pipeline.inputs (reads_of inputs (pixels pipeline.funcs inputs 0))) (work : Work) (known : IsKnown pipeline schedule
+    boxes work) where
   abbrev all_points : Points
   all_points = box_points boxes.funcs
 
@@ -177,7 +180,8 @@ module _ (pipeline : Pipeline) (schedule : Schedule) (boxes : Boxes) (rules : Is
 
     own_loaded : (x y : ℕ) → work.owned task x y ≡ true → loaded (func_point work.place x y) ≡ true
     own_loaded x y o =
-        ap (λ (b : Bool). cond b (work.owned task x y) ((is_root_at schedule.standings work.place || is_listed work.phase.private work.place) && all_points work.place x y)) (eq-eqb work.place work.place refl) ∙ o
+        ap (λ (b : Bool). cond b (work.owned task x y) ((is_root_at schedule.standings work.place || is_listed work.phase.private work.place)
+        && all_points work.place x y)) (eq-eqb work.place work.place refl) ∙ o
 
     -- ---- where it runs
 
@@ -190,10 +194,12 @@ module _ (pipeline : Pipeline) (schedule : Schedule) (boxes : Boxes) (rules : Is
     is_setting : IsSetting own
     is_setting = record {
       are_places = are_places pipeline schedule boxes rules accepted is;
-      laid = tasks-are-laid pipeline schedule boxes.funcs k (owners_of work) text task hart (omega (arith, number_is, few_harts)) below one_owner (size_fits pipeline schedule boxes is) written loaded touches;
+      laid = tasks-are-laid pipeline schedule boxes.funcs k (owners_of work) text task hart (omega (arith, number_is, few_harts)) below one_owner
+          (size_fits pipeline schedule boxes is) written loaded touches;
       have = have;
       are_words = λ place x y lx ly. begun.words (sources.Input place) x y lx ly;
-      at_once = tasks-may-write-runs pipeline schedule boxes.funcs k (owners_of work) text harts task hart inputs all_points written loaded task_is (runs_named work) writes_so;
+      at_once = tasks-may-write-runs pipeline schedule boxes.funcs k (owners_of work) text harts task hart inputs all_points written loaded task_is
+          (runs_named work) writes_so;
     }
 
     answers : (funcs : Planes) → AreWords funcs → AnswerWords pipeline.inputs (reads_of inputs funcs)
@@ -215,15 +221,18 @@ module _ (pipeline : Pipeline) (schedule : Schedule) (boxes : Boxes) (rules : Is
       func_same = sym (eqb-true func work.place (and_parts (func == work.place) (writes_runs work.plan work.number) asked).0)
 
       asked_parts : ((work.number == 0) ≡ true) × (is_vectorized_first work.plan.pure.loops ≡ true)
-      asked_parts = and_parts (work.number == 0) (is_vectorized_first work.plan.pure.loops) (and_parts (func == work.place) (writes_runs work.plan work.number) asked).1
+      asked_parts = and_parts (work.number == 0) (is_vectorized_first work.plan.pure.loops) (and_parts (func == work.place) (writes_runs work.plan work.number)
+          asked).1
 
       first : work.number ≡ 0
       first = eqb-true work.number 0 asked_parts.0
 
       pub stores_runs : (reads : Reads) (x y : ℕ)
-          → stores_in_runs reads func x y (is_in_run (extents_of work.own) work.plan.pure work.place x y) work.phase.body (task_values work.phase.counter task) ≡ true
+          → stores_in_runs reads func x y (is_in_run (extents_of work.own) work.plan.pure work.place x y) work.phase.body (task_values work.phase.counter task)
+          ≡ true
       stores_runs reads x y =
-          subst (λ (n : ℕ). stores_in_runs reads n x y (is_in_run (extents_of work.own) work.plan.pure work.place x y) work.phase.body (task_values work.phase.counter task) ≡ true) func_same
+          subst (λ (n : ℕ). stores_in_runs reads n x y (is_in_run (extents_of work.own) work.plan.pure work.place x y) work.phase.body
+          (task_values work.phase.counter task) ≡ true) func_same
           (known.stores_in_runs first asked_parts.1 task below reads x y)
 
     in_runs : RunsIn own work.phase.body (task_values work.phase.counter task)
@@ -232,22 +241,26 @@ module _ (pipeline : Pipeline) (schedule : Schedule) (boxes : Boxes) (rules : Is
     -- ---- what it finds and leaves
 
     module _ (found : List ℕ) (size_is : length found ≡ size pipeline schedule boxes.funcs) (bytes : AreBytes found)
-        (given : (address : ℕ) → Given task (uses pipeline schedule boxes.funcs k (owners_of work) address) → byte_at text found address ≡ byte_of_planes pipeline schedule boxes inputs start address) where
+        (given : (address : ℕ) → Given task (uses pipeline schedule boxes.funcs k (owners_of work) address)
+        → byte_at text found address ≡ byte_of_planes pipeline schedule boxes inputs start address) where
       has_inputs : HasInputs pipeline schedule boxes.funcs text found inputs
       has_inputs address place offset e =
-          given address (subst (λ u. Given task u) (sym (ap (use_of boxes.funcs k (owners_of work)) e)) tt) ∙ ap (byte_in pipeline.inputs boxes.funcs inputs start) e
+          given address (subst (λ u. Given task u) (sym (ap (use_of boxes.funcs k (owners_of work)) e)) tt)
+          ∙ ap (byte_in pipeline.inputs boxes.funcs inputs start) e
 
       abbrev pub funcs_found : Planes
       funcs_found = funcs_in pipeline schedule boxes.funcs text found hart
 
       holds_found : HoldsFuncs own found funcs_found
       holds_found =
-          memory-holds-funcs pipeline schedule boxes.funcs k (owners_of work) text found harts task hart inputs (pixels pipeline.funcs inputs 0) all_points written loaded task_is size_is bytes begun has_inputs
+          memory-holds-funcs pipeline schedule boxes.funcs k (owners_of work) text found harts task hart inputs (pixels pipeline.funcs inputs 0) all_points
+          written loaded task_is size_is bytes begun has_inputs
           touches.loads
 
       pub finds : Hold all_points private work.place (work.owned task) start funcs_found
       finds func x y shared there own_there =
-          tasks-find-theirs pipeline schedule boxes.funcs k (owners_of work) text found task hart inputs start task_is given func x y (shared_point pipeline schedule boxes accepted is func x y shared there) own_there
+          tasks-find-theirs pipeline schedule boxes.funcs k (owners_of work) text found task hart inputs start task_is given func x y
+          (shared_point pipeline schedule boxes accepted is func x y shared there) own_there
           (start_word func x y)
 
       module _ (f : ℕ → ℕ) (insns : List Insn) (turns : ℕ → ℕ)
@@ -256,7 +269,9 @@ module _ (pipeline : Pipeline) (schedule : Schedule) (boxes : Boxes) (rules : Is
         pub ends : TaskEnds own work.phase insns (turns task) (ticket_word k) task f found funcs_found
         ends = each_ends own is_setting refl task below sound at_once in_runs f found funcs_found holds_found drawn
 
-        pub leaves : (address : ℕ) → uses pipeline schedule boxes.funcs k (owners_of work) address ≡ Owned task → byte_at text ends.left address ≡ byte_of_planes pipeline schedule boxes inputs result address
+        pub leaves : (address : ℕ) → uses pipeline schedule boxes.funcs k (owners_of work) address ≡ Owned task
+            → byte_at text ends.left address ≡ byte_of_planes pipeline schedule boxes inputs result address
         leaves address o =
-            tasks-leave-theirs pipeline schedule boxes.funcs k (owners_of work) text ends.left harts task hart inputs (run_task all_points inputs work.phase task funcs_found) result all_points written loaded task_is
+            tasks-leave-theirs pipeline schedule boxes.funcs k (owners_of work) text ends.left harts task hart inputs (run_task all_points inputs work.phase
+            task funcs_found) result all_points written loaded task_is
             (ends.are_bytes bytes) ends.holds own_point own_loaded (λ x y t. (does.each task below).does funcs_found finds x y t) address o

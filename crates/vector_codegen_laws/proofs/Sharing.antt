@@ -1,5 +1,6 @@
 -- Phases of a pipeline share their work, and leave the pixels.
-use Rattle.std.proofs.Common.{◌≡◌, ℕ, zero, suc, ◌+◌, ◌*◌, ◌/◌, ◌%◌, ◌^◌, ◌<◌, ◌≤◌, Bool, true, false, cond, List, [], ◌∷◌, length, Some, refl, sym, ap, subst, ◌∙◌, arith, inl, inr}
+use Rattle.std.proofs.Common.{◌≡◌, ℕ, zero, suc, ◌+◌, ◌*◌, ◌/◌, ◌%◌, ◌^◌, ◌<◌, ◌≤◌, Bool, true, false, cond, List, [], ◌∷◌, length, Some, refl, sym, ap, subst}
+use Rattle.std.proofs.Common.{◌∙◌, arith, inl, inr}
 use Rattle.std.specs.Prelude.{◌⊎◌, ◌-◌, slice_get, slice_index_or, Ok}
 use Rattle.std.specs.List.{AllByRecursion, list_any}
 use Rattle.std.proofs.lemmas.Bool.{cases_lt, eq-eqb, lt-ltb, le-leb, lt-leb}
@@ -113,11 +114,13 @@ zero_pixels : (funcs : List Func) (inputs : Planes) (place x y : ℕ) → pixels
 unfolding pixels
 zero_pixels funcs inputs place x y = refl
 
-phases_fit : (pipeline : Pipeline) (schedule : Schedule) (boxes : Boxes) → 8 * phases schedule.standings pipeline.funcs boxes.funcs ≤ size pipeline schedule boxes.funcs
+phases_fit : (pipeline : Pipeline) (schedule : Schedule) (boxes : Boxes) → 8 * phases schedule.standings pipeline.funcs boxes.funcs ≤ size pipeline schedule
+    boxes.funcs
 unfolding laid_in
 phases_fit pipeline schedule boxes = omega arith
 
-module _ (pipeline : Pipeline) (schedule : Schedule) (boxes : Boxes) (rules : IsWellFormed pipeline) (accepted : IsAccepted pipeline schedule) (is : inferred pipeline schedule ≡ Ok boxes)
+module _ (pipeline : Pipeline) (schedule : Schedule) (boxes : Boxes) (rules : IsWellFormed pipeline) (accepted : IsAccepted pipeline schedule)
+    (is : inferred pipeline schedule ≡ Ok boxes)
     (inputs : Planes) (begun : AnswerWords pipeline.inputs (reads_of inputs (pixels pipeline.funcs inputs 0))) (list : List Phase) (planes : Planes)
     (told : Told pipeline schedule boxes inputs list (stages pipeline schedule boxes) planes) (harts : ℕ) (few_harts : harts ≤ 8)
     (all_parts : List CodePart) (coded : ArePartsOf (places pipeline schedule boxes.funcs) 0 list all_parts)
@@ -180,10 +183,12 @@ module _ (pipeline : Pipeline) (schedule : Schedule) (boxes : Boxes) (rules : Is
 
   -- ---- control words
 
-  control_part : (address : ℕ) → data_start ≤ address → address < data_start + 8 * suc last → part pipeline schedule boxes.funcs address ≡ Control ((address - data_start) / 8)
+  control_part : (address : ℕ) → data_start ≤ address → address < data_start + 8 * suc last → part pipeline schedule boxes.funcs address
+      ≡ Control ((address - data_start) / 8)
   control_part address low high =
       let e : address ≡ data_start + (address - data_start) = omega (arith, low) in
-      ap (part pipeline schedule boxes.funcs) e ∙ control-found (sizes_of pipeline schedule boxes.funcs) (address - data_start) (omega (arith, low, high, counted, count))
+      ap (part pipeline schedule boxes.funcs) e ∙ control-found (sizes_of pipeline schedule boxes.funcs) (address - data_start)
+      (omega (arith, low, high, counted, count))
 
   control : (k address : ℕ) → k ≤ last → IsControlByte k address → (matter k).uses address ≡ ForControl
   control k address l c =
@@ -193,7 +198,8 @@ module _ (pipeline : Pipeline) (schedule : Schedule) (boxes : Boxes) (rules : Is
       ap (use_of boxes.funcs k (owners_of (work k))) (control_part address low (omega (arith, high, l)))
       ∙ ap (λ (b : Bool). cond b ForControl Fixed) (le-leb number k (omega (arith, low, high)))
 
-  fresh : (k address : ℕ) → k ≤ last → data_start + 8 * suc k ≤ address → address < data_start + 8 * suc last → ((matter k).uses address ≡ Fixed) × ((matter k).start address ≡ 0)
+  fresh : (k address : ℕ) → k ≤ last → data_start + 8 * suc k ≤ address → address < data_start + 8 * suc last
+      → ((matter k).uses address ≡ Fixed) × ((matter k).start address ≡ 0)
   fresh k address l low high =
       let number = (address - data_start) / 8 in
       let here = control_part address (omega (arith, low)) high in (
@@ -210,7 +216,8 @@ module _ (pipeline : Pipeline) (schedule : Schedule) (boxes : Boxes) (rules : Is
     few_tasks : (work k).phase.tasks < 2 ^ 32
     few_tasks = let f = few_at k l in omega (arith, f)
 
-    drawn : HasDrawn (running.own pipeline schedule boxes rules accepted is inputs begun (work k) (known k l) k text harts task number below b.number_is few_harts) task (numbers_of hart)
+    drawn : HasDrawn (running.own pipeline schedule boxes rules accepted is inputs begun (work k) (known k l) k text harts task number below b.number_is
+        few_harts) task (numbers_of hart)
     drawn =
         let here = stands-there (P k) number ((P k).draw_code + 8) hart b.stands in
         record {
@@ -245,7 +252,8 @@ module _ (pipeline : Pipeline) (schedule : Schedule) (boxes : Boxes) (rules : Is
         → is_stored_by_task (box_points boxes.funcs) inputs (work k).phase task own_func x y (funcs_in pipeline schedule boxes.funcs text found number) ≡ true
     stores x y written =
         (known k l).stores inputs begun (funcs_in pipeline schedule boxes.funcs text found number) task below
-        (running.finds pipeline schedule boxes rules accepted is inputs begun (work k) (known k l) k text harts task number below b.number_is few_harts found b.size b.bytes b.given) x y ∙ written
+        (running.finds pipeline schedule boxes rules accepted is inputs begun (work k) (known k l) k text harts task number below b.number_is few_harts found
+        b.size b.bytes b.given) x y ∙ written
 
     module _ (address : ℕ) (own : (matter k).uses address ≡ Owned task) (written : (matter k).writes task address ≡ true) where
       own_here : OwnByte pipeline schedule boxes.funcs k (owners_of (work k)) task address
@@ -260,11 +268,14 @@ module _ (pipeline : Pipeline) (schedule : Schedule) (boxes : Boxes) (rules : Is
       writes_here : writes pipeline schedule boxes inputs (stage_of (work k)) task (x_of own_here.offset) (y_of own_here.offset) ≡ true
       writes_here =
           sym (ap (is_written pipeline schedule boxes inputs (work k) task) own_here.part_is
-          ∙ ap (λ (t : Bool). cond t (writes pipeline schedule boxes inputs (stage_of (work k)) task (x_of own_here.offset) (y_of own_here.offset)) false) (eq-eqb own_func own_func refl)) ∙ written
+          ∙ ap (λ (t : Bool). cond t (writes pipeline schedule boxes inputs (stage_of (work k)) task (x_of own_here.offset) (y_of own_here.offset)) false)
+          (eq-eqb own_func own_func refl)) ∙ written
 
-      covered : (at : ℕ) → Stand text at (part_here k).insns → Writes (world (P k) (Task task) number) at ((matter k).turns task) (numbers_of hart) found address
+      covered : (at : ℕ) → Stand text at (part_here k).insns → Writes (world (P k) (Task task) number) at ((matter k).turns task) (numbers_of hart) found
+          address
       covered at stands =
-          let lies = own-byte-lies pipeline schedule boxes.funcs k (owners_of (work k)) task number address own_here (root-byte-point pipeline schedule boxes.funcs address own_func own_here.offset own_here.part_is) in
+          let lies = own-byte-lies pipeline schedule boxes.funcs k (owners_of (work k)) task number address own_here (root-byte-point pipeline schedule
+          boxes.funcs address own_func own_here.offset own_here.part_is) in
           ends.writes own_func (x_of own_here.offset) (y_of own_here.offset) address at (stores (x_of own_here.offset) (y_of own_here.offset) writes_here)
           (record { above = lies.0; below = lies.1 }) stands
 
@@ -301,7 +312,8 @@ module _ (pipeline : Pipeline) (schedule : Schedule) (boxes : Boxes) (rules : Is
     tasks_there : (part_here k).tasks ≡ iterations pipeline schedule boxes stage
     tasks_there = tasks_are k there ∙ ((known k there).tasks_are ∙ ap (iterations pipeline schedule boxes) same_stage)
 
-    module _ (task : ℕ) (l : task < (work k).phase.tasks) (x y byte : ℕ) (written : writes pipeline schedule boxes inputs (stage_of (work k)) task x y ≡ true) (small : byte < 4) where
+    module _ (task : ℕ) (l : task < (work k).phase.tasks) (x y byte : ℕ) (written : writes pipeline schedule boxes inputs (stage_of (work k)) task x y ≡ true)
+        (small : byte < 4) where
       abbrev own_place : ℕ
       own_place = (work k).place
 
@@ -316,7 +328,8 @@ module _ (pipeline : Pipeline) (schedule : Schedule) (boxes : Boxes) (rules : Is
       abbrev byte_offset : ℕ
       byte_offset = 4 * (y * extent point.own.x + x) + byte
 
-      part_there : part pipeline schedule boxes.funcs (address_at pipeline schedule boxes.funcs 0 (sources.Func own_place) x y + byte) ≡ Root own_place byte_offset
+      part_there : part pipeline schedule boxes.funcs (address_at pipeline schedule boxes.funcs 0 (sources.Func own_place) x y + byte)
+          ≡ Root own_place byte_offset
       part_there = (roots-are-there pipeline schedule boxes.funcs 0 own_place x y point).parts byte small
 
       wide : width_of boxes.funcs own_place ≡ extent point.own.x
@@ -325,23 +338,28 @@ module _ (pipeline : Pipeline) (schedule : Schedule) (boxes : Boxes) (rules : Is
       used : (matter k).uses (address_at pipeline schedule boxes.funcs 0 (sources.Func own_place) x y + byte) ≡ Owned task
       used =
           ap (use_of boxes.funcs k (owners_of (work k))) part_there
-          ∙ (root-use boxes.funcs k (owners_of (work k)) own_place byte_offset x y (extent point.own.x) wide (column-of (extent point.own.x) x y byte point.column small) (row-of (extent point.own.x) x y byte point.column small)
-          ∙ own-use boxes.funcs k (owners_of (work k)) task own_place x y (running.one_owner pipeline schedule boxes rules accepted is inputs begun (work k) (known k there)) l refl owned)
+          ∙ (root-use boxes.funcs k (owners_of (work k)) own_place byte_offset x y (extent point.own.x) wide (column-of (extent point.own.x) x y byte
+          point.column small) (row-of (extent point.own.x) x y byte point.column small)
+          ∙ own-use boxes.funcs k (owners_of (work k)) task own_place x y (running.one_owner pipeline schedule boxes rules accepted is inputs begun (work k)
+          (known k there)) l refl owned)
 
       written_there : (matter k).writes task (address_at pipeline schedule boxes.funcs 0 (sources.Func own_place) x y + byte) ≡ true
       written_there =
           let test : ℕ → ℕ → Bool = writes pipeline schedule boxes inputs (stage_of (work k)) task in
           ap (is_written pipeline schedule boxes inputs (work k) task) part_there
-          ∙ (ap (λ (t : Bool). cond t (test (byte_offset / 4 % width_of boxes.funcs own_place) (byte_offset / 4 / width_of boxes.funcs own_place)) false) (eq-eqb own_place own_place refl)
+          ∙ (ap (λ (t : Bool). cond t (test (byte_offset / 4 % width_of boxes.funcs own_place) (byte_offset / 4 / width_of boxes.funcs own_place)) false)
+          (eq-eqb own_place own_place refl)
           ∙ (ap (λ (w : ℕ). test (byte_offset / 4 % w) (byte_offset / 4 / w)) wide
           ∙ (ap (λ (n : ℕ). test n (byte_offset / 4 / extent point.own.x)) (column-of (extent point.own.x) x y byte point.column small)
           ∙ (ap (test x) (row-of (extent point.own.x) x y byte point.column small) ∙ written))))
 
-    own_bytes : (task : ℕ) → task < iterations pipeline schedule boxes stage → (x y byte : ℕ) → writes pipeline schedule boxes inputs stage task x y ≡ true → byte < 4
+    own_bytes : (task : ℕ) → task < iterations pipeline schedule boxes stage → (x y byte : ℕ) → writes pipeline schedule boxes inputs stage task x y ≡ true
+        → byte < 4
         → let address = address_at pipeline schedule boxes.funcs 0 (sources.Func stage.func) x y + byte in
         ((matter k).uses address ≡ Owned task) × ((matter k).writes task address ≡ true)
     own_bytes task l x y byte written small =
-        let below : task < (work k).phase.tasks = subst (λ (n : ℕ). task < n) (sym ((known k there).tasks_are ∙ ap (iterations pipeline schedule boxes) same_stage)) l in
+        let below : task < (work k).phase.tasks = subst (λ (n : ℕ). task < n) (sym ((known k there).tasks_are
+        ∙ ap (iterations pipeline schedule boxes) same_stage)) l in
         let here = subst (λ (s : StagePlace). writes pipeline schedule boxes inputs s task x y ≡ true) (sym same_stage) written in
         subst (λ (s : StagePlace). ((matter k).uses (address_at pipeline schedule boxes.funcs 0 (sources.Func s.func) x y + byte) ≡ Owned task)
         × ((matter k).writes task (address_at pipeline schedule boxes.funcs 0 (sources.Func s.func) x y + byte) ≡ true)) same_stage
@@ -417,24 +435,28 @@ module _ (pipeline : Pipeline) (schedule : Schedule) (boxes : Boxes) (rules : Is
     in_runs : writes_runs (work k).plan (work k).number ≡ true
     in_runs = ap (λ (p : FuncPlan). writes_runs p (work k).number) same_plan ∙ ap (λ (n : ℕ). writes_runs plan n) same_number ∙ vectors
 
-    one_run : (task : ℕ) (written : List ℕ) → (matter k).rule task written ≡ true → IsOneRun (address_at pipeline schedule boxes.funcs 0 (sources.Func place)) (extents_of own) plan.pure written
+    one_run : (task : ℕ) (written : List ℕ) → (matter k).rule task written ≡ true → IsOneRun (address_at pipeline schedule boxes.funcs 0 (sources.Func place))
+        (extents_of own) plan.pure written
     one_run task written kept =
         let bytes_of = rules-say-runs pipeline schedule boxes.funcs (owners_of (work k)) written in_runs kept in
         let run = (runs_are_listed (extents_of (work k).own) (work k).plan.pure).1 bytes_of.visits bytes_of.there in
         subst (λ (p : ℕ). IsOneRun (address_at pipeline schedule boxes.funcs 0 (sources.Func p)) (extents_of own) plan.pure written) same_place
         (subst (λ (p : FuncPlan). IsOneRun (address_at pipeline schedule boxes.funcs 0 (sources.Func (work k).place)) (extents_of own) p.pure written) same_plan
-        (subst (λ (o : SourceBox). IsOneRun (address_at pipeline schedule boxes.funcs 0 (sources.Func (work k).place)) (extents_of o) (work k).plan.pure written) same_own
+        (subst (λ (o : SourceBox). IsOneRun (address_at pipeline schedule boxes.funcs 0 (sources.Func (work k).place)) (extents_of o) (work k).plan.pure
+        written) same_own
         (record {
           turns = run.turns;
           are = run.are;
           all = λ x y byte visited small. bytes_of.all x y byte (ap (list_any (is_slice x y)) run.is ∙ visited) small;
-          no_other = λ address i. subst (λ (visits : List Visit). IsByteOf (address_at pipeline schedule boxes.funcs 0 (sources.Func (work k).place)) visits address) run.is (bytes_of.no_other address i);
+          no_other = λ address i. subst (λ (visits : List Visit). IsByteOf (address_at pipeline schedule boxes.funcs 0 (sources.Func (work k).place)) visits
+              address) run.is (bytes_of.no_other address i);
         })))
 
   -- ---- from phase to phase
 
   abbrev root_at : (k : ℕ) → (l : k ≤ last) → (address place offset : ℕ) → part pipeline schedule boxes.funcs address ≡ Root place offset
-      → Stays pipeline schedule boxes inputs (work k) k ((known k l).does inputs begun) address ⊎ HasOwner pipeline schedule boxes inputs (work k) k ((known k l).does inputs begun) address
+      → Stays pipeline schedule boxes inputs (work k) k ((known k l).does inputs begun) address ⊎ HasOwner pipeline schedule boxes inputs (work k) k
+      ((known k l).does inputs begun) address
   root_at k l address place offset e = root_use pipeline schedule boxes inputs (work k) k ((known k l).does inputs begun) address place offset e
 
   module _ (k : ℕ) (l : k < last) (address : ℕ) where
@@ -446,14 +468,16 @@ module _ (pipeline : Pipeline) (schedule : Schedule) (boxes : Boxes) (rules : Is
     linked = same_bytes pipeline schedule boxes inputs (start (suc k)) (result k) (told.starts (suc k) (omega (arith, l, count))) address
 
     stays : (p : Part) → part pipeline schedule boxes.funcs address ≡ p → use_of boxes.funcs k (owners_of (work k)) p ≡ Fixed
-        → byte_in pipeline.inputs boxes.funcs inputs (start (suc k)) p ≡ byte_in pipeline.inputs boxes.funcs inputs (start k) p → FoundBy (P k) (P (suc k)) address
+        → byte_in pipeline.inputs boxes.funcs inputs (start (suc k)) p ≡ byte_in pipeline.inputs boxes.funcs inputs (start k) p
+        → FoundBy (P k) (P (suc k)) address
     stays p e fixed same =
         inl (
           ap (use_of boxes.funcs k (owners_of (work k))) e ∙ fixed,
           ap (byte_in pipeline.inputs boxes.funcs inputs (start (suc k))) e ∙ (same ∙ sym (ap (byte_in pipeline.inputs boxes.funcs inputs (start k)) e)),
         )
 
-    follows_at : (p : Part) → part pipeline schedule boxes.funcs address ≡ p → Shared (use_of boxes.funcs (suc k) (owners_of (work (suc k))) p) → FoundBy (P k) (P (suc k)) address
+    follows_at : (p : Part) → part pipeline schedule boxes.funcs address ≡ p → Shared (use_of boxes.funcs (suc k) (owners_of (work (suc k))) p)
+        → FoundBy (P k) (P (suc k)) address
     follows_at (Control number) e s = elim (cases_lt (suc k) number) [
       | inl b ↦ stays (Control number) e (ap (λ (t : Bool). cond t ForControl Fixed) (lt-leb number k (omega (arith, b)))) refl
       | inr b ↦ absurd (subst (λ (t : Bool). Shared (cond t ForControl Fixed)) (le-leb number (suc k) b) s)
@@ -485,7 +509,8 @@ module _ (pipeline : Pipeline) (schedule : Schedule) (boxes : Boxes) (rules : Is
 
     outside : (address : ℕ) → address < data_start → (matter 0).uses address ≡ ForControl
     outside address l =
-        ap (λ (b : Bool). use_of boxes.funcs 0 (owners_of (work 0)) (cond b Outside (in_data (sizes_of pipeline schedule boxes.funcs) (address - data_start)))) (lt-ltb address data_start l)
+        ap (λ (b : Bool). use_of boxes.funcs 0 (owners_of (work 0)) (cond b Outside (in_data (sizes_of pipeline schedule boxes.funcs) (address - data_start))))
+        (lt-ltb address data_start l)
 
     found_first : (address : ℕ) → Shared ((matter 0).uses address) → byte_at text memory address ≡ (matter 0).start address
     found_first address s = elim (cases_lt address data_start) [
@@ -514,12 +539,14 @@ module _ (pipeline : Pipeline) (schedule : Schedule) (boxes : Boxes) (rules : Is
 
   -- ---- the end
 
-  module _ (left : List ℕ) (done : (address task : ℕ) → task < (part_here last).tasks → (matter last).uses address ≡ Owned task → byte_at text left address ≡ (matter last).result address)
+  module _ (left : List ℕ) (done : (address task : ℕ) → task < (part_here last).tasks → (matter last).uses address ≡ Owned task
+      → byte_at text left address ≡ (matter last).result address)
       (kept : (address : ℕ) → (matter last).uses address ≡ Fixed → byte_at text left address ≡ (matter last).start address) where
     here : last ≤ last
     here = omega arith
 
-    last_byte : (address place offset : ℕ) → part pipeline schedule boxes.funcs address ≡ Root place offset → byte_at text left address ≡ byte (result last) address
+    last_byte : (address place offset : ℕ) → part pipeline schedule boxes.funcs address ≡ Root place offset
+        → byte_at text left address ≡ byte (result last) address
     last_byte address place offset e = elim (root_at last here address place offset e) [
       | inl it ↦ kept address it.fixed ∙ it.same
       | inr it ↦ done address it.task (subst (λ (n : ℕ). it.task < n) (sym (tasks_are last here)) it.below) it.owned
@@ -576,5 +603,6 @@ phases-are-shared pipeline schedule boxes rules accepted is inputs begun list ar
       ends = λ left done kept func x y p.
           pixel_is pipeline schedule boxes rules accepted is inputs begun list planes told harts few parts coded countable last count counted text
           left done kept func x y p
-          (held_word pipeline rules inputs begun boxes.funcs (pixels pipeline.funcs inputs (length pipeline.funcs)) (pixels_answer pipeline rules inputs begun (length pipeline.funcs)) func x y);
+          (held_word pipeline rules inputs begun boxes.funcs (pixels pipeline.funcs inputs (length pipeline.funcs)) (pixels_answer pipeline rules inputs begun
+          (length pipeline.funcs)) func x y);
     }

@@ -20,8 +20,10 @@ use Rattle.task_code_scalar.specs.declared.places.Place.{Place}
 use Rattle.task_code_scalar.specs.Code.{place_of, address}
 use Rattle.task_code_scalar.specs.Evaluation.{word_start}
 use Rattle.vector_codegen_laws.specs.Places.{input_place, func_place, places_of}
-use Rattle.vector_codegen_laws.specs.Points.{RootPoint, PrivatePoint, InputPoint, IsWordOf, address_at, RootsAreThere, CopiesAreThere, WordInputsAreThere, ByteInputsAreThere}
-use Rattle.vector_codegen_laws.proofs.Listing.{there-below, placed-length, input-at, input-size, sizes-length, inputs-four, func-at, root-size, private-size, root-below, private-below, roots-four, privates-four}
+use Rattle.vector_codegen_laws.specs.Points.{RootPoint, PrivatePoint, InputPoint, IsWordOf, address_at, RootsAreThere, CopiesAreThere, WordInputsAreThere}
+use Rattle.vector_codegen_laws.specs.Points.{ByteInputsAreThere}
+use Rattle.vector_codegen_laws.proofs.Listing.{there-below, placed-length, input-at, input-size, sizes-length, inputs-four, func-at, root-size, private-size}
+use Rattle.vector_codegen_laws.proofs.Listing.{root-below, private-below, roots-four, privates-four}
 
 -- the number of a point, by rows
 pub within : (width height x y : ℕ) → x < width → y < height → y * width + x < width * height
@@ -44,8 +46,10 @@ module _ (pipeline : Pipeline) (schedule : Schedule) (boxes : List (Option Sourc
   abbrev inputs : List ℕ
   inputs = placed (inputs_at sizes) sizes.inputs
 
-  pub func-place-at : (func : ℕ) (standing : Standing) (own : SourceBox) → slice_get schedule.standings func ≡ Some standing → slice_get boxes func ≡ Some (Some own)
-      → place_of (places_of pipeline schedule boxes (laid_out pipeline schedule boxes)) (sources.Func func) ≡ func_place standing.place (Some own) (slice_index roots func) (slice_index privates func)
+  pub func-place-at : (func : ℕ) (standing : Standing) (own : SourceBox) → slice_get schedule.standings func ≡ Some standing
+      → slice_get boxes func ≡ Some (Some own)
+      → place_of (places_of pipeline schedule boxes (laid_out pipeline schedule boxes)) (sources.Func func) ≡ func_place standing.place (Some own)
+      (slice_index roots func) (slice_index privates func)
   unfolding laid_in
   func-place-at func standing own e f =
       let ls = there-below schedule.standings func standing e in
@@ -90,10 +94,14 @@ roots-are-there pipeline schedule boxes hart func x y p =
     let own = p.own in
     let k = y * extent own.x + x in
     let few = within (extent own.x) (extent own.y) x y p.column p.row in
-    let there = func-place-at pipeline schedule boxes func p.standing own p.standing_is p.box_is ∙ ap (λ z. func_place z (Some own) r (slice_index (placed (privates_at s) s.privates) func)) p.at_root in
-    let at : address_at pipeline schedule boxes hart (sources.Func func) x y ≡ r + 4 * k = ap (λ z. address z hart x y) there ∙ (let q : r + 0 * hart + 4 * k ≡ r + 4 * k = omega arith in q) in
-    let size : slice_index s.roots func ≡ points own * 4 = root-size schedule.standings boxes func p.standing (Some own) p.standing_is p.box_is ∙ ap (λ z. root_bytes z (Some own)) p.at_root in
-    let below = root-below schedule.standings boxes func (there-below schedule.standings func p.standing p.standing_is) (there-below boxes func (Some own) p.box_is) in
+    let there = func-place-at pipeline schedule boxes func p.standing own p.standing_is p.box_is
+    ∙ ap (λ z. func_place z (Some own) r (slice_index (placed (privates_at s) s.privates) func)) p.at_root in
+    let at : address_at pipeline schedule boxes hart (sources.Func func) x y ≡ r + 4 * k = ap (λ z. address z hart x y) there
+    ∙ (let q : r + 0 * hart + 4 * k ≡ r + 4 * k = omega arith in q) in
+    let size : slice_index s.roots func ≡ points own * 4 = root-size schedule.standings boxes func p.standing (Some own) p.standing_is p.box_is
+    ∙ ap (λ z. root_bytes z (Some own)) p.at_root in
+    let below = root-below schedule.standings boxes func (there-below schedule.standings func p.standing p.standing_is) (there-below boxes func (Some own)
+    p.box_is) in
     let ends = parts-end (roots_at s) s.roots func below in
     let e0 = ends.0 in
     let e1 = ends.1 in
@@ -116,15 +124,19 @@ copies-are-there pipeline schedule boxes hart func x y few-harts p =
     let n = points own in
     let k = y * extent own.x + x in
     let few : k < n = within (extent own.x) (extent own.y) x y p.column p.row in
-    let there = func-place-at pipeline schedule boxes func p.standing own p.standing_is p.box_is ∙ ap (λ z. func_place z (Some own) (slice_index (placed (roots_at s) s.roots) func) r) p.at_loop in
+    let there = func-place-at pipeline schedule boxes func p.standing own p.standing_is p.box_is
+    ∙ ap (λ z. func_place z (Some own) (slice_index (placed (roots_at s) s.roots) func) r) p.at_loop in
     let at : address_at pipeline schedule boxes hart (sources.Func func) x y ≡ r + 4 * n * hart + 4 * k = ap (λ z. address z hart x y) there in
-    let size : slice_index s.privates func ≡ n * 4 * 8 = private-size schedule.standings boxes func p.standing (Some own) p.standing_is p.box_is ∙ ap (λ z. private_bytes z (Some own)) p.at_loop in
-    let below = private-below schedule.standings boxes func (there-below schedule.standings func p.standing p.standing_is) (there-below boxes func (Some own) p.box_is) in
+    let size : slice_index s.privates func ≡ n * 4 * 8 = private-size schedule.standings boxes func p.standing (Some own) p.standing_is p.box_is
+    ∙ ap (λ z. private_bytes z (Some own)) p.at_loop in
+    let below = private-below schedule.standings boxes func (there-below schedule.standings func p.standing p.standing_is) (there-below boxes func (Some own)
+    p.box_is) in
     let ends = parts-end (privates_at s) s.privates func below in
     let e0 = ends.0 in
     let e1 = ends.1 in
     let all = privates-within pipeline schedule boxes in
-    let four : r % 4 ≡ 0 = parts-aligned (privates_at s) s.privates func below (privates-start pipeline schedule boxes) (privates-four schedule.standings boxes) in
+    let four : r % 4 ≡ 0 = parts-aligned (privates_at s) s.privates func below (privates-start pipeline schedule boxes) (privates-four schedule.standings boxes)
+    in
     let copies : suc hart * n ≤ 8 * n = mul-le-mul_right {m = suc hart} {n = 8} n (omega (arith, few-harts)) in
     let more : suc hart * n ≡ hart * n + n = omega arith in
     let turned : 4 * n * hart ≡ 4 * (hart * n) = omega arith in
@@ -139,11 +151,13 @@ copies-are-there pipeline schedule boxes hart func x y few-harts p =
 
 module _ (pipeline : Pipeline) (schedule : Schedule) (boxes : List (Option SourceBox)) where
   pub input-place-at : (place : ℕ) (input : Input) → slice_get pipeline.inputs place ≡ Some input
-      → place_of (places_of pipeline schedule boxes (laid_out pipeline schedule boxes)) (sources.Input place) ≡ input_place (slice_index (inputs pipeline schedule boxes) place) input
+      → place_of (places_of pipeline schedule boxes (laid_out pipeline schedule boxes)) (sources.Input place)
+      ≡ input_place (slice_index (inputs pipeline schedule boxes) place) input
   unfolding laid_in
   input-place-at place input e =
       input-at (inputs pipeline schedule boxes) pipeline.inputs place input e
-      (let a = placed-length (inputs_at (sizes pipeline schedule boxes)) (sizes pipeline schedule boxes).inputs in let b = sizes-length pipeline.inputs in omega (arith, a, b))
+      (let a = placed-length (inputs_at (sizes pipeline schedule boxes)) (sizes pipeline schedule boxes).inputs in let b = sizes-length pipeline.inputs in
+      omega (arith, a, b))
 
 pub word-inputs-are-there : (pipeline : Pipeline) (schedule : Schedule) (boxes : List (Option SourceBox)) → WordInputsAreThere pipeline schedule boxes
 word-inputs-are-there pipeline schedule boxes hart place x y p words =
@@ -152,10 +166,14 @@ word-inputs-are-there pipeline schedule boxes hart place x y p words =
     let own = p.input in
     let k = y * own.width + x in
     let few = within own.width own.height x y p.column p.row in
-    let there = input-place-at pipeline schedule boxes place own p.input_is ∙ ap (λ b. record { start = r; width = own.width; distance = 0; pixels = if b then pixels.Bytes else pixels.Words }) words in
-    let at : address_at pipeline schedule boxes hart (sources.Input place) x y ≡ r + 4 * k = ap (λ z. address z hart x y) there ∙ (let q : r + 0 * hart + 4 * k ≡ r + 4 * k = omega arith in q) in
-    let size : slice_index s.inputs place ≡ own.width * own.height * 4 = input-size pipeline.inputs place own p.input_is ∙ ap (λ b. if b then (own.width * own.height + 3) / 4 * 4 else own.width * own.height * 4) words in
-    let below : place < length s.inputs = let a = there-below pipeline.inputs place own p.input_is in let b = sizes-length pipeline.inputs in omega (arith, a, b) in
+    let there = input-place-at pipeline schedule boxes place own p.input_is
+    ∙ ap (λ b. record { start = r; width = own.width; distance = 0; pixels = if b then pixels.Bytes else pixels.Words }) words in
+    let at : address_at pipeline schedule boxes hart (sources.Input place) x y ≡ r + 4 * k = ap (λ z. address z hart x y) there
+    ∙ (let q : r + 0 * hart + 4 * k ≡ r + 4 * k = omega arith in q) in
+    let size : slice_index s.inputs place ≡ own.width * own.height * 4 = input-size pipeline.inputs place own p.input_is
+    ∙ ap (λ b. if b then (own.width * own.height + 3) / 4 * 4 else own.width * own.height * 4) words in
+    let below : place < length s.inputs = let a = there-below pipeline.inputs place own p.input_is in let b = sizes-length pipeline.inputs in
+    omega (arith, a, b) in
     let ends = parts-end (inputs_at s) s.inputs place below in
     let e0 = ends.0 in
     let e1 = ends.1 in
@@ -177,10 +195,14 @@ byte-inputs-are-there pipeline schedule boxes hart place x y p bytes =
     let own = p.input in
     let k = y * own.width + x in
     let few = within own.width own.height x y p.column p.row in
-    let there = input-place-at pipeline schedule boxes place own p.input_is ∙ ap (λ b. record { start = r; width = own.width; distance = 0; pixels = if b then pixels.Bytes else pixels.Words }) bytes in
-    let at : address_at pipeline schedule boxes hart (sources.Input place) x y ≡ r + k = ap (λ z. address z hart x y) there ∙ (let q : r + 0 * hart + 1 * k ≡ r + k = omega arith in q) in
-    let size : slice_index s.inputs place ≡ (own.width * own.height + 3) / 4 * 4 = input-size pipeline.inputs place own p.input_is ∙ ap (λ b. if b then (own.width * own.height + 3) / 4 * 4 else own.width * own.height * 4) bytes in
-    let below : place < length s.inputs = let a = there-below pipeline.inputs place own p.input_is in let b = sizes-length pipeline.inputs in omega (arith, a, b) in
+    let there = input-place-at pipeline schedule boxes place own p.input_is
+    ∙ ap (λ b. record { start = r; width = own.width; distance = 0; pixels = if b then pixels.Bytes else pixels.Words }) bytes in
+    let at : address_at pipeline schedule boxes hart (sources.Input place) x y ≡ r + k = ap (λ z. address z hart x y) there
+    ∙ (let q : r + 0 * hart + 1 * k ≡ r + k = omega arith in q) in
+    let size : slice_index s.inputs place ≡ (own.width * own.height + 3) / 4 * 4 = input-size pipeline.inputs place own p.input_is
+    ∙ ap (λ b. if b then (own.width * own.height + 3) / 4 * 4 else own.width * own.height * 4) bytes in
+    let below : place < length s.inputs = let a = there-below pipeline.inputs place own p.input_is in let b = sizes-length pipeline.inputs in
+    omega (arith, a, b) in
     let ends = parts-end (inputs_at s) s.inputs place below in
     let e0 = ends.0 in
     let e1 = ends.1 in
@@ -192,24 +214,31 @@ byte-inputs-are-there pipeline schedule boxes hart place x y p bytes =
     }
 
 -- the word that holds such a byte is padded with others of the input
-pub byte-words-are-there : (pipeline : Pipeline) (schedule : Schedule) (boxes : List (Option SourceBox)) (hart place x y : ℕ) → (point : InputPoint pipeline schedule boxes place x y) → point.input.is_bytes ≡ true
-    → IsWordOf pipeline schedule boxes (word_start (address_at pipeline schedule boxes hart (sources.Input place) x y)) (λ byte. InputPart place ((y * point.input.width + x) / 4 * 4 + byte))
+pub byte-words-are-there : (pipeline : Pipeline) (schedule : Schedule) (boxes : List (Option SourceBox)) (hart place x y : ℕ)
+    → (point : InputPoint pipeline schedule boxes place x y) → point.input.is_bytes ≡ true
+    → IsWordOf pipeline schedule boxes (word_start (address_at pipeline schedule boxes hart (sources.Input place) x y)) (λ byte. InputPart place
+    ((y * point.input.width + x) / 4 * 4 + byte))
 byte-words-are-there pipeline schedule boxes hart place x y p bytes =
     let s = sizes_of pipeline schedule boxes in
     let r = slice_index (placed (inputs_at s) s.inputs) place in
     let own = p.input in
     let k = y * own.width + x in
     let few = within own.width own.height x y p.column p.row in
-    let there = input-place-at pipeline schedule boxes place own p.input_is ∙ ap (λ b. record { start = r; width = own.width; distance = 0; pixels = if b then pixels.Bytes else pixels.Words }) bytes in
-    let at : address_at pipeline schedule boxes hart (sources.Input place) x y ≡ r + k = ap (λ z. address z hart x y) there ∙ (let q : r + 0 * hart + 1 * k ≡ r + k = omega arith in q) in
-    let size : slice_index s.inputs place ≡ (own.width * own.height + 3) / 4 * 4 = input-size pipeline.inputs place own p.input_is ∙ ap (λ b. if b then (own.width * own.height + 3) / 4 * 4 else own.width * own.height * 4) bytes in
-    let below : place < length s.inputs = let a = there-below pipeline.inputs place own p.input_is in let b = sizes-length pipeline.inputs in omega (arith, a, b) in
+    let there = input-place-at pipeline schedule boxes place own p.input_is
+    ∙ ap (λ b. record { start = r; width = own.width; distance = 0; pixels = if b then pixels.Bytes else pixels.Words }) bytes in
+    let at : address_at pipeline schedule boxes hart (sources.Input place) x y ≡ r + k = ap (λ z. address z hart x y) there
+    ∙ (let q : r + 0 * hart + 1 * k ≡ r + k = omega arith in q) in
+    let size : slice_index s.inputs place ≡ (own.width * own.height + 3) / 4 * 4 = input-size pipeline.inputs place own p.input_is
+    ∙ ap (λ b. if b then (own.width * own.height + 3) / 4 * 4 else own.width * own.height * 4) bytes in
+    let below : place < length s.inputs = let a = there-below pipeline.inputs place own p.input_is in let b = sizes-length pipeline.inputs in
+    omega (arith, a, b) in
     let ends = parts-end (inputs_at s) s.inputs place below in
     let e0 = ends.0 in
     let e1 = ends.1 in
     let all = inputs-within pipeline schedule boxes in
     let four : r % 4 ≡ 0 = parts-aligned (inputs_at s) s.inputs place below (let q : inputs_at s % 4 ≡ 0 = omega arith in q) (inputs-four pipeline.inputs) in
-    let start : word_start (address_at pipeline schedule boxes hart (sources.Input place) x y) ≡ r + k / 4 * 4 = ap word_start at ∙ (let q : (r + k) / 4 * 4 ≡ r + k / 4 * 4 = omega (arith, four) in q) in
+    let start : word_start (address_at pipeline schedule boxes hart (sources.Input place) x y) ≡ r + k / 4 * 4 = ap word_start at
+    ∙ (let q : (r + k) / 4 * 4 ≡ r + k / 4 * 4 = omega (arith, four) in q) in
     record {
       aligned = ap (λ n. n % 4) start ∙ (let q : (r + k / 4 * 4) % 4 ≡ 0 = omega (arith, four) in q);
       above = omega (arith, start, e0);
@@ -226,20 +255,48 @@ module _ (pipeline : Pipeline) (schedule : Schedule) (boxes : List (Option Sourc
   place_at source = place_of (places_of pipeline schedule boxes (laid_out pipeline schedule boxes)) source
 
   pub root-place : (func x y : ℕ) → (p : RootPoint pipeline schedule boxes func x y)
-      → place_at (sources.Func func) ≡ record { start = slice_index (placed (roots_at (sizes pipeline schedule boxes)) (sizes pipeline schedule boxes).roots) func; width = extent p.own.x; distance = 0; pixels = pixels.Words }
+      → place_at (sources.Func func) ≡ record {
+        start = slice_index (placed (roots_at (sizes pipeline schedule boxes)) (sizes pipeline schedule boxes).roots)
+            func;
+        width = extent p.own.x;
+        distance = 0;
+        pixels = pixels.Words;
+      }
   root-place func x y p =
       let s = sizes_of pipeline schedule boxes in
-      func-place-at pipeline schedule boxes func p.standing p.own p.standing_is p.box_is ∙ ap (λ z. func_place z (Some p.own) (slice_index (placed (roots_at s) s.roots) func) (slice_index (placed (privates_at s) s.privates) func)) p.at_root
+      func-place-at pipeline schedule boxes func p.standing p.own p.standing_is p.box_is
+      ∙ ap (λ z. func_place z (Some p.own) (slice_index (placed (roots_at s) s.roots) func) (slice_index (placed (privates_at s) s.privates) func))
+      p.at_root
 
   pub copies-place : (func x y : ℕ) → (p : PrivatePoint pipeline schedule boxes func x y)
-      → place_at (sources.Func func) ≡ record { start = slice_index (placed (privates_at (sizes pipeline schedule boxes)) (sizes pipeline schedule boxes).privates) func; width = extent p.own.x; distance = 4 * points p.own; pixels = pixels.Words }
+      → place_at (sources.Func func) ≡ record {
+        start = slice_index (placed (privates_at (sizes pipeline schedule boxes)) (sizes pipeline schedule
+            boxes).privates) func;
+        width = extent p.own.x;
+        distance = 4 * points p.own;
+        pixels = pixels.Words;
+      }
   copies-place func x y p =
       let s = sizes_of pipeline schedule boxes in
-      func-place-at pipeline schedule boxes func p.standing p.own p.standing_is p.box_is ∙ ap (λ z. func_place z (Some p.own) (slice_index (placed (roots_at s) s.roots) func) (slice_index (placed (privates_at s) s.privates) func)) p.at_loop
+      func-place-at pipeline schedule boxes func p.standing p.own p.standing_is p.box_is
+      ∙ ap (λ z. func_place z (Some p.own) (slice_index (placed (roots_at s) s.roots) func) (slice_index (placed (privates_at s) s.privates) func))
+      p.at_loop
 
   pub input-place-is : (place x y : ℕ) → (p : InputPoint pipeline schedule boxes place x y) → (is_bytes : Bool) → p.input.is_bytes ≡ is_bytes
-      → place_at (sources.Input place) ≡ record { start = slice_index (placed (inputs_at (sizes pipeline schedule boxes)) (sizes pipeline schedule boxes).inputs) place; width = p.input.width; distance = 0; pixels = if is_bytes then pixels.Bytes else pixels.Words }
+      → place_at (sources.Input place) ≡ record {
+        start = slice_index (placed (inputs_at (sizes pipeline schedule boxes)) (sizes pipeline schedule
+            boxes).inputs) place;
+        width = p.input.width;
+        distance = 0;
+        pixels = if is_bytes then pixels.Bytes else pixels.Words;
+      }
   input-place-is place x y p is_bytes e =
       let s = sizes_of pipeline schedule boxes in
       input-place-at pipeline schedule boxes place p.input p.input_is
-      ∙ ap (λ b. record { start = slice_index (placed (inputs_at s) s.inputs) place; width = p.input.width; distance = 0; pixels = if b then pixels.Bytes else pixels.Words }) e
+      ∙ ap (λ b. record {
+        start = slice_index (placed (inputs_at s) s.inputs) place;
+        width = p.input.width;
+        distance = 0;
+        pixels =
+            if b then pixels.Bytes else pixels.Words;
+      }) e

@@ -1,5 +1,6 @@
 -- Which stages are listed; that each has an iteration, and that those of a pure definition write all points of its Func's box.
-use Rattle.std.proofs.Common.{◌≡◌, ℕ, zero, suc, ◌*◌, ◌<◌, ◌≤◌, ◌⊎◌, Bool, true, false, cond, List, [], ◌∷◌, ◌++◌, length, Option, Some, None, refl, sym, ap, subst, ◌∙◌, arith, inl, inr, true≢false}
+use Rattle.std.proofs.Common.{◌≡◌, ℕ, zero, suc, ◌*◌, ◌<◌, ◌≤◌, ◌⊎◌, Bool, true, false, cond, List, [], ◌∷◌, ◌++◌, length, Option, Some, None, refl, sym, ap}
+use Rattle.std.proofs.Common.{subst, ◌∙◌, arith, inl, inr, true≢false}
 use Rattle.std.specs.Prelude.{◌&&◌, not, nat_lt, is_some, slice_get, Ok}
 use Rattle.std.proofs.lemmas.Bool.{and_from, cases_eq, cases_lt, lt-ltb}
 use Rattle.std.proofs.Math.Nat.{mul-le-mul}
@@ -32,7 +33,8 @@ use Rattle.bounds_laws.specs.Reached.{is_computed_there}
 use Rattle.bounds_laws.proofs.BoxFacts.{has_box}
 use Rattle.bounds_laws.proofs.PutIn.{pair_there}
 use Rattle.bounds_laws.proofs.Reached.{boxes_are_of_reached_funcs}
-use Rattle.bounds.specs.Stages.{IsAtRoot, StagePlace, stages_to, stages_where, stages_at, stages_below, iterations, iterations_in, iterations_of, update_iterations, writes, writes_in, writes_of}
+use Rattle.bounds.specs.Stages.{IsAtRoot, StagePlace, stages_to, stages_where, stages_at, stages_below, iterations, iterations_in, iterations_of}
+use Rattle.bounds.specs.Stages.{update_iterations, writes, writes_in, writes_of}
 use Rattle.lowering.specs.Updates.{IsUpdateAt}
 use Rattle.lowering.proofs.Covered as covered
 use Rattle.lowering.proofs.Facts.{fits, is_box, staged}
@@ -59,7 +61,8 @@ record IsStageOfFunc (func number : ℕ) (stage : StagePlace) : Type 0 where
   func_is : stage.func ≡ func
   below : stage.number < number
 
-one_has : (func number k : ℕ) (stage : StagePlace) → slice_get (record { func = func; number = number } ∷ []) k ≡ Some stage → IsStageOfFunc func (suc number) stage
+one_has : (func number k : ℕ) (stage : StagePlace) → slice_get (record { func = func; number = number } ∷ []) k ≡ Some stage
+    → IsStageOfFunc func (suc number) stage
 one_has func number zero stage found =
     let same : record { func = func; number = number } ≡ stage = cc in
     record { func_is = ap (λ (s : StagePlace). s.func) (sym same); below = subst (λ (s : StagePlace). s.number < suc number) same (omega arith) }
@@ -85,8 +88,10 @@ module _ (pipeline : Pipeline) (schedule : Schedule) (boxes : Boxes) where
     pub box_is : slice_get boxes.funcs stage.func ≡ Some (Some own)
     pub few : stage.number ≤ length func.updates
 
-  listed_where : (place k : ℕ) (stage : StagePlace) (standing : Standing) (func : Func) (own : Option SourceBox) (at : Place) → slice_get schedule.standings place ≡ Some standing
-      → slice_get pipeline.funcs place ≡ Some func → slice_get boxes.funcs place ≡ Some own → standing.place ≡ at → slice_get (stages_where at func own place) k ≡ Some stage → IsListed stage
+  listed_where : (place k : ℕ) (stage : StagePlace) (standing : Standing) (func : Func) (own : Option SourceBox) (at : Place)
+      → slice_get schedule.standings place ≡ Some standing
+      → slice_get pipeline.funcs place ≡ Some func → slice_get boxes.funcs place ≡ Some own → standing.place ≡ at → slice_get (stages_where at func own place) k
+      ≡ Some stage → IsListed stage
   listed_where place k stage standing func None places.Root s f b at found = absurd cc
   listed_where place k stage standing func (Some own) places.Root s f b at found =
       let told = to_has place (suc (length func.updates)) k stage found in
@@ -105,8 +110,10 @@ module _ (pipeline : Pipeline) (schedule : Schedule) (boxes : Boxes) where
   listed_where place k stage standing func own (places.At loop) s f b at found = absurd cc
   listed_where place k stage standing func own places.Nowhere s f b at found = absurd cc
 
-  listed_at : (place k : ℕ) (stage : StagePlace) (standing : Option Standing) (func : Option Func) (own : Option (Option SourceBox)) → slice_get schedule.standings place ≡ standing
-      → slice_get pipeline.funcs place ≡ func → slice_get boxes.funcs place ≡ own → slice_get (stages_at place standing func own) k ≡ Some stage → IsListed stage
+  listed_at : (place k : ℕ) (stage : StagePlace) (standing : Option Standing) (func : Option Func) (own : Option (Option SourceBox))
+      → slice_get schedule.standings place ≡ standing
+      → slice_get pipeline.funcs place ≡ func → slice_get boxes.funcs place ≡ own → slice_get (stages_at place standing func own) k ≡ Some stage
+      → IsListed stage
   listed_at place k stage None func own s f b found = absurd cc
   listed_at place k stage (Some standing) None own s f b found = absurd cc
   listed_at place k stage (Some standing) (Some func) None s f b found = absurd cc
@@ -114,10 +121,13 @@ module _ (pipeline : Pipeline) (schedule : Schedule) (boxes : Boxes) where
 
   listed_below : (count k : ℕ) (stage : StagePlace) → slice_get (stages_below pipeline schedule boxes count) k ≡ Some stage → IsListed stage
   listed_below zero k stage found = absurd cc
-  listed_below (suc place) k stage found = elim (either_has (stages_below pipeline schedule boxes place) (stages_at place (slice_get schedule.standings place) (slice_get pipeline.funcs place) (slice_get boxes.funcs place)) k stage found) [
-    | inl earlier ↦ listed_below place k stage earlier
-    | inr here ↦ listed_at place here.0 stage (slice_get schedule.standings place) (slice_get pipeline.funcs place) (slice_get boxes.funcs place) refl refl refl here.1
-  ]
+  listed_below (suc place) k stage found = elim (either_has (stages_below pipeline schedule boxes place) (stages_at place (slice_get schedule.standings place)
+      (slice_get pipeline.funcs place) (slice_get boxes.funcs place)) k stage found) [
+        | inl earlier ↦ listed_below place k stage earlier
+        | inr here ↦ listed_at place here.0 stage (slice_get schedule.standings place) (slice_get pipeline.funcs place) (slice_get boxes.funcs place) refl refl
+            refl
+            here.1
+      ]
 
   pub planned : IsAccepted pipeline schedule → inferred pipeline schedule ≡ Ok boxes → (stage : StagePlace) (listed : IsListed stage)
       → (plan : FuncPlan) × IsAtRoot pipeline schedule boxes stage.func listed.func plan listed.own
@@ -126,10 +136,19 @@ module _ (pipeline : Pipeline) (schedule : Schedule) (boxes : Boxes) where
       let plan = pair_there IsPlan pipeline.funcs schedule.funcs stage.func listed.func accepted.plans listed.func_is in
       let same : box.standing ≡ listed.standing = let p = box.there.standing in let q = listed.standing_is in cc in (
         plan.value,
-        record { func_is = listed.func_is; plan_is = plan.is; box_is = listed.box_is; standing = box.standing; there = box.there; placed_is = ap (λ (t : Standing). t.place) same ∙ listed.at_root },
+        record {
+          func_is = listed.func_is;
+          plan_is = plan.is;
+          box_is = listed.box_is;
+          standing = box.standing;
+          there = box.there;
+          placed_is =
+              ap (λ (t : Standing). t.place) same ∙ listed.at_root;
+        },
       )
 
-  module _ (rules : IsWellFormed pipeline) (accepted : IsAccepted pipeline schedule) (is : inferred pipeline schedule ≡ Ok boxes) (stage : StagePlace) (listed : IsListed stage)
+  module _ (rules : IsWellFormed pipeline) (accepted : IsAccepted pipeline schedule) (is : inferred pipeline schedule ≡ Ok boxes) (stage : StagePlace)
+      (listed : IsListed stage)
       (plan : FuncPlan) (at : IsAtRoot pipeline schedule boxes stage.func listed.func plan listed.own) where
     abbrev extents : Extents
     extents = extents_of listed.own
@@ -161,7 +180,8 @@ module _ (pipeline : Pipeline) (schedule : Schedule) (boxes : Boxes) where
         h : HasOwner (iteration_count extents plan.pure) (iteration extents plan.pure) x y
         h = slice_owner listed.func None extents plan.pure stage_facts.0 stage_facts.1 x y (slice_of x y lx ly)
 
-        none : owns extents plan.pure h.owner x y ≡ false → (number : ℕ) → number < iteration_count extents plan.pure → owns extents plan.pure number x y ≡ false
+        none : owns extents plan.pure h.owner x y ≡ false → (number : ℕ) → number < iteration_count extents plan.pure
+            → owns extents plan.pure number x y ≡ false
         none e number l = elim (cases_eq number h.owner) [
           | inl same ↦ ap (λ (n : ℕ). owns extents plan.pure n x y) same ∙ e
           | inr other ↦ none_kept (is_slice x y) (iteration extents plan.pure number) (h.no_other number l other)
@@ -188,7 +208,8 @@ module _ (pipeline : Pipeline) (schedule : Schedule) (boxes : Boxes) where
 
       first_slice : is_slice_of listed.func (Some update) reduced 0 0 ≡ true
       first_slice =
-          and_from (nat_lt 0 (extent_in listed.func (Some update) reduced variables.FirstArgument)) (nat_lt 0 (extent_in listed.func (Some update) reduced variables.SecondArgument))
+          and_from (nat_lt 0 (extent_in listed.func (Some update) reduced variables.FirstArgument)) (nat_lt 0 (extent_in listed.func (Some update) reduced
+          variables.SecondArgument))
           (some (has_variable variables.FirstArgument (first_loops listed.func (Some update))) (extent listed.own.x) wide)
           (some (has_variable variables.SecondArgument (first_loops listed.func (Some update))) (extent listed.own.y) high)
 
@@ -216,7 +237,8 @@ module _ (pipeline : Pipeline) (schedule : Schedule) (boxes : Boxes) where
 
     -- ---- how many iterations there are
 
-    are_of : (number : ℕ) → iterations_in pipeline schedule boxes (slice_get pipeline.funcs stage.func) (slice_get schedule.funcs stage.func) (slice_get boxes.funcs stage.func) number
+    are_of : (number : ℕ) → iterations_in pipeline schedule boxes (slice_get pipeline.funcs stage.func) (slice_get schedule.funcs stage.func)
+        (slice_get boxes.funcs stage.func) number
         ≡ iterations_of pipeline schedule boxes listed.func plan listed.own number
     are_of number = rw (listed.func_is, at.plan_is, listed.box_is) refl
 
@@ -224,21 +246,30 @@ module _ (pipeline : Pipeline) (schedule : Schedule) (boxes : Boxes) where
     counted zero e = let first = owned_by 0 0 wide high in omega (arith, first.below)
     counted (suc number) e =
         let update = some_at listed.func.updates number (omega (arith, e, listed.few)) in
-        let made = pair_there (IsUpdateStage listed.func) listed.func.updates plan.updates number update.value (pair_at IsPlan pipeline.funcs schedule.funcs stage.func listed.func plan accepted.plans listed.func_is at.plan_is).updates update.is in
-        let it : IsUpdateAt schedule stage.func listed.func plan number update.value made.value = record { plan_is = at.plan_is; update_is = update.is; stage_is = made.is } in
+        let made = pair_there (IsUpdateStage listed.func) listed.func.updates plan.updates number update.value (pair_at IsPlan pipeline.funcs schedule.funcs
+        stage.func listed.func plan accepted.plans listed.func_is at.plan_is).updates update.is in
+        let it : IsUpdateAt schedule stage.func listed.func plan number update.value made.value = record {
+          plan_is = at.plan_is;
+          update_is =
+              update.is;
+          stage_is = made.is;
+        } in
         rw (update.is, made.is) (some_iteration number update.value made.value it)
 
     pub some_iterations : 0 < iterations pipeline schedule boxes stage
     some_iterations = subst (λ (n : ℕ). 0 < n) (sym (are_of stage.number)) (counted stage.number refl)
 
-    pub pure_written : (inputs : Planes) → stage.number ≡ 0 → (x y : ℕ) → x < extent listed.own.x → y < extent listed.own.y → IsWritten pipeline schedule boxes inputs stage x y
+    pub pure_written : (inputs : Planes) → stage.number ≡ 0 → (x y : ℕ) → x < extent listed.own.x → y < extent listed.own.y
+        → IsWritten pipeline schedule boxes inputs stage x y
     pure_written inputs pure x y lx ly =
         let found = owned_by x y lx ly in
         record {
           iteration = found.owner;
-          is_iteration = subst (λ (n : ℕ). found.owner < n) (sym (are_of stage.number ∙ ap (iterations_of pipeline schedule boxes listed.func plan listed.own) pure)) found.below;
+          is_iteration = subst (λ (n : ℕ). found.owner < n) (sym (are_of stage.number ∙ ap (iterations_of pipeline schedule boxes listed.func plan listed.own)
+              pure)) found.below;
           writes_it =
-              ap (λ (n : ℕ). writes_in pipeline schedule boxes inputs stage.func (slice_get pipeline.funcs stage.func) (slice_get schedule.funcs stage.func) (slice_get boxes.funcs stage.func) n found.owner x y) pure
+              ap (λ (n : ℕ). writes_in pipeline schedule boxes inputs stage.func (slice_get pipeline.funcs stage.func) (slice_get schedule.funcs stage.func)
+              (slice_get boxes.funcs stage.func) n found.owner x y) pure
               ∙ rw (listed.func_is, at.plan_is, listed.box_is) found.owned;
         }
 
@@ -273,19 +304,24 @@ same_at place None func own e = refl
 same_at place (Some standing) None own e = refl
 same_at place (Some standing) (Some func) None e = nothing standing.place standing.is_reached e
   where
-    nothing : (at : Place) (reached : Bool) → false ≡ (reached && not (is_inlined at)) → [] ≡ cond (reached && is_root at) (stages_to place (suc (length func.updates))) []
+    nothing : (at : Place) (reached : Bool) → false ≡ (reached && not (is_inlined at))
+        → [] ≡ cond (reached && is_root at) (stages_to place (suc (length func.updates))) []
     nothing places.Root true e = absurd (true≢false (sym e))
     nothing places.Root false e = refl
     nothing other true e = refl
     nothing other false e = refl
 same_at place (Some standing) (Some func) (Some own) e = same_where standing.place standing.is_reached place func own e
 
-same_below : (pipeline : Pipeline) (schedule : Schedule) (boxes : Boxes) → ((place : ℕ) → is_some (box_in (slice_get boxes.funcs place)) ≡ is_computed_there (slice_get schedule.standings place))
+same_below : (pipeline : Pipeline) (schedule : Schedule) (boxes : Boxes)
+    → ((place : ℕ) → is_some (box_in (slice_get boxes.funcs place)) ≡ is_computed_there (slice_get schedule.standings place))
     → (count : ℕ) → stages_below pipeline schedule boxes count ≡ reached_below pipeline schedule count
 same_below pipeline schedule boxes are zero = refl
 same_below pipeline schedule boxes are (suc place) =
-    ap (λ (l : List StagePlace). l ++ stages_at place (slice_get schedule.standings place) (slice_get pipeline.funcs place) (slice_get boxes.funcs place)) (same_below pipeline schedule boxes are place)
-    ∙ ap (λ (l : List StagePlace). reached_below pipeline schedule place ++ l) (same_at place (slice_get schedule.standings place) (slice_get pipeline.funcs place) (slice_get boxes.funcs place) (are place))
+    ap (λ (l : List StagePlace). l ++ stages_at place (slice_get schedule.standings place) (slice_get pipeline.funcs place) (slice_get boxes.funcs place))
+    (same_below pipeline schedule boxes are place)
+    ∙ ap (λ (l : List StagePlace). reached_below pipeline schedule place ++ l) (same_at place (slice_get schedule.standings place) (slice_get pipeline.funcs
+    place) (slice_get boxes.funcs place) (are place))
 
 pub stages-are-reached : StagesAreReached
-stages-are-reached pipeline schedule boxes accepted is = same_below pipeline schedule boxes (boxes_are_of_reached_funcs pipeline schedule boxes accepted is) (length pipeline.funcs)
+stages-are-reached pipeline schedule boxes accepted is = same_below pipeline schedule boxes (boxes_are_of_reached_funcs pipeline schedule boxes accepted is)
+    (length pipeline.funcs)

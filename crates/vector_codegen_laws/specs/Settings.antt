@@ -38,7 +38,15 @@ module _ (pipeline : Pipeline) (schedule : Schedule) (boxes : List (Option Sourc
 
     -- where a hart does a task
     abbrev pub task_world : List ℕ → ℕ → ℕ → World
-    task_world text task hart = record { text = text; size = size; uses = uses; rule = λ task places. rule_of pipeline schedule boxes owners places; job = Task task; hart = hart }
+    task_world text task hart = record {
+      text = text;
+      size = size;
+      uses = uses;
+      rule = λ task places. rule_of pipeline schedule boxes owners places;
+      job =
+          Task task;
+      hart = hart;
+    }
 
     abbrev pub IsWritten : ℕ → ℕ → ℕ → ℕ → Type 0
     IsWritten task func x y = (RootPoint pipeline schedule boxes func x y × ((func ≡ owners.func) × (owners.owns task x y ≡ true)))

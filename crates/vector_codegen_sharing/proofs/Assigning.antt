@@ -1,5 +1,6 @@
 -- For every assignment of tasks to harts a list that does it.
-use Rattle.std.proofs.Common.{◌≡◌, ℕ, zero, suc, ◌+◌, ◌<◌, ◌≤◌, List, [], ◌∷◌, ◌++◌, length, set, Option, Some, true, refl, ap, ◌∙◌, sym, subst, arith, inl, inr}
+use Rattle.std.proofs.Common.{◌≡◌, ℕ, zero, suc, ◌+◌, ◌<◌, ◌≤◌, List, [], ◌∷◌, ◌++◌, length, set, Option, Some, true, refl, ap, ◌∙◌, sym, subst, arith, inl}
+use Rattle.std.proofs.Common.{inr}
 use Rattle.std.specs.Prelude.{◌⊎◌, slice_get}
 use Rattle.std.proofs.lemmas.Bool.{cases_eq}
 use Rattle.std.proofs.lemmas.Option.{slice_get_within}
@@ -24,7 +25,8 @@ abbrev all_drawing : List HartState → List Role
 all_drawing [] = []
 all_drawing (h ∷ hs) = Drawing ∷ all_drawing hs
 
-all-drawing-is : (rs : List Role) (hs : List HartState) → length rs ≡ length hs → ((k : ℕ) (r : Role) → slice_get rs k ≡ Some r → r ≡ Drawing) → rs ≡ all_drawing hs
+all-drawing-is : (rs : List Role) (hs : List HartState) → length rs ≡ length hs → ((k : ℕ) (r : Role) → slice_get rs k ≡ Some r → r ≡ Drawing)
+    → rs ≡ all_drawing hs
 all-drawing-is [] [] l f = refl
 all-drawing-is [] (h ∷ hs) l f = absurd (omega arith)
 all-drawing-is (r ∷ rs) [] l f = absurd (omega arith)
@@ -57,8 +59,18 @@ module _ (z p : Phase) (c : Code p) (td : TaskDone p) (behind-it : HasGate p ⊎
     left : (k : ℕ) (r : Role) → m ≤ k → slice_get roles k ≡ Some r → Early r
     skips : Skips p s turns
 
-  to-draws : (s : State) (roles : List Role) → Inv z p roles 0 s → ((k : ℕ) (r : Role) → slice_get roles k ≡ Some r → Early r) → (m : ℕ) → m ≤ p.harts → AtDraw m s
-  to-draws s roles v e zero l = record { turns = []; names = tt; roles = roles; inv = v; done = λ k r b y. absurd (omega (arith, b)); left = λ k r b y. e k r y; skips = λ u a o y. refl }
+  to-draws : (s : State) (roles : List Role) → Inv z p roles 0 s → ((k : ℕ) (r : Role) → slice_get roles k ≡ Some r → Early r) → (m : ℕ) → m ≤ p.harts
+      → AtDraw m s
+  to-draws s roles v e zero l = record {
+    turns = [];
+    names = tt;
+    roles = roles;
+    inv = v;
+    done = λ k r b y. absurd (omega (arith, b));
+    left =
+        λ k r b y. e k r y;
+    skips = λ u a o y. refl;
+  }
   to-draws s roles v e (suc m) l =
       let d = to-draws s roles v e m (omega (arith, l)) in
       let s1 = run s d.turns in
@@ -70,7 +82,11 @@ module _ (z p : Phase) (c : Code p) (td : TaskDone p) (behind-it : HasGate p ⊎
         roles = set d.roles m Drawing;
         inv = subst (Inv z p (set d.roles m Drawing) 0) (sym (run-append s d.turns g.turns)) g.inv;
         done = λ k r b y. elim (at-set d.roles m k f.0 Drawing r f.1 y) [ inl x ↦ x.1 | inr x ↦ d.done k r (let n = x.0 in omega (arith, n, b)) x.1 ];
-        left = λ k r b y. elim (at-set d.roles m k f.0 Drawing r f.1 y) [ inl x ↦ let n = x.0 in absurd (omega (arith, n, b)) | inr x ↦ d.left k r (omega (arith, b)) x.1 ];
+        left = λ k r b y. elim (at-set d.roles m k f.0 Drawing r f.1 y) [
+          | inl x ↦ let n = x.0 in absurd (omega (arith, n, b))
+          | inr x ↦ d.left k r
+              (omega (arith, b)) x.1
+        ];
         skips = skips-append p s d.turns g.turns d.skips g.skips;
       }
 
@@ -95,7 +111,8 @@ module _ (z p : Phase) (c : Code p) (td : TaskDone p) (behind-it : HasGate p ⊎
         record {
           turns = v.turns ++ g.turns;
           names = named v.turns g.turns (f t) (fl t lt) v.names g.only;
-          inv = subst (Inv z p (all_drawing hs) (suc t)) (sym (run-append s v.turns g.turns)) (subst (λ m. Inv z p (all_drawing hs) m (run s1 g.turns)) n (subst (λ r. Inv z p r (t + 1) (run s1 g.turns)) sg g.inv));
+          inv = subst (Inv z p (all_drawing hs) (suc t)) (sym (run-append s v.turns g.turns)) (subst (λ m. Inv z p (all_drawing hs) m (run s1 g.turns)) n
+              (subst (λ r. Inv z p r (t + 1) (run s1 g.turns)) sg g.inv));
           writers = λ u a o b y wr. last-append a o s v.turns g.turns ∙ elim (cases_eq t u) [
             | inl q ↦ g.mine a (last_writer a o s v.turns) (y ∙ ap (λ x. Owned x) (sym q)) (ap (λ x. p.writes x a) q ∙ wr) ∙ ap (λ x. Some (f x)) q
             | inr q ↦ g.other u a (last_writer a o s v.turns) y q ∙ v.writers u a o (omega (arith, b, q)) y wr
@@ -117,14 +134,28 @@ module _ (z p : Phase) (c : Code p) (td : TaskDone p) (behind-it : HasGate p ⊎
     abbrev leaving : (m : ℕ) (s : State) (d : AtGate m s) → m < p.harts → (r : Role) × (slice_get d.roles m ≡ Some r)
     leaving m s d l = there d.roles m (let a = d.inv.same in let b = d.inv.many in omega (arith, a, b, l))
 
-    exit : HasGate p → (m : ℕ) (s : State) (d : AtGate m s) (l : m < p.harts) → Exit z p c td behind-it m d.roles (leaving m s d l).0 (leaving m s d l).1 d.top (run s d.turns)
+    exit : HasGate p → (m : ℕ) (s : State) (d : AtGate m s) (l : m < p.harts) → Exit z p c td behind-it m d.roles (leaving m s d l).0 (leaving m s d l).1 d.top
+        (run s d.turns)
     exit hg m s d l =
         let e = leaving m s d l in
         let q = d.left m e.0 (omega arith) e.1 in
-        to-exit z p c td behind-it m d.roles e.0 e.1 hg d.top (run s d.turns) d.past (subst (λ r. Inv z p (set d.roles m r) d.top (run s d.turns)) q (as-is d.roles m e.0 d.top (run s d.turns) e.1 d.inv))
+        to-exit z p c td behind-it m d.roles e.0 e.1 hg d.top (run s d.turns) d.past (subst (λ r. Inv z p (set d.roles m r) d.top (run s d.turns)) q
+        (as-is d.roles m e.0 d.top (run s d.turns) e.1 d.inv))
 
-    to-gates : HasGate p → (s : State) (roles : List Role) (top : ℕ) → p.tasks ≤ top → Inv z p roles top s → ((k : ℕ) (r : Role) → slice_get roles k ≡ Some r → r ≡ Drawing) → (m : ℕ) → m ≤ p.harts → AtGate m s
-    to-gates hg s roles top lt v e zero l = record { turns = []; names = tt; roles = roles; top = top; inv = v; past = lt; done = λ k r b y. absurd (omega (arith, b)); left = λ k r b y. e k r y; skips = λ u a o y. refl }
+    to-gates : HasGate p → (s : State) (roles : List Role) (top : ℕ) → p.tasks ≤ top → Inv z p roles top s → ((k : ℕ) (r : Role) → slice_get roles k ≡ Some r
+        → r ≡ Drawing) → (m : ℕ) → m ≤ p.harts → AtGate m s
+    to-gates hg s roles top lt v e zero l = record {
+      turns = [];
+      names = tt;
+      roles = roles;
+      top = top;
+      inv = v;
+      past = lt;
+      done =
+          λ k r b y. absurd (omega (arith, b));
+      left = λ k r b y. e k r y;
+      skips = λ u a o y. refl;
+    }
     to-gates hg s roles top lt v e (suc m) l =
         let d = to-gates hg s roles top lt v e m (omega (arith, l)) in
         let b : m < p.harts = omega (arith, l) in
@@ -138,7 +169,11 @@ module _ (z p : Phase) (c : Code p) (td : TaskDone p) (behind-it : HasGate p ⊎
           inv = subst (Inv z p (set d.roles m Looking) (d.top + 1)) (sym (run-append s d.turns (m ∷ m ∷ m ∷ []))) g.inv;
           past = let q = d.past in omega (arith, q);
           done = λ k r b y. elim (at-set d.roles m k w.0 Looking r w.1 y) [ inl x ↦ x.1 | inr x ↦ d.done k r (let n = x.0 in omega (arith, n, b)) x.1 ];
-          left = λ k r b y. elim (at-set d.roles m k w.0 Looking r w.1 y) [ inl x ↦ let n = x.0 in absurd (omega (arith, n, b)) | inr x ↦ d.left k r (omega (arith, b)) x.1 ];
+          left = λ k r b y. elim (at-set d.roles m k w.0 Looking r w.1 y) [
+            | inl x ↦ let n = x.0 in absurd (omega (arith, n, b))
+            | inr x ↦ d.left k r
+                (omega (arith, b)) x.1
+          ];
           skips = skips-append p s d.turns (m ∷ m ∷ m ∷ []) d.skips g.skips;
         }
 
@@ -155,7 +190,8 @@ module _ (z p : Phase) (c : Code p) (td : TaskDone p) (behind-it : HasGate p ⊎
         let d = to-draws s roles v e p.harts (omega arith) in
         let s1 = run s d.turns in
         let lh : length s1.harts ≡ p.harts = d.inv.many in
-        let ad = all-drawing-is d.roles s1.harts d.inv.same (λ k r y. d.done k r (let a = slice_get_within d.roles k r y in let b = d.inv.same in omega (arith, a, b, lh)) y) in
+        let ad = all-drawing-is d.roles s1.harts d.inv.same (λ k r y. d.done k r (let a = slice_get_within d.roles k r y in let b = d.inv.same in
+        omega (arith, a, b, lh)) y) in
         let u = upto s1.harts lh s1 (subst (λ l. Inv z p l 0 s1) ad d.inv) p.tasks (omega arith) in
         record {
           turns = d.turns ++ u.turns;
@@ -181,7 +217,8 @@ module _ (z p : Phase) (c : Code p) (td : TaskDone p) (behind-it : HasGate p ⊎
     three [] m = refl
     three (x ∷ xs) m = ap (λ l. x ∷ l) (three xs m)
 
-    pub gone : HasGate p → (n : ℕ) (s : State) (roles : List Role) → p.harts ≡ suc n → Inv z p roles 0 s → ((k : ℕ) (r : Role) → slice_get roles k ≡ Some r → Early r) → Gone s
+    pub gone : HasGate p → (n : ℕ) (s : State) (roles : List Role) → p.harts ≡ suc n → Inv z p roles 0 s → ((k : ℕ) (r : Role) → slice_get roles k ≡ Some r
+        → Early r) → Gone s
     gone hg n s roles en v e =
         let u = all-done s roles v e in
         let s2 = run s u.turns in
@@ -203,12 +240,17 @@ module _ (z p : Phase) (c : Code p) (td : TaskDone p) (behind-it : HasGate p ⊎
           roles = set g.roles n Looking;
           top = g.top + 1;
           inv = subst (Inv z p (set g.roles n Looking) (g.top + 1)) (sym end) x.inv;
-          all_at = λ k r y. elim (at-set g.roles n k w.0 Looking r w.1 y) [ inl q ↦ q.1 | inr q ↦ g.done k r (let i = q.0 in let a = slice_get_within g.roles k r q.1 in let b1 = g.inv.same in let b2 = g.inv.many in omega (arith, i, a, b1, b2, en)) q.1 ];
+          all_at = λ k r y. elim (at-set g.roles n k w.0 Looking r w.1 y) [
+            | inl q ↦ q.1
+            | inr q ↦ g.done k r (let i = q.0 in let a = slice_get_within g.roles k
+                r q.1 in let b1 = g.inv.same in let b2 = g.inv.many in omega (arith, i, a, b1, b2, en)) q.1
+          ];
           still_open = subst (λ q. word_at p.text q.memory p.gate < p.harts) (sym mid) x.still_open;
           writers = λ t a o l y wr.
               let o2 = last_writer a o s u.turns in
               let e2 : last_writer a o s xs ≡ last_writer a o2 s2 g.turns = last-append a o s u.turns g.turns in
-              let e3 : last_writer a o s (xs ++ tail) ≡ last_writer a (last_writer a o2 s2 g.turns) s3 tail = last-append a o s xs tail ∙ ap (λ q. last_writer a q (run s xs) tail) e2 ∙ ap (λ q. last_writer a (last_writer a o2 s2 g.turns) q tail) to3 in
+              let e3 : last_writer a o s (xs ++ tail) ≡ last_writer a (last_writer a o2 s2 g.turns) s3 tail = last-append a o s xs tail
+              ∙ ap (λ q. last_writer a q (run s xs) tail) e2 ∙ ap (λ q. last_writer a (last_writer a o2 s2 g.turns) q tail) to3 in
               ap (last_writer a o s) (sym shape) ∙ e3 ∙ x.skips t a (last_writer a o2 s2 g.turns) y ∙ g.skips t a o2 y ∙ u.writers t a o l y wr;
         }
 
@@ -224,8 +266,20 @@ module _ (z p : Phase) (c : Code p) (td : TaskDone p) (behind-it : HasGate p ⊎
       left : (k : ℕ) (r : Role) → m ≤ k → slice_get roles k ≡ Some r → r ≡ Drawing
       skips : Skips p s turns
 
-    to-ends : HasEnd p → (s : State) (roles : List Role) (top : ℕ) → p.tasks ≤ top → Inv z p roles top s → ((k : ℕ) (r : Role) → slice_get roles k ≡ Some r → r ≡ Drawing) → (m : ℕ) → m ≤ p.harts → AtEnd m s
-    to-ends he s roles top lt v e zero l = record { turns = []; names = tt; roles = roles; top = top; inv = v; past = lt; done = λ k r b y. absurd (omega (arith, b)); left = λ k r b y. e k r y; skips = λ u a o y. refl }
+    to-ends : HasEnd p → (s : State) (roles : List Role) (top : ℕ) → p.tasks ≤ top → Inv z p roles top s → ((k : ℕ) (r : Role) → slice_get roles k ≡ Some r
+        → r ≡ Drawing) → (m : ℕ) → m ≤ p.harts → AtEnd m s
+    to-ends he s roles top lt v e zero l = record {
+      turns = [];
+      names = tt;
+      roles = roles;
+      top = top;
+      inv = v;
+      past = lt;
+      done =
+          λ k r b y. absurd (omega (arith, b));
+      left = λ k r b y. e k r y;
+      skips = λ u a o y. refl;
+    }
     to-ends he s roles top lt v e (suc m) l =
         let d = to-ends he s roles top lt v e m (omega (arith, l)) in
         let s1 = run s d.turns in
@@ -242,7 +296,11 @@ module _ (z p : Phase) (c : Code p) (td : TaskDone p) (behind-it : HasGate p ⊎
           inv = subst (Inv z p (set d.roles m Over) (d.top + 1)) (sym (run-append s d.turns g.turns)) g.inv;
           past = let a = d.past in omega (arith, a);
           done = λ k r b1 y. elim (at-set d.roles m k Drawing Over r er y) [ inl x ↦ x.1 | inr x ↦ d.done k r (let n = x.0 in omega (arith, n, b1)) x.1 ];
-          left = λ k r b1 y. elim (at-set d.roles m k Drawing Over r er y) [ inl x ↦ let n = x.0 in absurd (omega (arith, n, b1)) | inr x ↦ d.left k r (omega (arith, b1)) x.1 ];
+          left = λ k r b1 y. elim (at-set d.roles m k Drawing Over r er y) [
+            | inl x ↦ let n = x.0 in absurd (omega (arith, n, b1))
+            | inr x ↦ d.left k r
+                (omega (arith, b1)) x.1
+          ];
           skips = skips-append p s d.turns g.turns d.skips g.skips;
         }
 

@@ -1,5 +1,6 @@
 -- Assignments of all phases' tasks, phase after phase.
-use Rattle.std.proofs.Common.{◌≡◌, ℕ, zero, suc, ◌+◌, ◌<◌, ◌≤◌, List, [], ◌∷◌, ◌++◌, length, Option, Some, None, true, refl, ap, ◌∙◌, sym, subst, arith, inl, inr}
+use Rattle.std.proofs.Common.{◌≡◌, ℕ, zero, suc, ◌+◌, ◌<◌, ◌≤◌, List, [], ◌∷◌, ◌++◌, length, Option, Some, None, true, refl, ap, ◌∙◌, sym, subst, arith, inl}
+use Rattle.std.proofs.Common.{inr}
 use Rattle.std.specs.Prelude.{map, slice_get}
 use Rattle.std.proofs.lemmas.Bool.{cases_eq}
 use Rattle.memory.specs.Access.{word_at}
@@ -50,7 +51,8 @@ later p j n f s xs turns d = record {
   writers = λ t a o l e y. last-append a o s xs d.before ∙ d.writers t a (last_writer a o s xs) l e y;
 }
 
-module _ (ph : ℕ → Phase) (last : ℕ) (g : Program ph last) (tw : (c : ℕ) → c ≤ last → TaskWrites (ph c)) (f : ℕ → ℕ → ℕ) (fl : (c t : ℕ) → c ≤ last → t < (ph c).tasks → f c t < (ph c).harts) where
+module _ (ph : ℕ → Phase) (last : ℕ) (g : Program ph last) (tw : (c : ℕ) → c ≤ last → TaskWrites (ph c)) (f : ℕ → ℕ → ℕ) (fl : (c t : ℕ) → c ≤ last
+    → t < (ph c).tasks → f c t < (ph c).harts) where
   abbrev n : ℕ
   n = (ph 0).harts
 
@@ -59,16 +61,20 @@ module _ (ph : ℕ → Phase) (last : ℕ) (g : Program ph last) (tw : (c : ℕ)
     names : Name n turns
     over : AllOver (run s turns)
     each : (j : ℕ) → c ≤ j → j < last → DoneFrom (ph j) j n (f j) s turns
-    lastly : (t a : ℕ) (o : Option ℕ) → t < (ph last).tasks → (ph last).uses a ≡ Owned t → (ph last).writes t a ≡ true → last_writer a o s turns ≡ Some (f last t)
+    lastly : (t a : ℕ) (o : Option ℕ) → t < (ph last).tasks → (ph last).uses a ≡ Owned t → (ph last).writes t a ≡ true
+        → last_writer a o s turns ≡ Some (f last t)
 
-  full-roles : (z p : Phase) (roles : List Role) (top : ℕ) (s : State) → Inv z p roles top s → ((k : ℕ) (r : Role) → slice_get roles k ≡ Some r → r ≡ Looking) → total has_added roles ≡ p.harts
+  full-roles : (z p : Phase) (roles : List Role) (top : ℕ) (s : State) → Inv z p roles top s → ((k : ℕ) (r : Role) → slice_get roles k ≡ Some r → r ≡ Looking)
+      → total has_added roles ≡ p.harts
   full-roles z p roles top s v e = ones-total roles (λ k r y. ap has_added (e k r y)) ∙ v.same ∙ v.many
 
   -- a phase that is done, in front of further turns
-  this : (c : ℕ) (lc : c ≤ last) (s : State) (d : Gone (prior ph c) (ph c) (g.code c lc) (g.tasks c lc) (behind ph last g c lc) (tw c lc) (f c) (λ t. fl c t lc) s) (more : List ℕ) → DoneFrom (ph c) c n (f c) s ((d.init ++ d.final ∷ []) ++ more)
+  this : (c : ℕ) (lc : c ≤ last) (s : State) (d : Gone (prior ph c) (ph c) (g.code c lc) (g.tasks c lc) (behind ph last g c lc) (tw c lc) (f c) (λ t. fl c t lc)
+      s) (more : List ℕ) → DoneFrom (ph c) c n (f c) s ((d.init ++ d.final ∷ []) ++ more)
   this c lc s d more =
       let p = ph c in
-      let word : (q : State) → q.text ≡ p.text → gate_at q c ≡ word_at p.text q.memory p.gate = λ q t. ap (λ x. word_at x q.memory (gate_word c)) t ∙ ap (word_at p.text q.memory) (sym (gate-is ph last g c lc)) in
+      let word : (q : State) → q.text ≡ p.text → gate_at q c ≡ word_at p.text q.memory p.gate = λ q t. ap (λ x. word_at x q.memory (gate_word c)) t
+      ∙ ap (word_at p.text q.memory) (sym (gate-is ph last g c lc)) in
       let end = run s (d.init ++ d.final ∷ []) in
       let mid = run s d.init in
       let mt : mid.text ≡ p.text = (shape-run s d.init).text ∙ sym (shape-run s (d.init ++ d.final ∷ [])).text ∙ d.inv.text in
@@ -92,7 +98,8 @@ module _ (ph : ℕ → Phase) (last : ℕ) (g : Program ph last) (tw : (c : ℕ)
       go zero l = absurd (omega (arith, l))
       go (suc m) l = (m, refl)
 
-  whole : (d c : ℕ) (s : State) (roles : List Role) → c + d ≡ last → Inv (prior ph c) (ph c) roles 0 s → ((k : ℕ) (r : Role) → slice_get roles k ≡ Some r → Early r) → Whole c s
+  whole : (d c : ℕ) (s : State) (roles : List Role) → c + d ≡ last → Inv (prior ph c) (ph c) roles 0 s → ((k : ℕ) (r : Role) → slice_get roles k ≡ Some r
+      → Early r) → Whole c s
   whole zero c s roles e v early =
       let lc : c ≤ last = omega (arith, e) in
       let q : last ≡ c = omega (arith, e) in
@@ -123,7 +130,8 @@ module _ (ph : ℕ → Phase) (last : ℕ) (g : Program ph last) (tw : (c : ℕ)
       let s1 = run s xs in
       let full : p.harts ≤ total has_added x.roles = let a = full-roles z p x.roles x.top s1 x.inv x.all_at in omega (arith, a) in
       let v1 = passed z p (ph (suc c)) s1 x.roles x.top x.inv full (g.some c lc) follows in
-      let y = whole d (suc c) s1 (map come x.roles) (omega (arith, e)) v1 (λ k r er. let w = come-role x.roles k r er in subst Early (sym come-looking ∙ ap come (sym (x.all_at k w.0 w.1)) ∙ w.2) tt) in
+      let y = whole d (suc c) s1 (map come x.roles) (omega (arith, e)) v1 (λ k r er. let w = come-role x.roles k r er in subst Early (sym come-looking
+      ∙ ap come (sym (x.all_at k w.0 w.1)) ∙ w.2) tt) in
       record {
         turns = xs ++ y.turns;
         names = within-append (λ t. t < n) xs y.turns (subst (λ m. Name m xs) (same-harts ph last g c lc) x.names) y.names;
@@ -168,7 +176,8 @@ every-assignment ph last entry memory f g o tw fl =
             first = λ some turning others e.
                 let q = prefix d.init d.final some turning others (sym d.shape ∙ e) in
                 let a = grows-run ph last g q.0 (run begin some) (all ph last g begin some i0) k lk1 in
-                let b : gate_at (run (run begin some) q.0) k ≡ gate_at (run begin d.init) k = ap (λ s. gate_at s k) (sym (run-append begin some q.0) ∙ ap (run begin) (sym q.1)) in
+                let b : gate_at (run (run begin some) q.0) k ≡ gate_at (run begin d.init) k = ap (λ s. gate_at s k) (sym (run-append begin some q.0)
+                ∙ ap (run begin) (sym q.1)) in
                 let x = d.still_open in
                 omega (arith, a, b, x, many);
             writers = λ t a l u y. d.writers t a None l u y;

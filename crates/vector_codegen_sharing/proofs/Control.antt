@@ -1,6 +1,7 @@
 -- The turns outside tasks.
 use Rattle.multi_hart_logic.specs.Alone.{Covers, Says}
-use Rattle.std.proofs.Common.{◌≡◌, ℕ, suc, ◌+◌, ◌%◌, ◌^◌, ◌<◌, ◌≤◌, List, [], ◌∷◌, length, set, Option, Some, None, true, false, refl, ap, ◌∙◌, sym, subst, arith, inl, inr, length-set, get_or-set_other}
+use Rattle.std.proofs.Common.{◌≡◌, ℕ, suc, ◌+◌, ◌%◌, ◌^◌, ◌<◌, ◌≤◌, List, [], ◌∷◌, length, set, Option, Some, None, true, false, refl, ap, ◌∙◌, sym, subst}
+use Rattle.std.proofs.Common.{arith, inl, inr, length-set, get_or-set_other}
 use Rattle.std.specs.Prelude.{◌≢◌, ◌⊎◌, ◌==◌, not, if◌then◌else◌, slice_get, slice_index, nat_lt, cond, pos}
 use Rattle.std.proofs.lemmas.Bool.{cases_eq, cases_lt}
 use Rattle.std.proofs.lemmas.Bool.Decides.{nat_tests}
@@ -29,7 +30,8 @@ use Rattle.vector_codegen_sharing.specs.Phases.{Phase, Kept, Stands, IsControl, 
 use Rattle.vector_codegen_sharing.specs.Solo.{Begins, TaskDone, TaskWrites}
 use Rattle.vector_codegen_sharing.specs.Programs.{Link}
 use Rattle.vector_codegen_sharing.specs.Turns.{written_next, written_by_one}
-use Rattle.vector_codegen_sharing.proofs.Roles.{Role, Before, Asked, Drawing, Drew, Inside, Adding, Looking, Looked, Leaving, Over, Has, is_past, has_added, total, Holds, Inv, Becomes, Turned}
+use Rattle.vector_codegen_sharing.proofs.Roles.{Role, Before, Asked, Drawing, Drew, Inside, Adding, Looking, Looked, Leaving, Over, Has, is_past, has_added}
+use Rattle.vector_codegen_sharing.proofs.Roles.{total, Holds, Inv, Becomes, Turned}
 use Rattle.vector_codegen_sharing.proofs.Keeping.{Move, next, slice_get-set_same, total-set}
 use Rattle.vector_codegen_sharing.proofs.Turning.{effect-does, next-by, next-does, turn-is, total-same, inside-turn}
 
@@ -42,7 +44,8 @@ load-ok w n a e l h = grind (arith, nat_tests)
 abbrev pub wrap : ℕ → ℕ
 wrap n = n % 2 ^ 32
 
-pub kept-set : (p : Phase) (k : ℕ) (xs : List ℕ) (vs : List (List ℕ)) (r v : ℕ) → 10 ≢ r → 11 ≢ r → 13 ≢ r → 14 ≢ r → 15 ≢ r → 16 ≢ r → Kept p k xs vs → Kept p k (set xs r v) vs
+pub kept-set : (p : Phase) (k : ℕ) (xs : List ℕ) (vs : List (List ℕ)) (r v : ℕ) → 10 ≢ r → 11 ≢ r → 13 ≢ r → 14 ≢ r → 15 ≢ r → 16 ≢ r → Kept p k xs vs
+    → Kept p k (set xs r v) vs
 kept-set p k xs vs r v a b c d e f o = record {
   size = length-set xs r v ∙ o.size;
   vector_count = o.vector_count;
@@ -113,9 +116,11 @@ past-drew-in n v h = grind (arith, nat_tests)
 past-drew-out : (n v : ℕ) → n ≤ v → is_past n (Drew v) ≡ 1
 past-drew-out n v h = grind (arith, nat_tests)
 
-module _ (z p : Phase) (c : Code p) (roles : List Role) (top : ℕ) (s : State) (k : ℕ) (h : HartState) (v : Inv z p roles top s) (eh : slice_get s.harts k ≡ Some h) where
+module _ (z p : Phase) (c : Code p) (roles : List Role) (top : ℕ) (s : State) (k : ℕ) (h : HartState) (v : Inv z p roles top s) (eh : slice_get s.harts k
+    ≡ Some h) where
   top-small : top + 1 < 2 ^ 32
-  top-small = let a = total-most (is_past p.tasks) (past-most p.tasks) roles in let b = v.bound in let d = c.few in let e = v.same in let f = v.many in omega (arith, a, b, d, e, f)
+  top-small = let a = total-most (is_past p.tasks) (past-most p.tasks) roles in let b = v.bound in let d = c.few in let e = v.same in let f = v.many in
+      omega (arith, a, b, d, e, f)
 
   shut-small : total has_added roles + 1 < 2 ^ 32
   shut-small = let a = total-most has_added added-most roles in let d = c.few in let e = v.same in let f = v.many in omega (arith, a, d, e, f)
@@ -129,7 +134,9 @@ module _ (z p : Phase) (c : Code p) (roles : List Role) (top : ℕ) (s : State) 
     st = v.holds k Drawing h er eh
 
     draw-next : next_of p.text p.size h ≡ Does (AmoaddW 12 13 15 false false)
-    draw-next = next-does p k h p.draw_code (AmoaddW 12 13 15 false false) st c.draw (ap (λ a. or_else (first_fault (length p.text) p.size Updates (one_access Word a)) None) st.kept.ticket ∙ amo-ok (length p.text) p.size p.ticket c.tickets.aligned c.tickets.above c.tickets.below)
+    draw-next = next-does p k h p.draw_code (AmoaddW 12 13 15 false false) st c.draw
+        (ap (λ a. or_else (first_fault (length p.text) p.size Updates (one_access Word a)) None) st.kept.ticket
+        ∙ amo-ok (length p.text) p.size p.ticket c.tickets.aligned c.tickets.above c.tickets.below)
 
     draw-effect : effect p.text s.memory h ≡ amo-effect h 12 top p.ticket 1
     draw-effect =
@@ -174,12 +181,15 @@ module _ (z p : Phase) (c : Code p) (roles : List Role) (top : ℕ) (s : State) 
           get_or-set_same h.registers 12 top 0 (let q = st.kept.size in omega (arith, q)),
           (
             omega arith,
-            λ a e. byte-put p.text s.memory de.places de.bytes a (not-control a de.places e (c.tickets.first, (c.tickets.second, (c.tickets.third, (c.tickets.fourth, tt))))) ∙ v.waiting a top e (omega arith),
+            λ a e. byte-put p.text s.memory de.places de.bytes a (not-control a de.places e
+                (c.tickets.first, (c.tickets.second, (c.tickets.third, (c.tickets.fourth, tt))))) ∙ v.waiting a top e (omega arith),
           ),
         ),
       );
-      tickets = ap (λ n. word_at p.text (put_number s.memory Word p.ticket n) p.ticket) (wrap-fits (top + 1) top-small) ∙ word-put p.text s.memory p.ticket (top + 1) c.tickets.above (in-size p.ticket c.tickets) top-small;
-      gates = word-other p.text s.memory p.ticket (wrap (top + 1)) p.gate (inr (let q = c.two_words in omega (arith, q))) ∙ v.gates ∙ sym (total-same has_added roles k Drawing (Drew top) er refl);
+      tickets = ap (λ n. word_at p.text (put_number s.memory Word p.ticket n) p.ticket) (wrap-fits (top + 1) top-small)
+          ∙ word-put p.text s.memory p.ticket (top + 1) c.tickets.above (in-size p.ticket c.tickets) top-small;
+      gates = word-other p.text s.memory p.ticket (wrap (top + 1)) p.gate (inr (let q = c.two_words in omega (arith, q))) ∙ v.gates
+          ∙ sym (total-same has_added roles k Drawing (Drew top) er refl);
       bound = more-past;
       new = λ t e. inr (omega (arith, e));
       drawn = λ t a b. omega (arith, a, b);
@@ -191,10 +201,20 @@ module _ (z p : Phase) (c : Code p) (roles : List Role) (top : ℕ) (s : State) 
         not-control a (q ∷ ps) e w = ((λ d. let x : Control ≡ Owned top = sym w.0 ∙ ap p.uses (sym d) ∙ e in cc x), not-control a ps e w.1)
 
     pub draw-turn : Turned z p roles top k Drawing (turn s k)
-    draw-turn = record { role = Drew top; top = top + 1; becomes = (refl, refl); inv = subst (Inv z p _ (top + 1)) (sym (turn-is p s k h de v.text eh draw-effect)) (next z p c.two_words roles top s k Drawing h v er eh (Drew top) (top + 1) de.hart de.places de.bytes draw-move) }
+    draw-turn = record {
+      role = Drew top;
+      top = top + 1;
+      becomes = (refl, refl);
+      inv = subst (Inv z p _ (top + 1))
+          (sym (turn-is p s k h de v.text eh draw-effect)) (next z p c.two_words roles top s k Drawing h v er eh (Drew top) (top + 1) de.hart de.places de.bytes
+          draw-move);
+    }
 
   -- a turn that writes nothing, and neither draws nor adds
-  abbrev still : (r r1 : Role) (h1 : HartState) (o : Outcome) → slice_get roles k ≡ Some r → has_added r ≡ has_added r1 → is_past p.tasks r ≡ is_past p.tasks r1 → Holds z p top (total has_added roles) s.memory k h1 r1 → ((t : ℕ) → Has r1 t → Has r t) → ((t : ℕ) → t < p.tasks → Has r t → Has r1 t) → effect p.text s.memory h ≡ record { hart = h1; places = []; bytes = []; outcome = o } → Becomes p top (total has_added roles) r r1 top → Turned z p roles top k r (turn s k)
+  abbrev still : (r r1 : Role) (h1 : HartState) (o : Outcome) → slice_get roles k ≡ Some r → has_added r ≡ has_added r1 → is_past p.tasks r ≡ is_past p.tasks r1
+      → Holds z p top (total has_added roles) s.memory k h1 r1 → ((t : ℕ) → Has r1 t → Has r t) → ((t : ℕ) → t < p.tasks → Has r t → Has r1 t)
+      → effect p.text s.memory h ≡ record { hart = h1; places = []; bytes = []; outcome = o } → Becomes p top (total has_added roles) r r1 top
+      → Turned z p roles top k r (turn s k)
   still r r1 h1 o er ea ep hold new old ef bec =
       let same = total-same has_added roles k r r1 er ea in
       let past = total-same (is_past p.tasks) roles k r r1 er ep in
@@ -211,7 +231,18 @@ module _ (z p : Phase) (c : Code p) (roles : List Role) (top : ℕ) (s : State) 
         drawn = λ t a b. absurd (omega (arith, a, b));
         old = λ t l e. inl (old t l e);
       } in
-      record { role = r1; top = top; becomes = bec; inv = subst (Inv z p _ top) (sym (turn-is p s k h (record { hart = h1; places = []; bytes = []; outcome = o }) v.text eh ef)) (next z p c.two_words roles top s k r h v er eh r1 top h1 [] [] move) }
+      record {
+        role = r1;
+        top = top;
+        becomes = bec;
+        inv = subst (Inv z p _ top) (sym (turn-is p s k h (record {
+          hart = h1;
+          places = [];
+          bytes = [];
+          outcome =
+              o;
+        }) v.text eh ef)) (next z p c.two_words roles top s k r h v er eh r1 top h1 [] [] move);
+      }
 
   -- the test of what was drawn
   module _ (drew : ℕ) (er : slice_get roles k ≡ Some (Drew drew)) (task-done : TaskDone p) (behind : HasGate p ⊎ HasEnd p) where
@@ -228,7 +259,8 @@ module _ (z p : Phase) (c : Code p) (roles : List Role) (top : ℕ) (s : State) 
         ∙ ap (λ n. cond (not (nat_lt drew p.tasks)) (Some (offset_from n c.out)) None) th.0.pc
         ∙ ap (λ n. cond (not (nat_lt drew p.tasks)) (Some n) None) c.out_is
 
-    test-effect : (o : Option ℕ) → jump_of test h ≡ o → or_else (jump_fault o) None ≡ None → effect p.text s.memory h ≡ record { hart = jumped h o; places = []; bytes = []; outcome = Stepped }
+    test-effect : (o : Option ℕ) → jump_of test h ≡ o → or_else (jump_fault o) None ≡ None
+        → effect p.text s.memory h ≡ record { hart = jumped h o; places = []; bytes = []; outcome = Stepped }
     test-effect o e f =
         effect-does p s.memory h (Does test) v.size (next-does p k h (p.draw_code + 4) test th.0 c.test (ap (λ q. or_else (jump_fault q) None) e ∙ f))
         ∙ ap (λ q. record { hart = jumped h q; places = []; bytes = []; outcome = Stepped }) e
@@ -250,7 +282,16 @@ module _ (z p : Phase) (c : Code p) (roles : List Role) (top : ℕ) (s : State) 
     in-range = let q = slice_get_within s.harts k h eh in let n = v.many in omega (arith, q, n)
 
     begins : drew < p.tasks → Begins p drew k (advanced h) s.memory
-    begins lt = record { task_is = lt; number_is = in-range; stands = stands-in; drawn = th.1.0; size = v.size; bytes = v.bytes; given = λ a g. was-given (p.uses a) a refl g }
+    begins lt = record {
+      task_is = lt;
+      number_is = in-range;
+      stands = stands-in;
+      drawn = th.1.0;
+      size = v.size;
+      bytes = v.bytes;
+      given =
+          λ a g. was-given (p.uses a) a refl g;
+    }
 
     abbrev test-in : drew < p.tasks → Turned z p roles top k (Drew drew) (turn s k)
     test-in lt =
@@ -260,19 +301,23 @@ module _ (z p : Phase) (c : Code p) (roles : List Role) (top : ℕ) (s : State) 
         (record { drawn = (lt, th.1.1.0); size = v.size; agree = λ a e. refl; soon = solo })
         (λ t e. e) (λ t l e. e) (test-effect None (jump-is ∙ ap (λ b. cond b (Some p.door) None) no) refl) (refl, inl (lt, (s.memory, refl)))
 
-    pub entered : (tw : TaskWrites p) (lt : drew < p.tasks) → Inv z p (set roles k (Inside (Task drew) (p.turns (Task drew)) s.memory)) top (turn s k) × (slice_get (turn s k).harts k ≡ Some (advanced h)) × ((a : ℕ) → p.uses a ≡ Owned drew → p.writes drew a ≡ true → Covers p.text p.size (suc (p.turns (Task drew))) (advanced h) s.memory a)
+    pub entered : (tw : TaskWrites p) (lt : drew < p.tasks) → Inv z p (set roles k (Inside (Task drew) (p.turns (Task drew)) s.memory)) top (turn s k)
+        × (slice_get (turn s k).harts k ≡ Some (advanced h)) × ((a : ℕ) → p.uses a ≡ Owned drew → p.writes drew a ≡ true
+        → Covers p.text p.size (suc (p.turns (Task drew))) (advanced h) s.memory a)
     entered tw lt =
         let no = is-below drew p.tasks lt in
         let ef = test-effect None (jump-is ∙ ap (λ b. cond b (Some p.door) None) no) refl in (
           (test-in lt).inv,
-          ap (λ x. slice_get x.harts k) (turn-is p s k h (record { hart = advanced h; places = []; bytes = []; outcome = Stepped }) v.text eh ef) ∙ slice_get-set_same s.harts k h (advanced h) eh,
+          ap (λ x. slice_get x.harts k) (turn-is p s k h (record { hart = advanced h; places = []; bytes = []; outcome = Stepped }) v.text eh ef)
+              ∙ slice_get-set_same s.harts k h (advanced h) eh,
           tw drew k (advanced h) s.memory (begins lt),
         )
 
     out-effect : p.tasks ≤ drew → effect p.text s.memory h ≡ record { hart = at_pc h p.door; places = []; bytes = []; outcome = Stepped }
     out-effect le =
         let yes = not-below drew p.tasks le in
-        test-effect (Some p.door) (jump-is ∙ ap (λ b. cond b (Some p.door) None) yes) (ap (λ n. or_else (if n == 0 then None else Some MisalignedTarget) None) c.aligned)
+        test-effect (Some p.door) (jump-is ∙ ap (λ b. cond b (Some p.door) None) yes) (ap (λ n. or_else (if n == 0 then None else Some MisalignedTarget) None)
+        c.aligned)
 
     at-door : p.tasks ≤ drew → Stands p k (at_pc h p.door) p.door × (p.tasks < top)
     at-door le = (record { running = th.0.running; pc = refl; kept = th.0.kept }, let q = th.1.1.0 in omega (arith, q, le))
@@ -304,7 +349,9 @@ module _ (z p : Phase) (c : Code p) (roles : List Role) (top : ℕ) (s : State) 
     ga = ah.1.1
 
     add-next : next_of p.text p.size h ≡ Does (AmoaddW 0 14 15 false false)
-    add-next = next-does p k h p.door (AmoaddW 0 14 15 false false) ah.0 ga.add (ap (λ a. or_else (first_fault (length p.text) p.size Updates (one_access Word a)) None) ah.0.kept.gate ∙ amo-ok (length p.text) p.size p.gate c.gates.aligned c.gates.above c.gates.below)
+    add-next = next-does p k h p.door (AmoaddW 0 14 15 false false) ah.0 ga.add
+        (ap (λ a. or_else (first_fault (length p.text) p.size Updates (one_access Word a)) None) ah.0.kept.gate
+        ∙ amo-ok (length p.text) p.size p.gate c.gates.aligned c.gates.above c.gates.below)
 
     -- what it writes is the gate word
     pub add-writes : written_next s k ≡ touched (one_access Word p.gate)
@@ -351,7 +398,8 @@ module _ (z p : Phase) (c : Code p) (roles : List Role) (top : ℕ) (s : State) 
             ah.1,
           );
           tickets = word-other p.text s.memory p.gate (wrap (shut + 1)) p.ticket (inl (let q = c.two_words in omega (arith, q))) ∙ v.tickets;
-          gates = ap (λ n. word_at p.text (put_number s.memory Word p.gate n) p.gate) (wrap-fits (shut + 1) shut-small) ∙ word-put p.text s.memory p.gate (shut + 1) c.gates.above (in-size p.gate c.gates) shut-small ∙ now;
+          gates = ap (λ n. word_at p.text (put_number s.memory Word p.gate n) p.gate) (wrap-fits (shut + 1) shut-small)
+              ∙ word-put p.text s.memory p.gate (shut + 1) c.gates.above (in-size p.gate c.gates) shut-small ∙ now;
           bound = let q = v.bound in omega (arith, q, past);
           new = λ t e. absurd e;
           drawn = λ t a b. absurd (omega (arith, a, b));
@@ -359,7 +407,13 @@ module _ (z p : Phase) (c : Code p) (roles : List Role) (top : ℕ) (s : State) 
         }
 
     pub add-turn : Turned z p roles top k Adding (turn s k)
-    add-turn = record { role = Looking; top = top; becomes = (refl, refl); inv = subst (Inv z p _ top) (sym (turn-is p s k h ae v.text eh add-effect)) (next z p c.two_words roles top s k Adding h v er eh Looking top ae.hart ae.places ae.bytes add-move) }
+    add-turn = record {
+      role = Looking;
+      top = top;
+      becomes = (refl, refl);
+      inv = subst (Inv z p _ top) (sym (turn-is p s k h ae v.text eh add-effect))
+          (next z p c.two_words roles top s k Adding h v er eh Looking top ae.hart ae.places ae.bytes add-move);
+    }
 
   -- the gate's load
   module _ (er : slice_get roles k ≡ Some Looking) where
@@ -374,7 +428,9 @@ module _ (z p : Phase) (c : Code p) (roles : List Role) (top : ℕ) (s : State) 
 
     look-effect : effect p.text s.memory h ≡ looked (total has_added roles)
     look-effect =
-        effect-does p s.memory h (Does (Load Lw 17 14 (pos 0))) v.size (next-does p k h (p.door + 4) (Load Lw 17 14 (pos 0)) lh.0 lh.1.1.look (ap (λ a. or_else (first_fault (length p.text) p.size Reads (one_access Word a)) None) look-at ∙ load-ok (length p.text) p.size p.gate c.gates.aligned c.gates.above c.gates.below))
+        effect-does p s.memory h (Does (Load Lw 17 14 (pos 0))) v.size (next-does p k h (p.door + 4) (Load Lw 17 14 (pos 0)) lh.0 lh.1.1.look
+        (ap (λ a. or_else (first_fault (length p.text) p.size Reads (one_access Word a)) None) look-at
+        ∙ load-ok (length p.text) p.size p.gate c.gates.aligned c.gates.above c.gates.below))
         ∙ ap (λ a. looked (word_at p.text s.memory a)) look-at ∙ ap looked v.gates
 
     pub look-turn : Turned z p roles top k Looking (turn s k)
@@ -382,7 +438,8 @@ module _ (z p : Phase) (c : Code p) (roles : List Role) (top : ℕ) (s : State) 
       record {
         running = lh.0.running;
         pc = ap (λ a. wrap (a + 4)) lh.0.pc ∙ wrap-to (p.door + 4 + 4) (p.door + 8) (omega arith) (let q = lh.1.1.gate_fits in omega (arith, q));
-        kept = kept-set p k h.registers h.vectors 17 (total has_added roles) (omega arith) (omega arith) (omega arith) (omega arith) (omega arith) (omega arith) lh.0.kept;
+        kept = kept-set p k h.registers h.vectors 17 (total has_added roles) (omega arith) (omega arith) (omega arith) (omega arith) (omega arith) (omega arith)
+            lh.0.kept;
       },
       (get_or-set_same h.registers 17 (total has_added roles) 0 (let q = lh.0.kept.size in omega (arith, q)), (omega arith, lh.1)),
     )
@@ -406,7 +463,8 @@ module _ (z p : Phase) (c : Code p) (roles : List Role) (top : ℕ) (s : State) 
         ∙ ap (λ n. cond (not (g == p.harts)) (Some (offset_from n gb.back)) None) bh.0.pc
         ∙ ap (λ n. cond (not (g == p.harts)) (Some n) None) gb.back_is
 
-    again-effect : (o : Option ℕ) → jump_of again h ≡ o → or_else (jump_fault o) None ≡ None → effect p.text s.memory h ≡ record { hart = jumped h o; places = []; bytes = []; outcome = Stepped }
+    again-effect : (o : Option ℕ) → jump_of again h ≡ o → or_else (jump_fault o) None ≡ None
+        → effect p.text s.memory h ≡ record { hart = jumped h o; places = []; bytes = []; outcome = Stepped }
     again-effect o e f =
         effect-does p s.memory h (Does again) v.size (next-does p k h (p.door + 8) again bh.0 gb.again (ap (λ q. or_else (jump_fault q) None) e ∙ f))
         ∙ ap (λ q. record { hart = jumped h q; places = []; bytes = []; outcome = Stepped }) e
@@ -417,7 +475,8 @@ module _ (z p : Phase) (c : Code p) (roles : List Role) (top : ℕ) (s : State) 
         let al : (p.door + 4) % 4 ≡ 0 = let q = c.aligned in omega (arith, q) in
         still (Looked g) Looking (at_pc h (p.door + 4)) Stepped er refl refl
         (record { running = bh.0.running; pc = refl; kept = bh.0.kept }, (bh.1.1.1.0, gb))
-        (λ t x. x) (λ t l x. x) (again-effect (Some (p.door + 4)) (back-is ∙ ap (λ b. cond b (Some (p.door + 4)) None) no) (ap (λ n. or_else (if n == 0 then None else Some MisalignedTarget) None) al)) (refl, refl)
+        (λ t x. x) (λ t l x. x) (again-effect (Some (p.door + 4)) (back-is ∙ ap (λ b. cond b (Some (p.door + 4)) None) no)
+        (ap (λ n. or_else (if n == 0 then None else Some MisalignedTarget) None) al)) (refl, refl)
 
     pub again-turn : Turned z p roles top k (Looked g) (turn s k)
     again-turn = once-more (λ e. let q = bh.1.1.0 in omega (arith, q, e, so))
@@ -455,7 +514,10 @@ module _ (z p : Phase) (c : Code p) (roles : List Role) (top : ℕ) (s : State) 
 
     before-effect : effect p.text s.memory h ≡ asked p.harts
     before-effect =
-        effect-does p s.memory h (Does (Load Lw 17 14 (pos 0))) v.size (next-by p h (z.door + 4) (Load Lw 17 14 (pos 0)) fh.1.running fh.1.pc (subst (λ t. Says t (z.door + 4) (Load Lw 17 14 (pos 0))) y.text y.waits.look) (ap (λ a. or_else (first_fault (length p.text) p.size Reads (one_access Word a)) None) before-at ∙ load-ok (length p.text) p.size z.gate y.gate.aligned y.gate.above y.gate.below))
+        effect-does p s.memory h (Does (Load Lw 17 14 (pos 0))) v.size (next-by p h (z.door + 4) (Load Lw 17 14 (pos 0)) fh.1.running fh.1.pc
+        (subst (λ t. Says t (z.door + 4) (Load Lw 17 14 (pos 0))) y.text y.waits.look)
+        (ap (λ a. or_else (first_fault (length p.text) p.size Reads (one_access Word a)) None) before-at
+        ∙ load-ok (length p.text) p.size z.gate y.gate.aligned y.gate.above y.gate.below))
         ∙ ap (λ a. asked (word_at p.text s.memory a)) before-at ∙ ap asked (v.came y)
 
     pub before-turn : Turned z p roles top k Before (turn s k)
@@ -489,9 +551,11 @@ module _ (z p : Phase) (c : Code p) (roles : List Role) (top : ℕ) (s : State) 
         ∙ ap (λ n. cond (not (g == p.harts)) (Some (offset_from n w.waits.back)) None) gh.1.0.pc
         ∙ ap (λ n. cond (not (g == p.harts)) (Some n) None) w.waits.back_is
 
-    ask-effect : (o : Option ℕ) → jump_of ask h ≡ o → or_else (jump_fault o) None ≡ None → effect p.text s.memory h ≡ record { hart = jumped h o; places = []; bytes = []; outcome = Stepped }
+    ask-effect : (o : Option ℕ) → jump_of ask h ≡ o → or_else (jump_fault o) None ≡ None
+        → effect p.text s.memory h ≡ record { hart = jumped h o; places = []; bytes = []; outcome = Stepped }
     ask-effect o e f =
-        effect-does p s.memory h (Does ask) v.size (next-by p h (z.door + 8) ask gh.1.0.running gh.1.0.pc (subst (λ t. Says t (z.door + 8) ask) w.text w.waits.again) (ap (λ q. or_else (jump_fault q) None) e ∙ f))
+        effect-does p s.memory h (Does ask) v.size (next-by p h (z.door + 8) ask gh.1.0.running gh.1.0.pc (subst (λ t. Says t (z.door + 8) ask) w.text
+        w.waits.again) (ap (λ q. or_else (jump_fault q) None) e ∙ f))
         ∙ ap (λ q. record { hart = jumped h q; places = []; bytes = []; outcome = Stepped }) e
 
     set-up : g ≡ p.harts → Turned z p roles top k (Asked g) (turn s k)
@@ -513,7 +577,8 @@ module _ (z p : Phase) (c : Code p) (roles : List Role) (top : ℕ) (s : State) 
         let al : (z.door + 4) % 4 ≡ 0 = let q = w.code.aligned in omega (arith, q) in
         still (Asked g) Before (at_pc h (z.door + 4)) Stepped er refl refl
         (w, record { running = gh.1.0.running; pc = refl; kept = gh.1.0.kept })
-        (λ t x. x) (λ t l x. x) (ask-effect (Some (z.door + 4)) (ask-is ∙ ap (λ b. cond b (Some (z.door + 4)) None) no) (ap (λ n. or_else (if n == 0 then None else Some MisalignedTarget) None) al)) (refl, inr (e, refl))
+        (λ t x. x) (λ t l x. x) (ask-effect (Some (z.door + 4)) (ask-is ∙ ap (λ b. cond b (Some (z.door + 4)) None) no)
+        (ap (λ n. or_else (if n == 0 then None else Some MisalignedTarget) None) al)) (refl, inr (e, refl))
 
     pub ask-turn : Turned z p roles top k (Asked g) (turn s k)
     ask-turn = elim (cases_eq g p.harts) [ inl e ↦ set-up e | inr e ↦ ask-more e ]
@@ -529,7 +594,9 @@ open-here : {p : Phase} {n : ℕ} → HasGate p → (n < p.harts) ⊎ HasEnd p �
 open-here {p} g (inl l) = l
 open-here {p} g (inr y) = absurd (gate-or-end p g y)
 
-pub hart-turn : (z p : Phase) (c : Code p) (behind : HasGate p ⊎ HasEnd p) (td : TaskDone p) (roles : List Role) (top : ℕ) (s : State) (k : ℕ) (h : HartState) (v : Inv z p roles top s) (eh : slice_get s.harts k ≡ Some h) → (total has_added roles < p.harts) ⊎ HasEnd p → (r : Role) → slice_get roles k ≡ Some r → Turned z p roles top k r (turn s k)
+pub hart-turn : (z p : Phase) (c : Code p) (behind : HasGate p ⊎ HasEnd p) (td : TaskDone p) (roles : List Role) (top : ℕ) (s : State) (k : ℕ) (h : HartState)
+    (v : Inv z p roles top s) (eh : slice_get s.harts k ≡ Some h) → (total has_added roles < p.harts) ⊎ HasEnd p → (r : Role) → slice_get roles k ≡ Some r
+    → Turned z p roles top k r (turn s k)
 hart-turn z p c behind td roles top s k h v eh so Before e = before-turn z p c roles top s k h v eh e
 hart-turn z p c behind td roles top s k h v eh so (Asked g) e = ask-turn z p c roles top s k h v eh g e
 hart-turn z p c behind td roles top s k h v eh so Drawing e = draw-turn z p c roles top s k h v eh e

@@ -19,7 +19,8 @@ in-word word place above below = and_from (nat_le word place) (nat_lt place (wor
 
 last-phase : (n place : ℕ) → data_start + 8 * n ≤ place → place < data_start + 8 * suc n → is_byte_of (ticket_word n ∷ gate_word n ∷ []) place ≡ true
 last-phase n place above below = elim (cases_lt place (ticket_word n + 4)) [
-  | inl l ↦ left-true (nat_le (ticket_word n) place && nat_lt place (ticket_word n + 4)) (is_byte_of (gate_word n ∷ []) place) (in-word (ticket_word n) place above l)
+  | inl l ↦ left-true (nat_le (ticket_word n) place && nat_lt place (ticket_word n + 4)) (is_byte_of (gate_word n ∷ []) place) (in-word (ticket_word n) place
+      above l)
   | inr l ↦
       right-true (nat_le (ticket_word n) place && nat_lt place (ticket_word n + 4)) (is_byte_of (gate_word n ∷ []) place)
       (left-true (nat_le (gate_word n) place && nat_lt place (gate_word n + 4)) false (in-word (gate_word n) place l (omega (arith, below))))

@@ -13,7 +13,8 @@ use Rattle.multi_hart_logic.specs.Uses.{Fixed}
 use Rattle.vector_codegen_sharing.specs.Phases.{Phase, HasEnd}
 use Rattle.vector_codegen_sharing.specs.Solo.{Complete}
 use Rattle.vector_codegen_sharing.specs.Programs.{Program}
-use Rattle.vector_codegen_sharing.proofs.Roles.{Role, Before, Asked, Drawing, Drew, Inside, Adding, Looking, Looked, Leaving, Over, Has, has_added, total, Holds, InPhase, prior, InProgram}
+use Rattle.vector_codegen_sharing.proofs.Roles.{Role, Before, Asked, Drawing, Drew, Inside, Adding, Looking, Looked, Leaving, Over, Has, has_added, total}
+use Rattle.vector_codegen_sharing.proofs.Roles.{Holds, InPhase, prior, InProgram}
 use Rattle.vector_codegen_sharing.proofs.Keeping.{found}
 use Rattle.vector_codegen_sharing.proofs.Phases.{first-of}
 use Rattle.vector_codegen_sharing.proofs.Control.{gate-or-end}
@@ -31,7 +32,8 @@ awake Done n i e = absurd (cc e)
 awake (Stopped t) n i e = absurd (cc e)
 
 -- a role but the last has a hart that runs
-runs : (z p : Phase) (top shut : ℕ) (mem : List ℕ) (k : ℕ) (h : HartState) (r : Role) → Holds z p top shut mem k h r → (h.status ≡ Running) ⊎ ((h.status ≡ Done) × (r ≡ Over) × (p.tasks < top) × HasEnd p)
+runs : (z p : Phase) (top shut : ℕ) (mem : List ℕ) (k : ℕ) (h : HartState) (r : Role) → Holds z p top shut mem k h r
+    → (h.status ≡ Running) ⊎ ((h.status ≡ Done) × (r ≡ Over) × (p.tasks < top) × HasEnd p)
 runs z p top shut mem k h Before o = inl o.1.running
 runs z p top shut mem k h (Asked g) o = inl o.1.0.running
 runs z p top shut mem k h Drawing o = inl o.running
@@ -51,7 +53,8 @@ sound z p s i k h e =
     let f = found i.roles s.harts k h i.inv.same e in
     elim (runs z p i.top (total has_added i.roles) s.memory k h f.0 (i.inv.holds k f.0 h f.1 e)) [ inl x ↦ inl x | inr x ↦ inr x.0 ]
 
-over-role : (z p : Phase) (s : State) (i : InPhase z p s) → AllOver s → (k : ℕ) (r : Role) (h : HartState) → slice_get i.roles k ≡ Some r → slice_get s.harts k ≡ Some h → (r ≡ Over) × (p.tasks < i.top) × HasEnd p
+over-role : (z p : Phase) (s : State) (i : InPhase z p s) → AllOver s → (k : ℕ) (r : Role) (h : HartState) → slice_get i.roles k ≡ Some r
+    → slice_get s.harts k ≡ Some h → (r ≡ Over) × (p.tasks < i.top) × HasEnd p
 over-role z p s i a k r h er eh =
     elim (runs z p i.top (total has_added i.roles) s.memory k h r (i.inv.holds k r h er eh)) [
       | inl x ↦ let y : Running ≡ Done = sym x ∙ a k h eh in absurd (cc y)
@@ -67,14 +70,16 @@ results z p s some i a =
       λ t lt.
           let below : t < i.top = let q = o.1 in omega (arith, q, lt) in
           elim (i.inv.tasks t lt below) [
-            | inl d ↦ let g = found s.harts i.roles d.by d.role (sym i.inv.same) d.at in absurd (not-over d.role t (over-role z p s i a d.by d.role g.0 d.at g.1).0 d.has)
+            | inl d ↦ let g = found s.harts i.roles d.by d.role (sym i.inv.same) d.at in
+                absurd (not-over d.role t (over-role z p s i a d.by d.role g.0 d.at g.1).0 d.has)
             | inr x ↦ x
           ],
     )
 
 last-phase : (ph : ℕ → Phase) (last : ℕ) (g : Program ph last) (s : State) (i : InProgram ph last s) → AllOver s → i.at ≡ last
 last-phase ph last g s i a = elim (cases_lt i.at last) [
-  | inl lt ↦ let r = results (prior ph i.at) (ph i.at) s (g.some i.at i.within) i.phase a in let l = (g.follows i.at lt).link in absurd (gate-or-end (ph i.at) l.waits r.0)
+  | inl lt ↦ let r = results (prior ph i.at) (ph i.at) s (g.some i.at i.within) i.phase a in let l = (g.follows i.at lt).link in
+      absurd (gate-or-end (ph i.at) l.waits r.0)
   | inr le ↦ let q = i.within in omega (arith, q, le)
 ]
 
@@ -83,4 +88,8 @@ Ended p s = ((t : ℕ) → t < p.tasks → Complete p s.memory t) × ((a : ℕ) 
 
 pub at-end : (ph : ℕ → Phase) (last : ℕ) (g : Program ph last) (s : State) (i : InProgram ph last s) → AllOver s → Ended (ph last) s
 at-end ph last g s i a =
-    subst (λ c. Ended (ph c) s) (last-phase ph last g s i a) ((results (prior ph i.at) (ph i.at) s (g.some i.at i.within) i.phase a).1, i.phase.inv.fixed, i.phase.inv.text)
+    subst (λ c. Ended (ph c) s) (last-phase ph last g s i a) (
+      (results (prior ph i.at) (ph i.at) s (g.some i.at i.within) i.phase a).1,
+      i.phase.inv.fixed,
+      i.phase.inv.text,
+    )

@@ -1,5 +1,6 @@
 -- The example's code, each task alone.
-use Rattle.std.proofs.Common.{◌≡◌, ℕ, zero, suc, ◌+◌, ◌-◌, ◌*◌, ◌%◌, ◌^◌, ◌<◌, ◌≤◌, List, length, set, Some, None, true, false, refl, ap, ◌∙◌, sym, subst, arith, length-set, get_or-set_other}
+use Rattle.std.proofs.Common.{◌≡◌, ℕ, zero, suc, ◌+◌, ◌-◌, ◌*◌, ◌%◌, ◌^◌, ◌<◌, ◌≤◌, List, length, set, Some, None, true, false, refl, ap, ◌∙◌, sym, subst}
+use Rattle.std.proofs.Common.{arith, length-set, get_or-set_other}
 use Rattle.std.specs.Prelude.{◌==◌, slice_get, slice_index, pos, replicate}
 use Rattle.std.proofs.lemmas.List.{get_or-set_same}
 use Rattle.memory.specs.Access.{data_start, byte_at, AreBytes, Word, word_at, put_number, touched, or_else, places_of, access_at, bytes_of}
@@ -19,9 +20,12 @@ use Rattle.rv_insn.specs.declared.operations.AluOp.TheVariants.{Add, Sub}
 use Rattle.vector_codegen_sharing.specs.Example.{example_text, first_uses, second_uses, first_result, second_result, use_by, byte_by, first_phase, second_phase}
 use Rattle.vector_codegen_sharing.proofs.Control.{wrap-to}
 use Rattle.vector_codegen_sharing.proofs.Phases.{each-of}
-use Rattle.vector_codegen_sharing.proofs.Solo.{All, keeps-none, wp, wp-at, wp-all, wp-store, wp-store-all, wp-load, cover-store, goes-on, goes-past, now, kept-other}
-use Rattle.vector_codegen_sharing.proofs.ExampleText.{line-0, line-1, line-2, line-3, line-6, line-7, line-8, line-9, line-10, line-11, line-12, line-13, line-14, line-18, line-19, line-22, line-23, line-24, line-25, line-26, line-27, line-28}
-use Rattle.vector_codegen_sharing.proofs.ExampleWords.{word, zeros, use-in, in-word, each-byte, in-touched, byte-put-in, word-by, first-owned, second-owned, first-private, first-owner, second-owner, first-left, second-left}
+use Rattle.vector_codegen_sharing.proofs.Solo.{All, keeps-none, wp, wp-at, wp-all, wp-store, wp-store-all, wp-load, cover-store, goes-on, goes-past, now}
+use Rattle.vector_codegen_sharing.proofs.Solo.{kept-other}
+use Rattle.vector_codegen_sharing.proofs.ExampleText.{line-0, line-1, line-2, line-3, line-6, line-7, line-8, line-9, line-10, line-11, line-12, line-13}
+use Rattle.vector_codegen_sharing.proofs.ExampleText.{line-14, line-18, line-19, line-22, line-23, line-24, line-25, line-26, line-27, line-28}
+use Rattle.vector_codegen_sharing.proofs.ExampleWords.{word, zeros, use-in, in-word, each-byte, in-touched, byte-put-in, word-by, first-owned, second-owned}
+use Rattle.vector_codegen_sharing.proofs.ExampleWords.{first-private, first-owner, second-owner, first-left, second-left}
 
 owned-at : (words : ℕ → Use) (i t : ℕ) → ((j : ℕ) → words j ≡ Owned t → j ≡ i) → (b : ℕ) → use_by words b ≡ Owned t → (word i ≤ b) × (b < word i + 4)
 owned-at words i t f b u =
@@ -49,35 +53,43 @@ module _ (n k t : ℕ) (lk : k < 8) (lt : t < 2) where
       wp p (Task t) k 0 65592 (Jal 0 (negsuc 19)) h m l st line-14
       (ap (λ q. or_else (jump_fault (Some q)) None) e) (tt, tt, keeps-none p (Task t) k) (record { running = st.running; pc = e; kept = st.kept }, w)
 
-  first-store : (h : HartState) (m : List ℕ) → length m ≡ 64 → Stands p k h 65588 → slice_index h.registers 6 ≡ 4 * t + data_start → slice_index h.registers 7 ≡ t + 5 → All p (Task t) k 2 h m
+  first-store : (h : HartState) (m : List ℕ) → length m ≡ 64 → Stands p k h 65588 → slice_index h.registers 6 ≡ 4 * t + data_start
+      → slice_index h.registers 7 ≡ t + 5 → All p (Task t) k 2 h m
   first-store h m l st e6 e7 =
-      let ea : plus (slice_index h.registers 6) (pos 16) ≡ a = ap (λ q. plus q (pos 16)) e6 ∙ wrap-to (4 * t + data_start + 16) a (omega arith) (omega (arith, lt)) in
+      let ea : plus (slice_index h.registers 6) (pos 16) ≡ a = ap (λ q. plus q (pos 16)) e6
+      ∙ wrap-to (4 * t + data_start + 16) a (omega arith) (omega (arith, lt)) in
       let says = line-13 in
       let al : a % 4 ≡ 0 = omega arith in
       let m1 = put_number m Word a (t + 5) in
-      let mine = each-byte (λ b. MayWrite (Task t) k (use_by first_uses b)) a (λ b x y. subst (MayWrite (Task t) k) (sym (use-in first_uses (4 + t) b x y ∙ first-owned t lt)) refl) in (
+      let mine = each-byte (λ b. MayWrite (Task t) k (use_by first_uses b)) a (λ b x y. subst (MayWrite (Task t) k) (sym (use-in first_uses (4 + t) b x y
+      ∙ first-owned t lt)) refl) in (
         wp-store p (Task t) k 1 65588 6 7 (pos 16) h m a (t + 5) l st says ea e7 al (omega arith) (omega (arith, lt)) mine (λ b q y z. refl)
             (first-jump (advanced h) m1 (length-put m (places_of (access_at Word a)) (bytes_of Word (t + 5)) ∙ l) (goes-past p k 65588 65592 h refl st)
-            (λ b u. let w = owned-at first_uses (4 + t) t (λ j e. first-owner j t e) b u in byte-put-in first_result example_text m (4 + t) (t + 5) b (omega (arith, l, lt)) w.0 w.1 (first-left t lt))),
+            (λ b u. let w = owned-at first_uses (4 + t) t (λ j e. first-owner j t e) b u in byte-put-in first_result example_text m (4 + t) (t + 5) b
+            (omega (arith, l, lt)) w.0 w.1 (first-left t lt))),
         cover-store p t k 1 65588 6 7 (pos 16) h m a l st says ea al (omega arith) (omega (arith, lt))
             (λ b u. let w = owned-at first_uses (4 + t) t (λ j e. first-owner j t e) b u in in-touched b a w.0 w.1),
       )
 
-  first-sum : (h : HartState) (m : List ℕ) → length m ≡ 64 → Stands p k h 65584 → slice_index h.registers 6 ≡ 4 * t + data_start → slice_index h.registers 7 ≡ t → All p (Task t) k 3 h m
+  first-sum : (h : HartState) (m : List ℕ) → length m ≡ 64 → Stands p k h 65584 → slice_index h.registers 6 ≡ 4 * t + data_start → slice_index h.registers 7 ≡ t
+      → All p (Task t) k 3 h m
   first-sum h m l st e6 e7 =
       let v = (slice_index h.registers 7 + 5) % 2 ^ 32 in
       let e : v ≡ t + 5 = ap (λ q. (q + 5) % 2 ^ 32) e7 ∙ wrap-to (t + 5) (t + 5) refl (omega (arith, lt)) in
       wp-all p (Task t) k 2 65584 (AluImm Addi 7 7 (pos 5)) h m l st line-12 refl (tt, tt, keeps-none p (Task t) k)
       (first-store _ m l (goes-on p k 65584 65588 7 v h refl refl st) (kept-other h 7 6 v _ refl e6) (now p k 65584 h 7 v st refl ∙ e))
 
-  first-place : (h : HartState) (m : List ℕ) → length m ≡ 64 → Stands p k h 65580 → slice_index h.registers 6 ≡ 4 * t → slice_index h.registers 7 ≡ t → All p (Task t) k 4 h m
+  first-place : (h : HartState) (m : List ℕ) → length m ≡ 64 → Stands p k h 65580 → slice_index h.registers 6 ≡ 4 * t → slice_index h.registers 7 ≡ t
+      → All p (Task t) k 4 h m
   first-place h m l st e6 e7 =
       let v = (slice_index h.registers 6 + slice_index h.registers 13) % 2 ^ 32 in
-      let e : v ≡ 4 * t + data_start = ap (λ q. (q + slice_index h.registers 13) % 2 ^ 32) e6 ∙ ap (λ q. (4 * t + q) % 2 ^ 32) st.kept.ticket ∙ wrap-to (4 * t + data_start) (4 * t + data_start) refl (omega (arith, lt)) in
+      let e : v ≡ 4 * t + data_start = ap (λ q. (q + slice_index h.registers 13) % 2 ^ 32) e6 ∙ ap (λ q. (4 * t + q) % 2 ^ 32) st.kept.ticket
+      ∙ wrap-to (4 * t + data_start) (4 * t + data_start) refl (omega (arith, lt)) in
       wp-all p (Task t) k 3 65580 (Alu Add 6 6 13) h m l st line-11 refl (tt, tt, keeps-none p (Task t) k)
       (first-sum _ m l (goes-on p k 65580 65584 6 v h refl refl st) (now p k 65580 h 6 v st refl ∙ e) (kept-other h 6 7 v _ refl e7))
 
-  first-shift : (h : HartState) (m : List ℕ) → length m ≡ 64 → Stands p k h 65576 → slice_index h.registers 12 ≡ t → slice_index h.registers 7 ≡ t → All p (Task t) k 5 h m
+  first-shift : (h : HartState) (m : List ℕ) → length m ≡ 64 → Stands p k h 65576 → slice_index h.registers 12 ≡ t → slice_index h.registers 7 ≡ t
+      → All p (Task t) k 5 h m
   first-shift h m l st e12 e7 =
       let v = (slice_index h.registers 12 * 4) % 2 ^ 32 in
       let e : v ≡ 4 * t = ap (λ q. (q * 4) % 2 ^ 32) e12 ∙ wrap-to (t * 4) (4 * t) (omega arith) (omega (arith, lt)) in
@@ -93,22 +105,27 @@ module _ (n k t : ℕ) (lk : k < 8) (lt : t < 2) where
   own-aligned : own % 4 ≡ 0
   own-aligned = omega arith
 
-  first-load : (h : HartState) (m : List ℕ) → length m ≡ 64 → Stands p k h 65572 → slice_index h.registers 5 ≡ 4 * k + data_start → slice_index h.registers 12 ≡ t → word_at example_text m own ≡ t → All p (Task t) k 6 h m
+  first-load : (h : HartState) (m : List ℕ) → length m ≡ 64 → Stands p k h 65572 → slice_index h.registers 5 ≡ 4 * k + data_start
+      → slice_index h.registers 12 ≡ t → word_at example_text m own ≡ t → All p (Task t) k 6 h m
   first-load h m l st e5 e12 ev =
       wp-load p (Task t) k 5 65572 7 5 (pos 32) h m own t l st line-9 (own-at h e5) ev own-aligned (omega arith) (omega (arith, lk))
       (own-byte (MayRead (Task t) k) refl)
       (first-shift _ m l (goes-on p k 65572 65576 7 t h refl refl st) (kept-other h 7 12 t _ refl e12) (now p k 65572 h 7 t st refl))
 
-  first-own : (h : HartState) (m : List ℕ) → length m ≡ 64 → Stands p k h 65568 → slice_index h.registers 5 ≡ 4 * k + data_start → slice_index h.registers 12 ≡ t → All p (Task t) k 7 h m
+  first-own : (h : HartState) (m : List ℕ) → length m ≡ 64 → Stands p k h 65568 → slice_index h.registers 5 ≡ 4 * k + data_start
+      → slice_index h.registers 12 ≡ t → All p (Task t) k 7 h m
   first-own h m l st e5 e12 =
       wp-store-all p (Task t) k 6 65568 5 12 (pos 32) h m own t l st line-8 (own-at h e5) e12 own-aligned (omega arith) (omega (arith, lk))
       (own-byte (MayWrite (Task t) k) refl) (λ b q y z. refl)
-      (first-load _ (put_number m Word own t) (length-put m (places_of (access_at Word own)) (bytes_of Word t) ∙ l) (goes-past p k 65568 65572 h refl st) e5 e12 (word-put example_text m own t (omega arith) (omega (arith, l, lk)) (omega (arith, lt))))
+      (first-load _ (put_number m Word own t) (length-put m (places_of (access_at Word own)) (bytes_of Word t) ∙ l) (goes-past p k 65568 65572 h refl st) e5 e12
+      (word-put example_text m own t (omega arith) (omega (arith, l, lk)) (omega (arith, lt))))
 
-  first-base : (h : HartState) (m : List ℕ) → length m ≡ 64 → Stands p k h 65564 → slice_index h.registers 5 ≡ 4 * k → slice_index h.registers 12 ≡ t → All p (Task t) k 8 h m
+  first-base : (h : HartState) (m : List ℕ) → length m ≡ 64 → Stands p k h 65564 → slice_index h.registers 5 ≡ 4 * k → slice_index h.registers 12 ≡ t
+      → All p (Task t) k 8 h m
   first-base h m l st e5 e12 =
       let v = (slice_index h.registers 5 + slice_index h.registers 13) % 2 ^ 32 in
-      let e : v ≡ 4 * k + data_start = ap (λ q. (q + slice_index h.registers 13) % 2 ^ 32) e5 ∙ ap (λ q. (4 * k + q) % 2 ^ 32) st.kept.ticket ∙ wrap-to (4 * k + data_start) (4 * k + data_start) refl (omega (arith, lk)) in
+      let e : v ≡ 4 * k + data_start = ap (λ q. (q + slice_index h.registers 13) % 2 ^ 32) e5 ∙ ap (λ q. (4 * k + q) % 2 ^ 32) st.kept.ticket
+      ∙ wrap-to (4 * k + data_start) (4 * k + data_start) refl (omega (arith, lk)) in
       wp-all p (Task t) k 7 65564 (Alu Add 5 5 13) h m l st line-7 refl (tt, tt, keeps-none p (Task t) k)
       (first-own _ m l (goes-on p k 65564 65568 5 v h refl refl st) (now p k 65564 h 5 v st refl ∙ e) (kept-other h 5 12 v _ refl e12))
 
@@ -149,55 +166,70 @@ module _ (n k t : ℕ) (lt : t < 2) where
   second-jump : (h : HartState) (m : List ℕ) → length m ≡ 64 → Stands p2 k h 65648 → Leaves p2 (Task t) m → SoonDone p2 (Task t) k 1 h m
   second-jump h m l st w =
       let e : offset_from h.pc (negsuc 15) ≡ 65616 = ap (λ q. offset_from q (negsuc 15)) st.pc in
-      wp p2 (Task t) k 0 65648 (Jal 0 (negsuc 15)) h m l st line-28 (ap (λ q. or_else (jump_fault (Some q)) None) e) (tt, tt, keeps-none p2 (Task t) k) (record { running = st.running; pc = e; kept = st.kept }, w)
+      wp p2 (Task t) k 0 65648 (Jal 0 (negsuc 15)) h m l st line-28 (ap (λ q. or_else (jump_fault (Some q)) None) e) (tt, tt, keeps-none p2 (Task t) k)
+      (record { running = st.running; pc = e; kept = st.kept }, w)
 
-  second-store : (h : HartState) (m : List ℕ) → length m ≡ 64 → Stands p2 k h 65644 → slice_index h.registers 6 ≡ 4 * t + 2097160 → slice_index h.registers 7 ≡ 16 - t → All p2 (Task t) k 2 h m
+  second-store : (h : HartState) (m : List ℕ) → length m ≡ 64 → Stands p2 k h 65644 → slice_index h.registers 6 ≡ 4 * t + 2097160
+      → slice_index h.registers 7 ≡ 16 - t → All p2 (Task t) k 2 h m
   second-store h m l st e6 e7 =
-      let ea : plus (slice_index h.registers 6) (pos 16) ≡ to = ap (λ q. plus q (pos 16)) e6 ∙ wrap-to (4 * t + 2097160 + 16) to (omega arith) (omega (arith, lt)) in
+      let ea : plus (slice_index h.registers 6) (pos 16) ≡ to = ap (λ q. plus q (pos 16)) e6
+      ∙ wrap-to (4 * t + 2097160 + 16) to (omega arith) (omega (arith, lt)) in
       let al : to % 4 ≡ 0 = omega arith in
       let m1 = put_number m Word to (16 - t) in
-      let mine = each-byte (λ b. MayWrite (Task t) k (use_by second_uses b)) to (λ b x y. subst (MayWrite (Task t) k) (sym (use-in second_uses (6 + t) b x y ∙ second-owned t lt)) refl) in (
+      let mine = each-byte (λ b. MayWrite (Task t) k (use_by second_uses b)) to (λ b x y. subst (MayWrite (Task t) k) (sym (use-in second_uses (6 + t) b x y
+      ∙ second-owned t lt)) refl) in (
         wp-store p2 (Task t) k 1 65644 6 7 (pos 16) h m to (16 - t) l st line-27 ea e7 al (omega arith) (omega (arith, lt)) mine (λ b q y z. refl)
             (second-jump (advanced h) m1 (length-put m (places_of (access_at Word to)) (bytes_of Word (16 - t)) ∙ l) (goes-past p2 k 65644 65648 h refl st)
-            (λ b u. let w = owned-at second_uses (6 + t) t (λ j e. second-owner j t e) b u in byte-put-in second_result example_text m (6 + t) (16 - t) b (omega (arith, l, lt)) w.0 w.1 (second-left t lt))),
+            (λ b u. let w = owned-at second_uses (6 + t) t (λ j e. second-owner j t e) b u in byte-put-in second_result example_text m (6 + t) (16 - t) b
+            (omega (arith, l, lt)) w.0 w.1 (second-left t lt))),
         cover-store p2 t k 1 65644 6 7 (pos 16) h m to l st line-27 ea al (omega arith) (omega (arith, lt))
             (λ b u. let w = owned-at second_uses (6 + t) t (λ j e. second-owner j t e) b u in in-touched b to w.0 w.1),
       )
 
-  second-sum : (h : HartState) (m : List ℕ) → length m ≡ 64 → Stands p2 k h 65640 → slice_index h.registers 6 ≡ 4 * t + 2097160 → slice_index h.registers 7 ≡ 6 - t → All p2 (Task t) k 3 h m
+  second-sum : (h : HartState) (m : List ℕ) → length m ≡ 64 → Stands p2 k h 65640 → slice_index h.registers 6 ≡ 4 * t + 2097160
+      → slice_index h.registers 7 ≡ 6 - t → All p2 (Task t) k 3 h m
   second-sum h m l st e6 e7 =
       let v = (slice_index h.registers 7 + 10) % 2 ^ 32 in
       let e : v ≡ 16 - t = ap (λ q. (q + 10) % 2 ^ 32) e7 ∙ wrap-to (6 - t + 10) (16 - t) (omega (arith, lt)) (omega arith) in
       wp-all p2 (Task t) k 2 65640 (AluImm Addi 7 7 (pos 10)) h m l st line-26 refl (tt, tt, keeps-none p2 (Task t) k)
       (second-store _ m l (goes-on p2 k 65640 65644 7 v h refl refl st) (kept-other h 7 6 v _ refl e6) (now p2 k 65640 h 7 v st refl ∙ e))
 
-  second-place : (h : HartState) (m : List ℕ) → length m ≡ 64 → Stands p2 k h 65636 → slice_index h.registers 6 ≡ 4 * t → slice_index h.registers 7 ≡ 6 - t → All p2 (Task t) k 4 h m
+  second-place : (h : HartState) (m : List ℕ) → length m ≡ 64 → Stands p2 k h 65636 → slice_index h.registers 6 ≡ 4 * t → slice_index h.registers 7 ≡ 6 - t
+      → All p2 (Task t) k 4 h m
   second-place h m l st e6 e7 =
       let v = (slice_index h.registers 6 + slice_index h.registers 13) % 2 ^ 32 in
-      let e : v ≡ 4 * t + 2097160 = ap (λ q. (q + slice_index h.registers 13) % 2 ^ 32) e6 ∙ ap (λ q. (4 * t + q) % 2 ^ 32) st.kept.ticket ∙ wrap-to (4 * t + 2097160) (4 * t + 2097160) refl (omega (arith, lt)) in
+      let e : v ≡ 4 * t + 2097160 = ap (λ q. (q + slice_index h.registers 13) % 2 ^ 32) e6 ∙ ap (λ q. (4 * t + q) % 2 ^ 32) st.kept.ticket
+      ∙ wrap-to (4 * t + 2097160) (4 * t + 2097160) refl (omega (arith, lt)) in
       wp-all p2 (Task t) k 3 65636 (Alu Add 6 6 13) h m l st line-25 refl (tt, tt, keeps-none p2 (Task t) k)
       (second-sum _ m l (goes-on p2 k 65636 65640 6 v h refl refl st) (now p2 k 65636 h 6 v st refl ∙ e) (kept-other h 6 7 v _ refl e7))
 
-  second-load : (h : HartState) (m : List ℕ) → length m ≡ 64 → Stands p2 k h 65632 → slice_index h.registers 5 ≡ 2097160 - 4 * t → slice_index h.registers 6 ≡ 4 * t → word_at example_text m from ≡ 6 - t → All p2 (Task t) k 5 h m
+  second-load : (h : HartState) (m : List ℕ) → length m ≡ 64 → Stands p2 k h 65632 → slice_index h.registers 5 ≡ 2097160 - 4 * t
+      → slice_index h.registers 6 ≡ 4 * t → word_at example_text m from ≡ 6 - t → All p2 (Task t) k 5 h m
   second-load h m l st e5 e6 ev =
-      let ea : plus (slice_index h.registers 5) (pos 12) ≡ from = ap (λ q. plus q (pos 12)) e5 ∙ wrap-to (2097160 - 4 * t + 12) from (omega (arith, lt)) (omega arith) in
+      let ea : plus (slice_index h.registers 5) (pos 12) ≡ from = ap (λ q. plus q (pos 12)) e5
+      ∙ wrap-to (2097160 - 4 * t + 12) from (omega (arith, lt)) (omega arith) in
       let al : from % 4 ≡ 0 = omega arith in
       wp-load p2 (Task t) k 4 65632 7 5 (pos 12) h m from (6 - t) l st line-24 ea ev al (omega arith) (omega arith)
-      (each-byte (λ b. MayRead (Task t) k (use_by second_uses b)) from (λ b x y. subst (MayRead (Task t) k) (sym (use-in second_uses (5 - t) b x y ∙ other-fixed t lt)) tt))
+      (each-byte (λ b. MayRead (Task t) k (use_by second_uses b)) from (λ b x y. subst (MayRead (Task t) k) (sym (use-in second_uses (5 - t) b x y
+      ∙ other-fixed t lt)) tt))
       (second-place _ m l (goes-on p2 k 65632 65636 7 (6 - t) h refl refl st) (kept-other h 7 6 (6 - t) _ refl e6) (now p2 k 65632 h 7 (6 - t) st refl))
 
-  second-minus : (h : HartState) (m : List ℕ) → length m ≡ 64 → Stands p2 k h 65628 → slice_index h.registers 6 ≡ 4 * t → word_at example_text m from ≡ 6 - t → All p2 (Task t) k 6 h m
+  second-minus : (h : HartState) (m : List ℕ) → length m ≡ 64 → Stands p2 k h 65628 → slice_index h.registers 6 ≡ 4 * t → word_at example_text m from ≡ 6 - t
+      → All p2 (Task t) k 6 h m
   second-minus h m l st e6 ev =
       let v = (slice_index h.registers 13 + (2 ^ 32 - slice_index h.registers 6)) % 2 ^ 32 in
-      let e : v ≡ 2097160 - 4 * t = ap (λ q. (q + (2 ^ 32 - slice_index h.registers 6)) % 2 ^ 32) st.kept.ticket ∙ ap (λ q. (2097160 + (2 ^ 32 - q)) % 2 ^ 32) e6 ∙ difference t lt in
+      let e : v ≡ 2097160 - 4 * t = ap (λ q. (q + (2 ^ 32 - slice_index h.registers 6)) % 2 ^ 32) st.kept.ticket
+      ∙ ap (λ q. (2097160 + (2 ^ 32 - q)) % 2 ^ 32) e6 ∙ difference t lt in
       wp-all p2 (Task t) k 5 65628 (Alu Sub 5 13 6) h m l st line-23 refl (tt, tt, keeps-none p2 (Task t) k)
       (second-load _ m l (goes-on p2 k 65628 65632 5 v h refl refl st) (now p2 k 65628 h 5 v st refl ∙ e) (kept-other h 5 6 v _ refl e6) ev)
 
-  pub second-all : (h : HartState) (m : List ℕ) → length m ≡ 64 → Stands p2 k h 65624 → slice_index h.registers 12 ≡ t → ((b : ℕ) → use_by second_uses b ≡ Fixed → byte_at example_text m b ≡ byte_by first_result b) → All p2 (Task t) k 7 h m
+  pub second-all : (h : HartState) (m : List ℕ) → length m ≡ 64 → Stands p2 k h 65624 → slice_index h.registers 12 ≡ t → ((b : ℕ) → use_by second_uses b ≡ Fixed
+      → byte_at example_text m b ≡ byte_by first_result b) → All p2 (Task t) k 7 h m
   second-all h m l st e12 given =
       let v = (slice_index h.registers 12 * 4) % 2 ^ 32 in
       let e : v ≡ 4 * t = ap (λ q. (q * 4) % 2 ^ 32) e12 ∙ wrap-to (t * 4) (4 * t) (omega arith) (omega (arith, lt)) in
-      let ev : word_at example_text m from ≡ 6 - t = word-by first_result example_text m (5 - t) (λ b x y. given b (use-in second_uses (5 - t) b x y ∙ other-fixed t lt)) (let q = other-left t lt in omega (arith, q)) ∙ other-left t lt in
+      let ev : word_at example_text m from ≡ 6 - t = word-by first_result example_text m (5 - t) (λ b x y. given b (use-in second_uses (5 - t) b x y
+      ∙ other-fixed t lt)) (let q = other-left t lt in omega (arith, q)) ∙ other-left t lt in
       wp-all p2 (Task t) k 6 65624 (Shift Slli 6 12 2) h m l st line-22 refl (tt, tt, keeps-none p2 (Task t) k)
       (second-minus _ m l (goes-on p2 k 65624 65628 6 v h refl refl st) (now p2 k 65624 h 6 v st refl ∙ e) ev)
 
@@ -218,7 +250,18 @@ first-way n k m l =
       record {
         running = refl;
         pc = refl;
-        kept = record { size = refl; vector_count = refl; vector_bytes = vectors-are; number = refl; harts = refl; ticket = refl; gate = refl; one = refl; tasks = refl };
+        kept = record {
+          size = refl;
+          vector_count = refl;
+          vector_bytes = vectors-are;
+          number = refl;
+          harts = refl;
+          ticket = refl;
+          gate = refl;
+          one =
+              refl;
+          tasks = refl;
+        };
       },
       tt,
     ))))
@@ -234,7 +277,9 @@ second-way n k h m st l =
     let ew : w ≡ 2097164 = ap (λ q. (q + 8) % 2 ^ 32) (get_or-set_other h.registers 13 14 v 0 (omega arith) ∙ o.gate) in
     let size : length xs ≡ 32 = length-set h.registers 13 v ∙ o.size in
     let pc1 : (h.pc + 4) % 2 ^ 32 ≡ 65612 = ap (λ q. (q + 4) % 2 ^ 32) st.pc in
-    let past : (q x : ℕ) → (q == 13) ≡ false → (q == 14) ≡ false → slice_index h.registers q ≡ x → slice_index (set xs 14 w) q ≡ x = λ q x a b e. get_or-set_other xs 14 q w 0 (λ y. let z : true ≡ false = sym (ap (λ d. d == 14) y) ∙ b in cc z) ∙ get_or-set_other h.registers 13 q v 0 (λ y. let z : true ≡ false = sym (ap (λ d. d == 13) y) ∙ a in cc z) ∙ e in
+    let past : (q x : ℕ) → (q == 13) ≡ false → (q == 14) ≡ false → slice_index h.registers q ≡ x
+    → slice_index (set xs 14 w) q ≡ x = λ q x a b e. get_or-set_other xs 14 q w 0 (λ y. let z : true ≡ false = sym (ap (λ d. d == 14) y) ∙ b in cc z)
+    ∙ get_or-set_other h.registers 13 q v 0 (λ y. let z : true ≡ false = sym (ap (λ d. d == 13) y) ∙ a in cc z) ∙ e in
     wp-at p Setup k 1 65608 (AluImm Addi 13 13 (pos 8)) h m l st.running st.pc line-18 refl (tt, tt, keeps-none p Setup k)
     (wp-at p Setup k 0 65612 (AluImm Addi 14 14 (pos 8)) _ m l st.running pc1 line-19 refl (tt, tt, keeps-none p Setup k) (
       record {

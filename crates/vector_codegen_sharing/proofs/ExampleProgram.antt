@@ -13,7 +13,8 @@ use Rattle.vector_codegen_sharing.specs.Programs.{FoundBy, Follows, Program, Ope
 use Rattle.vector_codegen_sharing.specs.Turns.{ticket_word}
 use Rattle.std.specs.Prelude.{negsuc, ◌/◌}
 use Rattle.vector_codegen_sharing.specs.Programs.{IsControlByte, OfNoTask}
-use Rattle.vector_codegen_sharing.specs.Example.{example_text, example_data, first_uses, second_uses, first_result, second_result, use_by, byte_by, first_phase, second_phase, example, ExampleIsProgram, ExampleResult, example_rounds, ExampleEnds}
+use Rattle.vector_codegen_sharing.specs.Example.{example_text, example_data, first_uses, second_uses, first_result, second_result, use_by, byte_by, first_phase}
+use Rattle.vector_codegen_sharing.specs.Example.{second_phase, example, ExampleIsProgram, ExampleResult, example_rounds, ExampleEnds}
 use Rattle.vector_codegen_sharing.specs.Fairness.{enough_rounds}
 use Rattle.vector_codegen_sharing.proofs.Fair.{fair-ends}
 use Rattle.vector_codegen_sharing.proofs.Results.{one-result}
@@ -61,7 +62,8 @@ module _ (n : ℕ) (some : 1 ≤ n) (few : n ≤ 8) where
   first-writes : TaskWrites (first_phase n)
   first-writes t k h m b = (first-all n k t (let q = b.number_is in omega (arith, q, few)) b.task_is h m b.size b.stands b.drawn).1
 
-  fixed-given : (t : ℕ) (m : List ℕ) → ((b : ℕ) → Given t (use_by second_uses b) → byte_at example_text m b ≡ byte_by first_result b) → (b : ℕ) → use_by second_uses b ≡ Fixed → byte_at example_text m b ≡ byte_by first_result b
+  fixed-given : (t : ℕ) (m : List ℕ) → ((b : ℕ) → Given t (use_by second_uses b) → byte_at example_text m b ≡ byte_by first_result b) → (b : ℕ)
+      → use_by second_uses b ≡ Fixed → byte_at example_text m b ≡ byte_by first_result b
   fixed-given t m given b u = given b (subst (Given t) (sym u) tt)
 
   second-done : TaskDone (second_phase n)
@@ -102,7 +104,8 @@ module _ (n : ℕ) (some : 1 ≤ n) (few : n ≤ 8) where
   found-word (suc (suc (suc (suc (suc zero))))) b l h y = inr (1, use-in first_uses 5 b l h, (let q : 1 < 2 = omega arith in q), refl)
   found-word (suc (suc (suc (suc (suc (suc zero)))))) b l h y = inl (use-in first_uses 6 b l h, zero-by first_result 6 b l h refl)
   found-word (suc (suc (suc (suc (suc (suc (suc zero))))))) b l h y = inl (use-in first_uses 7 b l h, zero-by first_result 7 b l h refl)
-  found-word (suc (suc (suc (suc (suc (suc (suc (suc j)))))))) b l h y = absurd (unshared (8 + j) (omega arith) (subst (λ i. Shared (second_uses i)) (let q : suc (suc (suc (suc (suc (suc (suc (suc j))))))) ≡ 8 + j = omega arith in q) y))
+  found-word (suc (suc (suc (suc (suc (suc (suc (suc j)))))))) b l h y = absurd (unshared (8 + j) (omega arith) (subst (λ i. Shared (second_uses i))
+      (let q : suc (suc (suc (suc (suc (suc (suc (suc j))))))) ≡ 8 + j = omega arith in q) y))
     where
       unshared : (i : ℕ) → 8 ≤ i → Shared (second_uses i) → ⊥
       unshared i k y = elim (cases_lt i 16) [
@@ -177,7 +180,8 @@ module _ (n : ℕ) (some : 1 ≤ n) (few : n ≤ 8) where
     | inr f ↦ at-data (nat_lt b data_start) f
   ]
     where
-      at-data : (q : Bool) → q ≡ false → cond q (slice_index example_text ((b - 65536) / 4) / 256 ^ ((b - 65536) % 4) % 256) (slice_index example_data (b - data_start)) ≡ 0
+      at-data : (q : Bool) → q ≡ false → cond q (slice_index example_text ((b - 65536) / 4) / 256 ^ ((b - 65536) % 4) % 256) (slice_index example_data
+          (b - data_start)) ≡ 0
       at-data true e = absurd (cc e)
       at-data false e = zeros 64 (b - data_start)
 

@@ -37,7 +37,20 @@ in-word words b n = elim (cases_Bool (nat_lt b data_start)) [
 ]
 
 pub each-byte : (P : ℕ → Type 0) (a : ℕ) → ((b : ℕ) → a ≤ b → b < a + 4 → P b) → Within P (touched (one_access Word a))
-each-byte P a f = (f a (omega arith) (omega arith), (f (a + 1) (omega arith) (omega arith), (f (a + 2) (omega arith) (omega arith), (f (a + 3) (omega arith) (omega arith), tt))))
+each-byte P a f = (
+  f a (omega arith) (omega arith),
+  (
+    f (a + 1) (omega arith) (omega arith),
+    (
+      f (a + 2) (omega arith) (omega arith),
+      (
+        f (a + 3) (omega arith)
+            (omega arith),
+        tt,
+      ),
+    ),
+  ),
+)
 
 same-test : (a b : ℕ) → a ≡ b → (a == b) ≡ true
 same-test a b e = grind (arith, nat_tests)
@@ -53,17 +66,20 @@ is-in-cons b q qs f = elim (cases_eq b q) [
 
 pub in-touched : (b a : ℕ) → a ≤ b → b < a + 4 → is_in b (touched (one_access Word a)) ≡ true
 in-touched b a l h =
-    is-in-cons b a ((a + 1) ∷ (a + 2) ∷ (a + 3) ∷ []) (λ n. is-in-cons b (a + 1) ((a + 2) ∷ (a + 3) ∷ []) (λ n1. is-in-cons b (a + 2) ((a + 3) ∷ []) (λ n2. is-in-cons b (a + 3) [] (λ n3. absurd (omega (arith, l, h, n, n1, n2, n3))))))
+    is-in-cons b a ((a + 1) ∷ (a + 2) ∷ (a + 3) ∷ []) (λ n. is-in-cons b (a + 1) ((a + 2) ∷ (a + 3) ∷ []) (λ n1. is-in-cons b (a + 2) ((a + 3) ∷ [])
+    (λ n2. is-in-cons b (a + 3) [] (λ n3. absurd (omega (arith, l, h, n, n1, n2, n3))))))
 
 -- a byte of a word that is put
-byte-of-four : (f : ℕ → ℕ) (a v d : ℕ) → map f (a ∷ (a + 1) ∷ (a + 2) ∷ (a + 3) ∷ []) ≡ to_le_bytes w32 v → d < 4 → f (a + d) ≡ slice_index (to_le_bytes w32 v) d
+byte-of-four : (f : ℕ → ℕ) (a v d : ℕ) → map f (a ∷ (a + 1) ∷ (a + 2) ∷ (a + 3) ∷ []) ≡ to_le_bytes w32 v → d < 4
+    → f (a + d) ≡ slice_index (to_le_bytes w32 v) d
 byte-of-four f a v zero e l = ap f (let q : a + 0 ≡ a = omega arith in q) ∙ ap (λ bs. slice_index bs 0) e
 byte-of-four f a v (suc zero) e l = ap f (let q : a + suc zero ≡ a + 1 = omega arith in q) ∙ ap (λ bs. slice_index bs 1) e
 byte-of-four f a v (suc (suc zero)) e l = ap f (let q : a + suc (suc zero) ≡ a + 2 = omega arith in q) ∙ ap (λ bs. slice_index bs 2) e
 byte-of-four f a v (suc (suc (suc zero))) e l = ap f (let q : a + suc (suc (suc zero)) ≡ a + 3 = omega arith in q) ∙ ap (λ bs. slice_index bs 3) e
 byte-of-four f a v (suc (suc (suc (suc d)))) e l = absurd (omega (arith, l))
 
-pub byte-put-in : (words : ℕ → ℕ) (text m : List ℕ) (j v b : ℕ) → word j + 4 ≤ data_start + length m → word j ≤ b → b < word j + 4 → v ≡ words j → byte_at text (put_number m Word (word j) v) b ≡ byte_by words b
+pub byte-put-in : (words : ℕ → ℕ) (text m : List ℕ) (j v b : ℕ) → word j + 4 ≤ data_start + length m → word j ≤ b → b < word j + 4 → v ≡ words j
+    → byte_at text (put_number m Word (word j) v) b ≡ byte_by words b
 byte-put-in words text m j v b s l h e =
     let m1 = put_number m Word (word j) v in
     let q : b ≡ word j + (b - word j) = omega (arith, l) in
@@ -73,20 +89,25 @@ byte-put-in words text m j v b s l h e =
     ∙ ap (slice_index (to_le_bytes w32 (words ((b - data_start) / 4)))) (sym (byte-number j b l h))
 
 -- a word whose bytes are known
-pub word-by : (words : ℕ → ℕ) (text m : List ℕ) (j : ℕ) → ((b : ℕ) → word j ≤ b → b < word j + 4 → byte_at text m b ≡ byte_by words b) → words j < 2 ^ 32 → word_at text m (word j) ≡ words j
+pub word-by : (words : ℕ → ℕ) (text m : List ℕ) (j : ℕ) → ((b : ℕ) → word j ≤ b → b < word j + 4 → byte_at text m b ≡ byte_by words b) → words j < 2 ^ 32
+    → word_at text m (word j) ≡ words j
 word-by words text m j f h =
     let n = words j in
     let byte : (d : ℕ) → d < 4 → byte_at text m (word j + d) ≡ slice_index (to_le_bytes w32 n) d = λ d l.
     f (word j + d) (omega arith) (omega (arith, l))
     ∙ ap (λ k. slice_index (to_le_bytes w32 (words k)) ((word j + d - data_start) % 4)) (word-number j (word j + d) (omega arith) (omega (arith, l)))
-    ∙ ap (slice_index (to_le_bytes w32 n)) (byte-number j (word j + d) (omega arith) (omega (arith, l)) ∙ (let q : word j + d - word j ≡ d = omega arith in q)) in
+    ∙ ap (slice_index (to_le_bytes w32 n)) (byte-number j (word j + d) (omega arith) (omega (arith, l)) ∙ (let q : word j + d - word j ≡ d = omega arith in q))
+    in
     let z : word j + 0 ≡ word j = omega arith in
     let e0 : byte_at text m (word j) ≡ slice_index (to_le_bytes w32 n) 0 = ap (byte_at text m) (sym z) ∙ byte 0 (omega arith) in
     let e1 = byte 1 (omega arith) in
     let e2 = byte 2 (omega arith) in
     let e3 = byte 3 (omega arith) in
     let a = word j in
-    ap (from_le_bytes w32) (ap (λ q. q ∷ byte_at text m (a + 1) ∷ byte_at text m (a + 2) ∷ byte_at text m (a + 3) ∷ []) e0 ∙ ap (λ q. slice_index (to_le_bytes w32 n) 0 ∷ q ∷ byte_at text m (a + 2) ∷ byte_at text m (a + 3) ∷ []) e1 ∙ ap (λ q. slice_index (to_le_bytes w32 n) 0 ∷ slice_index (to_le_bytes w32 n) 1 ∷ q ∷ byte_at text m (a + 3) ∷ []) e2 ∙ ap (λ q. slice_index (to_le_bytes w32 n) 0 ∷ slice_index (to_le_bytes w32 n) 1 ∷ slice_index (to_le_bytes w32 n) 2 ∷ q ∷ []) e3)
+    ap (from_le_bytes w32) (ap (λ q. q ∷ byte_at text m (a + 1) ∷ byte_at text m (a + 2) ∷ byte_at text m (a + 3) ∷ []) e0
+    ∙ ap (λ q. slice_index (to_le_bytes w32 n) 0 ∷ q ∷ byte_at text m (a + 2) ∷ byte_at text m (a + 3) ∷ []) e1
+    ∙ ap (λ q. slice_index (to_le_bytes w32 n) 0 ∷ slice_index (to_le_bytes w32 n) 1 ∷ q ∷ byte_at text m (a + 3) ∷ []) e2
+    ∙ ap (λ q. slice_index (to_le_bytes w32 n) 0 ∷ slice_index (to_le_bytes w32 n) 1 ∷ slice_index (to_le_bytes w32 n) 2 ∷ q ∷ []) e3)
     ∙ from_le_bytes-to_le_bytes_4 n h
 
 -- zeros

@@ -11,7 +11,8 @@ use Rattle.multi_hart_logic.specs.Uses.{Use, Control, Fixed, Owned, Private, Job
 use Rattle.vector_codegen_sharing.specs.Phases.{Phase}
 use Rattle.vector_codegen_sharing.specs.Programs.{Program, start, Opens}
 use Rattle.vector_codegen_sharing.specs.Turns.{gate_word, is_word_in, or_known, last_written, times_written, written_next, written_by_one}
-use Rattle.vector_codegen_sharing.proofs.Roles.{Role, Before, Asked, Drawing, Drew, Inside, Adding, Looking, Looked, Leaving, Over, has_added, total, Becomes, prior, InProgram}
+use Rattle.vector_codegen_sharing.proofs.Roles.{Role, Before, Asked, Drawing, Drew, Inside, Adding, Looking, Looked, Leaving, Over, has_added, total, Becomes}
+use Rattle.vector_codegen_sharing.proofs.Roles.{prior, InProgram}
 use Rattle.vector_codegen_sharing.specs.Programs.{OfNoTask}
 use Rattle.vector_codegen_sharing.specs.Promises.{GateOnce}
 use Rattle.vector_codegen_sharing.proofs.Keeping.{found, slice_get-set_same, Touch}
@@ -139,9 +140,11 @@ pub record Seen (last x at : ℕ) (roles : List Role) (counts : ℕ → ℕ) (kn
 
 module _ (ph : ℕ → Phase) (last : ℕ) (g : Program ph last) where
   -- a byte of gate c is written in phase `at` only by a hart that adds, and only where c is `at`
-  pub gate-untouched : (at c k : ℕ) → at ≤ last → c ≤ last → (r : Role) → ((r ≡ Adding) → c ≢ at) → (b : ℕ) → gate_word c ≤ b → b < gate_word c + 4 → Touch (ph at) k r b → ⊥
+  pub gate-untouched : (at c k : ℕ) → at ≤ last → c ≤ last → (r : Role) → ((r ≡ Adding) → c ≢ at) → (b : ℕ) → gate_word c ≤ b → b < gate_word c + 4
+      → Touch (ph at) k r b → ⊥
   gate-untouched at c k la lc Drawing n b l h w = let x = w.1.0 in let y = w.1.1 in let t = g.tickets at la in omega (arith, x, y, t, l, h)
-  gate-untouched at c k la lc Adding n b l h w = n refl (let x = w.1.0 in let y = w.1.1 in let t = g.tickets at la in let u = (g.code at la).two_words in omega (arith, x, y, t, u, l, h))
+  gate-untouched at c k la lc Adding n b l h w = n refl (let x = w.1.0 in let y = w.1.1 in let t = g.tickets at la in let u = (g.code at la).two_words in
+      omega (arith, x, y, t, u, l, h))
   gate-untouched at c k la lc (Inside x j m) n b l h w = no-task-write x k ((ph at).uses b) (g.control at b la (omega (arith, l), omega (arith, h, lc))) w
   gate-untouched at c k la lc Before n b l h w = w
   gate-untouched at c k la lc (Asked v) n b l h w = w
@@ -152,14 +155,18 @@ module _ (ph : ℕ → Phase) (last : ℕ) (g : Program ph last) where
   gate-untouched at c k la lc Over n b l h w = w
 
   -- what a hart with a role writes next
-  pub writes-role : (s : State) (i : InProgram ph last s) (k : ℕ) (r : Role) → slice_get i.phase.roles k ≡ Some r → Within (Touch (ph i.at) k r) (written_next s k)
+  pub writes-role : (s : State) (i : InProgram ph last s) (k : ℕ) (r : Role) → slice_get i.phase.roles k ≡ Some r
+      → Within (Touch (ph i.at) k r) (written_next s k)
   writes-role s i k r er =
       let v = i.phase.inv in
       let h = found s.harts i.phase.roles k r (sym v.same) er in
-      subst (λ o. Within (Touch (ph i.at) k r) (written_by_one s o)) (sym h.1) (writes-by (prior ph i.at) (ph i.at) (g.code i.at i.within) s i.phase.roles i.phase.top k h.0 r v er h.1)
+      subst (λ o. Within (Touch (ph i.at) k r) (written_by_one s o)) (sym h.1) (writes-by (prior ph i.at) (ph i.at) (g.code i.at i.within) s i.phase.roles
+      i.phase.top k h.0 r v er h.1)
 
-  gate-unwritten : (s : State) (i : InProgram ph last s) (k c : ℕ) (r : Role) → slice_get i.phase.roles k ≡ Some r → c ≤ last → ((r ≡ Adding) → c ≢ i.at) → is_word_in (gate_word c) (written_next s k) ≡ false
-  gate-unwritten s i k c r er lc n = no-word (Touch (ph i.at) k r) (gate_word c) (written_next s k) (writes-role s i k r er) (λ b l h. gate-untouched i.at c k i.within lc r n b l h)
+  gate-unwritten : (s : State) (i : InProgram ph last s) (k c : ℕ) (r : Role) → slice_get i.phase.roles k ≡ Some r → c ≤ last → ((r ≡ Adding) → c ≢ i.at)
+      → is_word_in (gate_word c) (written_next s k) ≡ false
+  gate-unwritten s i k c r er lc n = no-word (Touch (ph i.at) k r) (gate_word c) (written_next s k) (writes-role s i k r er) (λ b l h. gate-untouched i.at c k
+      i.within lc r n b l h)
 
   module _ (x : ℕ) (counts : ℕ → ℕ) (known : List ℕ) (s : State) (k : ℕ) (i : InProgram ph last s) (f : Seen last x i.at i.phase.roles counts known) where
     abbrev counts1 : ℕ → ℕ
@@ -169,7 +176,8 @@ module _ (ph : ℕ → Phase) (last : ℕ) (g : Program ph last) where
     known1 = or_known (k == x) (written_next s k) known
 
     -- where nothing is marked
-    unmarked : (rs : List Role) → ((c : ℕ) → c ≤ last → mark x c s k ≡ 0) → known1 ≡ known → ((q : Role) → slice_get rs x ≡ Some q → slice_get i.phase.roles x ≡ Some q) → Seen last x i.at rs counts1 known1
+    unmarked : (rs : List Role) → ((c : ℕ) → c ≤ last → mark x c s k ≡ 0) → known1 ≡ known → ((q : Role) → slice_get rs x ≡ Some q
+        → slice_get i.phase.roles x ≡ Some q) → Seen last x i.at rs counts1 known1
     unmarked rs m e same = record {
       most = λ c l. let a = m c l in let b = f.most c l in omega (arith, a, b);
       now = λ q eq. let a = m i.at i.within in let b = f.now q (same q eq) in omega (arith, a, b);
@@ -177,15 +185,20 @@ module _ (ph : ℕ → Phase) (last : ℕ) (g : Program ph last) where
       marked = λ q eq a. ap (is_word_in (gate_word i.at)) e ∙ f.marked q (same q eq) a;
     }
 
-    own-turn : (r r1 : Role) (top1 : ℕ) → k ≡ x → slice_get i.phase.roles k ≡ Some r → Becomes (ph i.at) i.phase.top (total has_added i.phase.roles) r r1 top1 → Seen last x i.at (set i.phase.roles k r1) counts1 known1
+    own-turn : (r r1 : Role) (top1 : ℕ) → k ≡ x → slice_get i.phase.roles k ≡ Some r → Becomes (ph i.at) i.phase.top (total has_added i.phase.roles) r r1 top1
+        → Seen last x i.at (set i.phase.roles k r1) counts1 known1
     own-turn r r1 top1 ex er b =
         let rx : slice_get i.phase.roles x ≡ Some r = subst (λ y. slice_get i.phase.roles y ≡ Some r) ex er in
-        let there : (q : Role) → slice_get (set i.phase.roles k r1) x ≡ Some q → r1 ≡ q = λ q eq. let u : slice_get (set i.phase.roles k r1) x ≡ Some r1 = subst (λ y. slice_get (set i.phase.roles k r1) y ≡ Some r1) ex (slice_get-set_same i.phase.roles k r r1 er) in cc in
+        let there : (q : Role) → slice_get (set i.phase.roles k r1) x ≡ Some q → r1 ≡ q = λ q eq. let u : slice_get (set i.phase.roles k r1) x ≡ Some r1 =
+        subst (λ y. slice_get (set i.phase.roles k r1) y ≡ Some r1) ex (slice_get-set_same i.phase.roles k r r1 er) in cc in
         let own : (k == x) ≡ true = eq-true k x ex in
         let other : (c : ℕ) → c ≤ last → ((r ≡ Adding) → c ≢ i.at) → mark x c s k ≡ 0 = λ c l n. no-mark x c s k (gate-unwritten s i k c r er l n) in
         let here : counts1 i.at ≤ has_added r1 = elim (adds-or r) [
-          | inl a ↦ let y = f.now r rx in let z : has_added r ≡ 0 = ap has_added a in let w : has_added r1 ≡ 1 = ap has_added ((subst (λ q. Becomes (ph i.at) i.phase.top (total has_added i.phase.roles) q r1 top1) a b).1) in let m = mark-most x i.at s k in omega (arith, y, z, w, m)
-          | inr a ↦ let y = f.now r rx in let z = added-grows (ph i.at) i.phase.top (total has_added i.phase.roles) r r1 top1 b in let m = other i.at i.within (λ e. absurd (a e)) in omega (arith, y, z, m)
+          | inl a ↦ let y = f.now r rx in let z : has_added r ≡ 0 = ap has_added a in let w : has_added r1 ≡ 1 =
+              ap has_added ((subst (λ q. Becomes (ph i.at) i.phase.top (total has_added i.phase.roles) q r1 top1) a b).1) in let m = mark-most x i.at s k in
+              omega (arith, y, z, w, m)
+          | inr a ↦ let y = f.now r rx in let z = added-grows (ph i.at) i.phase.top (total has_added i.phase.roles) r r1 top1 b in let m =
+              other i.at i.within (λ e. absurd (a e)) in omega (arith, y, z, m)
         ] in record {
           most = λ c l. elim (cases_eq c i.at) [
             | inl e ↦ let z = added-one r1 in let y : counts1 c ≡ counts1 i.at = ap counts1 e in omega (arith, here, z, y)
@@ -195,7 +208,8 @@ module _ (ph : ℕ → Phase) (last : ℕ) (g : Program ph last) where
           later = λ c a l. let m = other c l (λ u e. omega (arith, a, e)) in let y = f.later c a l in omega (arith, m, y);
           marked = λ q eq a. elim (added-from (ph i.at) i.phase.top (total has_added i.phase.roles) r r1 top1 b (ap has_added (there q eq) ∙ a)) [
             | inl e ↦ gate-marked (subst (λ y. slice_get i.phase.roles k ≡ Some y) e er) own
-            | inr e ↦ ap (λ ps. is_word_in (gate_word i.at) (or_known (k == x) ps known)) (added-quiet (ph i.at) k r (written_next s k) e (writes-role s i k r er)) ∙ f.marked r rx e
+            | inr e ↦ ap (λ ps. is_word_in (gate_word i.at) (or_known (k == x) ps known)) (added-quiet (ph i.at) k r (written_next s k) e
+                (writes-role s i k r er)) ∙ f.marked r rx e
           ];
         }
       where
@@ -221,13 +235,16 @@ module _ (ph : ℕ → Phase) (last : ℕ) (g : Program ph last) where
             let v = i.phase.inv in
             let h = found s.harts i.phase.roles k Adding (sym v.same) e in
             let t : (ph i.at).gate ≡ gate_word i.at = let a = g.tickets i.at i.within in let u = (g.code i.at i.within).two_words in omega (arith, a, u) in
-            ap (λ ps. is_word_in (gate_word i.at) (or_known (k == x) ps known)) (add-writes (prior ph i.at) (ph i.at) (g.code i.at i.within) i.phase.roles i.phase.top s k h.0 v h.1 e)
-            ∙ subst (λ w. is_word_in w (or_known (k == x) (touched (one_access Word (ph i.at).gate)) known) ≡ true) t (own-word (k == x) (ph i.at).gate known own)
+            ap (λ ps. is_word_in (gate_word i.at) (or_known (k == x) ps known)) (add-writes (prior ph i.at) (ph i.at) (g.code i.at i.within) i.phase.roles
+            i.phase.top s k h.0 v h.1 e)
+            ∙ subst (λ w. is_word_in w (or_known (k == x) (touched (one_access Word (ph i.at).gate)) known) ≡ true) t (own-word (k == x) (ph i.at).gate known
+            own)
 
     after-turn : (rs : List Role) (next : ℕ) → RolesAfter (ph i.at) i.phase.top s k i.phase.roles rs next → Seen last x i.at rs counts1 known1
     after-turn rs next (inl e) =
         let none : written_next s k ≡ [] = ap (written_by_one s) e.0 in
-        unmarked rs (λ c l. no-mark x c s k (ap (is_word_in (gate_word c)) none)) (ap (λ ps. or_known (k == x) ps known) none) (λ q eq. subst (λ l. slice_get l x ≡ Some q) e.1 eq)
+        unmarked rs (λ c l. no-mark x c s k (ap (is_word_in (gate_word c)) none)) (ap (λ ps. or_known (k == x) ps known) none)
+        (λ q eq. subst (λ l. slice_get l x ≡ Some q) e.1 eq)
     after-turn rs next (inr e) = elim (cases_eq k x) [
       | inl y ↦ subst (λ l. Seen last x i.at l counts1 known1) (sym e.4) (own-turn e.0 e.1 e.2 y e.3 e.5)
       | inr n ↦
@@ -238,11 +255,13 @@ module _ (ph : ℕ → Phase) (last : ℕ) (g : Program ph last) where
 
     settled : (w : Went ph last s k i) → Seen last x w.to.at w.to.phase.roles counts1 known1
     settled w = elim w.settled [
-      | inl e ↦ subst (λ a. Seen last x a w.to.phase.roles counts1 known1) (sym e.0) (subst (λ l. Seen last x i.at l counts1 known1) (sym e.1) (after-turn w.rs w.next w.after))
+      | inl e ↦ subst (λ a. Seen last x a w.to.phase.roles counts1 known1) (sym e.0) (subst (λ l. Seen last x i.at l counts1 known1) (sym e.1)
+          (after-turn w.rs w.next w.after))
       | inr e ↦
           let o = after-turn w.rs w.next w.after in
           let in1 : suc i.at ≤ last = let a = e.0 in let b = w.to.within in omega (arith, a, b) in
-          let none : (q : Role) → slice_get w.to.phase.roles x ≡ Some q → has_added q ≡ 0 = λ q eq. come-added w.rs x q (subst (λ l. slice_get l x ≡ Some q) e.1 eq) in
+          let none : (q : Role) → slice_get w.to.phase.roles x ≡ Some q
+          → has_added q ≡ 0 = λ q eq. come-added w.rs x q (subst (λ l. slice_get l x ≡ Some q) e.1 eq) in
           record {
             most = o.most;
             now = λ q eq. let a = o.later (suc i.at) (omega arith) in1 in let y : counts1 w.to.at ≡ counts1 (suc i.at) = ap counts1 e.0 in omega (arith, a, y);
@@ -254,7 +273,8 @@ module _ (ph : ℕ → Phase) (last : ℕ) (g : Program ph last) where
   -- a run adds to the counts, and tells what was written last
   pub seen-run : (x : ℕ) (ks : List ℕ) (counts : ℕ → ℕ) (known : List ℕ) (s : State) (i : InProgram ph last s) → Seen last x i.at i.phase.roles counts known
       → ((c : ℕ) → c ≤ last → counts c + times_written x (gate_word c) s ks ≤ 1)
-      × ((q : Role) → slice_get (all ph last g s ks i).phase.roles x ≡ Some q → has_added q ≡ 1 → is_word_in (gate_word (all ph last g s ks i).at) (last_written x known s ks) ≡ true)
+      × ((q : Role) → slice_get (all ph last g s ks i).phase.roles x ≡ Some q → has_added q ≡ 1
+      → is_word_in (gate_word (all ph last g s ks i).at) (last_written x known s ks) ≡ true)
   unfolding all
   seen-run x [] counts known s i f = (λ c l. let a = f.most c l in omega (arith, a), f.marked)
   seen-run x (k ∷ ks) counts known s i f =
@@ -265,7 +285,8 @@ module _ (ph : ℕ → Phase) (last : ℕ) (g : Program ph last) where
       more : (c : ℕ) → (counts c + mark x c s k) + times_written x (gate_word c) (turn s k) ks ≤ 1 → counts c + times_written x (gate_word c) s (k ∷ ks) ≤ 1
       more c a = omega (arith, a)
 
-  pub first-seen : (x entry : ℕ) (memory : List ℕ) (o : Opens (ph 0) entry memory) → Seen last x (opening ph last entry memory g o).at (opening ph last entry memory g o).phase.roles (λ c. 0) []
+  pub first-seen : (x entry : ℕ) (memory : List ℕ) (o : Opens (ph 0) entry memory)
+      → Seen last x (opening ph last entry memory g o).at (opening ph last entry memory g o).phase.roles (λ c. 0) []
   first-seen x entry memory o = record {
     most = λ c l. omega arith;
     now = λ q e. omega arith;
@@ -275,4 +296,5 @@ module _ (ph : ℕ → Phase) (last : ℕ) (g : Program ph last) where
 
 pub gate-once : GateOnce
 gate-once ph last entry memory turns g o k hart l =
-    let a = (seen-run ph last g hart turns (λ c. 0) [] (start (ph 0) entry memory) (opening ph last entry memory g o) (first-seen ph last g hart entry memory o)).0 k l in omega (arith, a)
+    let a = (seen-run ph last g hart turns (λ c. 0) [] (start (ph 0) entry memory) (opening ph last entry memory g o) (first-seen ph last g hart entry memory
+    o)).0 k l in omega (arith, a)

@@ -131,7 +131,8 @@ Leads place hart =
     × ((if is_in 0x0020000C (written_next (at place) hart) then Some hart else seconds place) ≡ seconds (next place hart))
 
 before : (a : Early) (b : Early) (hart : ℕ) → Leads (Before a b) hart
-unfolding at decoded decode.rd_of decode.rs1_of decode.rs2_of decode.i_immediate_of decode.s_immediate_of decode.u_immediate_of decode.b_offset_of decode.j_offset_of key_in scalar_table r_type i_type s_type b_type u_type j_type amo_type whole_word fixed span
+unfolding at decoded decode.rd_of decode.rs1_of decode.rs2_of decode.i_immediate_of decode.s_immediate_of decode.u_immediate_of decode.b_offset_of
+    decode.j_offset_of key_in scalar_table r_type i_type s_type b_type u_type j_type amo_type whole_word fixed span
 before E0 E0 zero = (refl, refl, refl)
 before E0 E0 (suc zero) = (refl, refl, refl)
 before E0 E0 (suc (suc k)) = (refl, refl, refl)
@@ -146,7 +147,8 @@ before E1 E1 (suc zero) = (refl, refl, refl)
 before E1 E1 (suc (suc k)) = (refl, refl, refl)
 
 won : (a : Ahead) (b : Behind) (hart : ℕ) → Leads (Won a b) hart
-unfolding at decoded decode.rd_of decode.rs1_of decode.rs2_of decode.i_immediate_of decode.s_immediate_of decode.u_immediate_of decode.b_offset_of decode.j_offset_of key_in scalar_table r_type i_type s_type b_type u_type j_type amo_type whole_word fixed span
+unfolding at decoded decode.rd_of decode.rs1_of decode.rs2_of decode.i_immediate_of decode.s_immediate_of decode.u_immediate_of decode.b_offset_of
+    decode.j_offset_of key_in scalar_table r_type i_type s_type b_type u_type j_type amo_type whole_word fixed span
 won A2 B0 zero = (refl, refl, refl)
 won A2 B0 (suc zero) = (refl, refl, refl)
 won A2 B0 (suc (suc k)) = (refl, refl, refl)
@@ -224,7 +226,8 @@ won A6 B4 (suc zero) = (refl, refl, refl)
 won A6 B4 (suc (suc k)) = (refl, refl, refl)
 
 lost : (a : Ahead) (b : Behind) (hart : ℕ) → Leads (Lost a b) hart
-unfolding at decoded decode.rd_of decode.rs1_of decode.rs2_of decode.i_immediate_of decode.s_immediate_of decode.u_immediate_of decode.b_offset_of decode.j_offset_of key_in scalar_table r_type i_type s_type b_type u_type j_type amo_type whole_word fixed span
+unfolding at decoded decode.rd_of decode.rs1_of decode.rs2_of decode.i_immediate_of decode.s_immediate_of decode.u_immediate_of decode.b_offset_of
+    decode.j_offset_of key_in scalar_table r_type i_type s_type b_type u_type j_type amo_type whole_word fixed span
 lost A2 B0 zero = (refl, refl, refl)
 lost A2 B0 (suc zero) = (refl, refl, refl)
 lost A2 B0 (suc (suc k)) = (refl, refl, refl)
@@ -350,11 +353,13 @@ never_apart turns first second e f =
     (sym (second_after turns (Before E0 E0)) ∙ (ap (λ state. last_writer 0x0020000C None state turns) (sym begun) ∙ f))
 
 both-0 : DoesBoth 0
-unfolding decoded decode.rd_of decode.rs1_of decode.rs2_of decode.i_immediate_of decode.s_immediate_of decode.u_immediate_of decode.b_offset_of decode.j_offset_of key_in scalar_table r_type i_type s_type b_type u_type j_type amo_type whole_word fixed span
+unfolding decoded decode.rd_of decode.rs1_of decode.rs2_of decode.i_immediate_of decode.s_immediate_of decode.u_immediate_of decode.b_offset_of
+    decode.j_offset_of key_in scalar_table r_type i_type s_type b_type u_type j_type amo_type whole_word fixed span
 both-0 = (0 ∷ 0 ∷ 0 ∷ 0 ∷ 0 ∷ 0 ∷ 1 ∷ 1 ∷ 1 ∷ 1 ∷ [], refl, refl, refl)
 
 both-1 : DoesBoth 1
-unfolding decoded decode.rd_of decode.rs1_of decode.rs2_of decode.i_immediate_of decode.s_immediate_of decode.u_immediate_of decode.b_offset_of decode.j_offset_of key_in scalar_table r_type i_type s_type b_type u_type j_type amo_type whole_word fixed span
+unfolding decoded decode.rd_of decode.rs1_of decode.rs2_of decode.i_immediate_of decode.s_immediate_of decode.u_immediate_of decode.b_offset_of
+    decode.j_offset_of key_in scalar_table r_type i_type s_type b_type u_type j_type amo_type whole_word fixed span
 both-1 = (1 ∷ 1 ∷ 1 ∷ 1 ∷ 1 ∷ 1 ∷ 0 ∷ 0 ∷ 0 ∷ 0 ∷ [], refl, refl, refl)
 
 pub first-does-all : FirstDoesAll

@@ -33,18 +33,23 @@ module _ (ph : ℕ → Phase) (last : ℕ) (g : Program ph last) where
       let v = i.phase.inv in
       ap (λ t. word_at t s.memory (gate_word i.at)) v.text ∙ ap (word_at (ph i.at).text s.memory) (sym (gate-is i.at i.within)) ∙ v.gates
 
-  stays : (s : State) (i : InProgram ph last s) (k c : ℕ) (r : Role) (h : HartState) → slice_get i.phase.roles k ≡ Some r → slice_get s.harts k ≡ Some h → c ≤ last → c ≢ i.at → gate_at (turn s k) c ≡ gate_at s c
+  stays : (s : State) (i : InProgram ph last s) (k c : ℕ) (r : Role) (h : HartState) → slice_get i.phase.roles k ≡ Some r → slice_get s.harts k ≡ Some h
+      → c ≤ last → c ≢ i.at → gate_at (turn s k) c ≡ gate_at s c
   stays s i k c r h er eh lc n =
       let p = ph i.at in
       let e = effect s.text s.memory h in
       let m1 = put s.memory e.places e.bytes in
-      let w : Within (Touch p k r) e.places = subst (Within (Touch p k r)) (sym (places-are s.text s.memory h)) (writes-by (prior ph i.at) p (g.code i.at i.within) s i.phase.roles i.phase.top k h r i.phase.inv er eh) in
-      let byte : (b : ℕ) → gate_word c ≤ b → b < gate_word c + 4 → byte_at s.text m1 b ≡ byte_at s.text s.memory b = λ b l u. byte-put s.text s.memory e.places e.bytes b (not-in (Touch p k r) b e.places (gate-untouched ph last g i.at c k i.within lc r (λ x. n) b l u) w) in
+      let w : Within (Touch p k r) e.places = subst (Within (Touch p k r)) (sym (places-are s.text s.memory h)) (writes-by (prior ph i.at) p
+      (g.code i.at i.within) s i.phase.roles i.phase.top k h r i.phase.inv er eh) in
+      let byte : (b : ℕ) → gate_word c ≤ b → b < gate_word c + 4 → byte_at s.text m1 b ≡ byte_at s.text s.memory b = λ b l u. byte-put s.text s.memory e.places
+      e.bytes b (not-in (Touch p k r) b e.places (gate-untouched ph last g i.at c k i.within lc r (λ x. n) b l u) w) in
       ap (λ x. word_at x.text x.memory (gate_word c)) (turn-is s k h e eh refl)
-      ∙ word-same s.text m1 s.memory (gate_word c) (byte (gate_word c) (omega arith) (omega arith)) (byte (gate_word c + 1) (omega arith) (omega arith)) (byte (gate_word c + 2) (omega arith) (omega arith)) (byte (gate_word c + 3) (omega arith) (omega arith))
+      ∙ word-same s.text m1 s.memory (gate_word c) (byte (gate_word c) (omega arith) (omega arith)) (byte (gate_word c + 1) (omega arith) (omega arith))
+      (byte (gate_word c + 2) (omega arith) (omega arith)) (byte (gate_word c + 3) (omega arith) (omega arith))
 
   -- in the phase under way
-  grows-here : (s : State) (i : InProgram ph last s) (k : ℕ) (w : Went ph last s k i) (r r1 : Role) (top1 : ℕ) → slice_get i.phase.roles k ≡ Some r → w.rs ≡ set i.phase.roles k r1 → Becomes (ph i.at) i.phase.top (total has_added i.phase.roles) r r1 top1 → gate_at s i.at ≤ gate_at (turn s k) i.at
+  grows-here : (s : State) (i : InProgram ph last s) (k : ℕ) (w : Went ph last s k i) (r r1 : Role) (top1 : ℕ) → slice_get i.phase.roles k ≡ Some r
+      → w.rs ≡ set i.phase.roles k r1 → Becomes (ph i.at) i.phase.top (total has_added i.phase.roles) r r1 top1 → gate_at s i.at ≤ gate_at (turn s k) i.at
   grows-here s i k w r r1 top1 er e b = elim w.settled [
     | inl x ↦
         let a = here s i in
@@ -58,9 +63,11 @@ module _ (ph : ℕ → Phase) (last : ℕ) (g : Program ph last) where
         let s1 = turn s k in
         let below : i.at < last = let y = x.0 in let u = w.to.within in omega (arith, y, u) in
         let l = (g.follows i.at below).link in
-        let came : word_at (ph (suc i.at)).text s1.memory (ph i.at).gate ≡ (ph (suc i.at)).harts = subst (λ c. Link (prior ph c) (ph c) → word_at (ph c).text s1.memory (prior ph c).gate ≡ (ph c).harts) x.0 w.to.phase.inv.came l in
+        let came : word_at (ph (suc i.at)).text s1.memory (ph i.at).gate ≡ (ph (suc i.at)).harts = subst (λ c. Link (prior ph c) (ph c)
+        → word_at (ph c).text s1.memory (prior ph c).gate ≡ (ph c).harts) x.0 w.to.phase.inv.came l in
         let text : s1.text ≡ (ph (suc i.at)).text = w.to.phase.inv.text ∙ ap (λ c. (ph c).text) x.0 in
-        let d : gate_at s1 i.at ≡ (ph (suc i.at)).harts = ap (λ t. word_at t s1.memory (gate_word i.at)) text ∙ ap (word_at (ph (suc i.at)).text s1.memory) (sym (gate-is i.at i.within)) ∙ came in
+        let d : gate_at s1 i.at ≡ (ph (suc i.at)).harts = ap (λ t. word_at t s1.memory (gate_word i.at)) text
+        ∙ ap (word_at (ph (suc i.at)).text s1.memory) (sym (gate-is i.at i.within)) ∙ came in
         let m = total-most has_added added-most i.phase.roles in
         let y = i.phase.inv.same in
         let z = i.phase.inv.many in

@@ -1,7 +1,8 @@
 -- Who wrote a byte last, along parts of a run in which one hart alone has turns.
 use Rattle.multi_hart_logic.specs.Alone.{Covers}
 use Rattle.multi_hart.specs.Run.{is_in, writes, State, turn, run}
-use Rattle.std.proofs.Common.{◌≡◌, ℕ, zero, suc, ◌+◌, ◌<◌, ◌≤◌, List, [], ◌∷◌, ◌++◌, length, set, Option, Some, Bool, true, false, refl, ap, ◌∙◌, sym, subst, arith, inl, inr}
+use Rattle.std.proofs.Common.{◌≡◌, ℕ, zero, suc, ◌+◌, ◌<◌, ◌≤◌, List, [], ◌∷◌, ◌++◌, length, set, Option, Some, Bool, true, false, refl, ap, ◌∙◌, sym, subst}
+use Rattle.std.proofs.Common.{arith, inl, inr}
 use Rattle.std.specs.Prelude.{◌⊎◌, slice_get, cond}
 use Rattle.std.proofs.lemmas.Bool.{cases_Bool}
 use Rattle.memory.specs.Access.{word_at}
@@ -27,11 +28,13 @@ last-append a o s [] ys = refl
 last-append a o s (k ∷ xs) ys = last-append a (marked a o s k) (turn s k) xs ys
 
 -- a byte that the role does not write keeps its writer
-unmarked : (z p : Phase) (c : Code p) (roles : List Role) (top : ℕ) (s : State) (k : ℕ) (r : Role) (a : ℕ) (o : Option ℕ) → Inv z p roles top s → slice_get roles k ≡ Some r → (Touch p k r a → ⊥) → marked a o s k ≡ o
+unmarked : (z p : Phase) (c : Code p) (roles : List Role) (top : ℕ) (s : State) (k : ℕ) (r : Role) (a : ℕ) (o : Option ℕ) → Inv z p roles top s
+    → slice_get roles k ≡ Some r → (Touch p k r a → ⊥) → marked a o s k ≡ o
 unmarked z p c roles top s k r a o v er n =
     let h = found s.harts roles k r (sym v.same) er in
     let y = writes-by z p c s roles top k h.0 r v er h.1 in
-    let e : marked a o s k ≡ cond (is_in a (writes (next_of s.text (length s.memory) h.0) h.0)) (Some k) o = ap (λ q. cond (is_in a (written_by_one s q)) (Some k) o) h.1 in
+    let e : marked a o s k ≡ cond (is_in a (writes (next_of s.text (length s.memory) h.0) h.0)) (Some k) o =
+    ap (λ q. cond (is_in a (written_by_one s q)) (Some k) o) h.1 in
     elim (cases_Bool (is_in a (writes (next_of s.text (length s.memory) h.0) h.0))) [
       | inl t ↦ absurd (n (in-within (Touch p k r) a (writes (next_of s.text (length s.memory) h.0) h.0) t y))
       | inr f ↦ e ∙ ap (λ b. cond b (Some k) o) f
@@ -91,7 +94,8 @@ pub record Part (z p : Phase) (roles : List Role) (k t : ℕ) (top : ℕ) (s : S
   pub other : (u a : ℕ) (o : Option ℕ) → p.uses a ≡ Owned u → (t ≡ u → ⊥) → last_writer a o s turns ≡ o
   pub mine : (a : ℕ) (o : Option ℕ) → p.uses a ≡ Owned t → C a o → last_writer a o s turns ≡ Some k
 
-module _ (z p : Phase) (c : Code p) (td : TaskDone p) (behind-it : HasGate p ⊎ HasEnd p) (k : ℕ) (roles : List Role) (r0 : Role) (e0 : slice_get roles k ≡ Some r0) where
+module _ (z p : Phase) (c : Code p) (td : TaskDone p) (behind-it : HasGate p ⊎ HasEnd p) (k : ℕ) (roles : List Role) (r0 : Role) (e0 : slice_get roles k
+    ≡ Some r0) where
   abbrev w : Role → List Role
   w r = set roles k r
 
@@ -103,7 +107,8 @@ module _ (z p : Phase) (c : Code p) (td : TaskDone p) (behind-it : HasGate p ⊎
   skip-one : (r : Role) (top : ℕ) (s : State) → IsCalm r → Inv z p (w r) top s → Skips p s (k ∷ [])
   skip-one r top s q v u a o e = unmarked z p c (w r) top s k r a o v (at r) (calm-role p k r a u q e)
 
-  then-calm : (r : Role) (top : ℕ) (s : State) → IsCalm r → Inv z p (w r) top s → (r1 : Role) (top1 : ℕ) → Calm z p roles k r1 top1 (turn s k) → Calm z p roles k r1 top1 s
+  then-calm : (r : Role) (top : ℕ) (s : State) → IsCalm r → Inv z p (w r) top s → (r1 : Role) (top1 : ℕ) → Calm z p roles k r1 top1 (turn s k)
+      → Calm z p roles k r1 top1 s
   then-calm r top s q v r1 top1 g = record {
     turns = k ∷ g.turns;
     only = (refl, g.only);
@@ -122,21 +127,24 @@ module _ (z p : Phase) (c : Code p) (td : TaskDone p) (behind-it : HasGate p ⊎
   from-setup (suc j) m top s v =
       let r = Inside Setup (suc j) m in
       let y = one z p c td behind-it k roles r0 e0 r top s v (out z p c td behind-it k roles r0 e0 r top s v refl) in
-      then-calm r top s tt v Drawing top (from-setup j y.becomes.1.0 top (turn s k) (again z p c td behind-it k roles r0 e0 r top s y (Inside Setup j y.becomes.1.0) top y.becomes.1.1 y.becomes.0))
+      then-calm r top s tt v Drawing top (from-setup j y.becomes.1.0 top (turn s k) (again z p c td behind-it k roles r0 e0 r top s y
+      (Inside Setup j y.becomes.1.0) top y.becomes.1.1 y.becomes.0))
 
   from-asked : (top : ℕ) (s : State) → Inv z p (w (Asked p.harts)) top s → Calm z p roles k Drawing top s
   from-asked top s v =
       let r = Asked p.harts in
       let y = one z p c td behind-it k roles r0 e0 r top s v (out z p c td behind-it k roles r0 e0 r top s v refl) in
       elim y.becomes.1 [
-        | inl a ↦ then-calm r top s tt v Drawing top (from-setup (p.turns Setup) a.1.0 top (turn s k) (again z p c td behind-it k roles r0 e0 r top s y (Inside Setup (p.turns Setup) a.1.0) top a.1.1 y.becomes.0))
+        | inl a ↦ then-calm r top s tt v Drawing top (from-setup (p.turns Setup) a.1.0 top (turn s k) (again z p c td behind-it k roles r0 e0 r top s y
+            (Inside Setup (p.turns Setup) a.1.0) top a.1.1 y.becomes.0))
         | inr a ↦ absurd (a.0 refl)
       ]
 
   from-before : (top : ℕ) (s : State) → Inv z p (w Before) top s → Calm z p roles k Drawing top s
   from-before top s v =
       let y = one z p c td behind-it k roles r0 e0 Before top s v (out z p c td behind-it k roles r0 e0 Before top s v refl) in
-      then-calm Before top s tt v Drawing top (from-asked top (turn s k) (again z p c td behind-it k roles r0 e0 Before top s y (Asked p.harts) top y.becomes.1 y.becomes.0))
+      then-calm Before top s tt v Drawing top (from-asked top (turn s k) (again z p c td behind-it k roles r0 e0 Before top s y (Asked p.harts) top y.becomes.1
+      y.becomes.0))
 
   pub to-draw : (r : Role) (top : ℕ) (s : State) → Early r → Inv z p (w r) top s → Calm z p roles k Drawing top s
   to-draw Before top s q v = from-before top s v
@@ -176,7 +184,8 @@ module _ (z p : Phase) (c : Code p) (td : TaskDone p) (behind-it : HasGate p ⊎
               record {
                 inv = again z p c td behind-it k roles r0 e0 Adding (top + 1) s2 y2 Looking (top + 1) y2.becomes.1 y2.becomes.0;
                 still_open = open-while Adding (top + 1) s2 refl v2;
-                skips = λ u b o e. skip-one Adding (top + 1) s2 tt v2 u b (marked b (marked b o s k) s1 k) e ∙ skip-one (Drew top) (top + 1) s1 tt v1 u b (marked b o s k) e ∙ skip-one Drawing top s tt v u b o e;
+                skips = λ u b o e. skip-one Adding (top + 1) s2 tt v2 u b (marked b (marked b o s k) s1 k) e
+                    ∙ skip-one (Drew top) (top + 1) s1 tt v1 u b (marked b o s k) e ∙ skip-one Drawing top s tt v u b o e;
               }
         ]
       ]
@@ -195,7 +204,8 @@ module _ (z p : Phase) (c : Code p) (td : TaskDone p) (behind-it : HasGate p ⊎
               let s2 = turn s1 k in
               let v2 = again z p c td behind-it k roles r0 e0 (Drew top) (top + 1) s1 y1 Leaving (top + 1) a.1 y1.becomes.0 in
               let y2 = one z p c td behind-it k roles r0 e0 Leaving (top + 1) s2 v2 (inr he) in
-              then-calm Drawing top s tt v Over (top + 1) (then-calm (Drew top) (top + 1) s1 tt v1 Over (top + 1) (then-calm Leaving (top + 1) s2 tt v2 Over (top + 1)
+              then-calm Drawing top s tt v Over (top + 1) (then-calm (Drew top) (top + 1) s1 tt v1 Over (top + 1) (then-calm Leaving (top + 1) s2 tt v2 Over
+              (top + 1)
               (stay Over (top + 1) (turn s2 k) (again z p c td behind-it k roles r0 e0 Leaving (top + 1) s2 y2 Over (top + 1) y2.becomes.1 y2.becomes.0))))
         ]
       ]
@@ -206,17 +216,20 @@ module _ (z p : Phase) (c : Code p) (td : TaskDone p) (behind-it : HasGate p ⊎
     Will n h m a o = (o ≡ Some k) ⊎ Covers p.text p.size n h m a
 
     -- after a turn inside task t
-    first-mark : (t j : ℕ) (m : List ℕ) (top : ℕ) (s : State) (h : HartState) (n : ℕ) → slice_get s.harts k ≡ Some h → Inv z p (w (Inside (Task t) j m)) top s → (a : ℕ) (o : Option ℕ) → Will (suc n) h m a o → Will n (step p.text m h).hart (step p.text m h).memory a (marked a o s k)
+    first-mark : (t j : ℕ) (m : List ℕ) (top : ℕ) (s : State) (h : HartState) (n : ℕ) → slice_get s.harts k ≡ Some h → Inv z p (w (Inside (Task t) j m)) top s
+        → (a : ℕ) (o : Option ℕ) → Will (suc n) h m a o → Will n (step p.text m h).hart (step p.text m h).memory a (marked a o s k)
     first-mark t j m top s h n eh v a o (inl e) = inl (ap (λ q. marked a q s k) e ∙ either a s k)
     first-mark t j m top s h n eh v a o (inr (inl e)) =
-        inl (ap (λ q. cond (is_in a (written_by_one s q)) (Some k) o) eh ∙ ap (λ l. cond (is_in a (writes (next_of s.text l h) h)) (Some k) o) v.size ∙ ap (λ x. cond (is_in a (writes (next_of x p.size h) h)) (Some k) o) v.text ∙ ap (λ b. cond b (Some k) o) e)
+        inl (ap (λ q. cond (is_in a (written_by_one s q)) (Some k) o) eh ∙ ap (λ l. cond (is_in a (writes (next_of s.text l h) h)) (Some k) o) v.size
+        ∙ ap (λ x. cond (is_in a (writes (next_of x p.size h) h)) (Some k) o) v.text ∙ ap (λ b. cond b (Some k) o) e)
     first-mark t j m top s h n eh v a o (inr (inr e)) = inr e
 
     no-more : (h : HartState) (m : List ℕ) (a : ℕ) (o : Option ℕ) → Will zero h m a o → o ≡ Some k
     no-more h m a o (inl e) = e
     no-more h m a o (inr e) = absurd e
 
-    inside : (t j : ℕ) (m : List ℕ) (top : ℕ) (s : State) (h : HartState) → slice_get s.harts k ≡ Some h → Inv z p (w (Inside (Task t) j m)) top s → Part z p roles k t top s (Will (suc j) h m)
+    inside : (t j : ℕ) (m : List ℕ) (top : ℕ) (s : State) (h : HartState) → slice_get s.harts k ≡ Some h → Inv z p (w (Inside (Task t) j m)) top s
+        → Part z p roles k t top s (Will (suc j) h m)
     inside t zero m top s h eh v =
         let r = Inside (Task t) zero m in
         let y = one z p c td behind-it k roles r0 e0 r top s v (out z p c td behind-it k roles r0 e0 r top s v refl) in
@@ -254,6 +267,7 @@ module _ (z p : Phase) (c : Code p) (td : TaskDone p) (behind-it : HasGate p ⊎
           turns = k ∷ k ∷ g.turns;
           only = (refl, (refl, g.only));
           inv = g.inv;
-          other = λ u a o e ne. g.other u a (marked a (marked a o s k) s1 k) e ne ∙ skip-one (Drew t) (t + 1) s1 tt v1 u a (marked a o s k) e ∙ skip-one Drawing t s tt v u a o e;
+          other = λ u a o e ne. g.other u a (marked a (marked a o s k) s1 k) e ne ∙ skip-one (Drew t) (t + 1) s1 tt v1 u a (marked a o s k) e
+              ∙ skip-one Drawing t s tt v u a o e;
           mine = λ a o e x. g.mine a (marked a (marked a o s k) s1 k) e (inr (n.2 a e x));
         }

@@ -1,5 +1,6 @@
 -- One turn keeps the invariant of a phase.
-use Rattle.std.proofs.Common.{◌≡◌, ℕ, zero, suc, ◌+◌, ◌<◌, ◌≤◌, List, [], ◌∷◌, length, set, Option, Some, refl, ap, ◌∙◌, sym, subst, arith, inl, inr, length-set}
+use Rattle.std.proofs.Common.{◌≡◌, ℕ, zero, suc, ◌+◌, ◌<◌, ◌≤◌, List, [], ◌∷◌, length, set, Option, Some, refl, ap, ◌∙◌, sym, subst, arith, inl, inr}
+use Rattle.std.proofs.Common.{length-set}
 use Rattle.std.specs.Prelude.{◌≢◌, ◌⊎◌, slice_get}
 use Rattle.std.proofs.lemmas.Bool.{cases_eq, cases_lt}
 use Rattle.memory.specs.Access.{byte_at, put, AreBytes, NotIn, word_at}
@@ -13,7 +14,8 @@ use Rattle.multi_hart_logic.specs.Uses.{Use, Control, Fixed, Owned, Private, Job
 use Rattle.vector_codegen_sharing.specs.Phases.{Phase}
 use Rattle.vector_codegen_sharing.specs.Solo.{Complete}
 use Rattle.vector_codegen_sharing.specs.Programs.{Link}
-use Rattle.vector_codegen_sharing.proofs.Roles.{Role, Before, Asked, Drawing, Drew, Inside, Adding, Looking, Looked, Leaving, Over, Has, is_past, has_added, total, IsDrawn, Holds, Held, Inv}
+use Rattle.vector_codegen_sharing.proofs.Roles.{Role, Before, Asked, Drawing, Drew, Inside, Adding, Looking, Looked, Leaving, Over, Has, is_past, has_added}
+use Rattle.vector_codegen_sharing.proofs.Roles.{total, IsDrawn, Holds, Held, Inv}
 
 -- lists
 pub slice_get-set_same : {X : Type 0} (xs : List X) (i : ℕ) (x y : X) → slice_get xs i ≡ Some x → slice_get (set xs i y) i ≡ Some y
@@ -37,10 +39,12 @@ pub same-get : {X : Type 0} (o : Option X) (x y : X) → o ≡ Some x → o ≡ 
 same-get o x y e f = cc
 
 -- what a set leaves at a place
-pub at-set : {X : Type 0} (xs : List X) (k l : ℕ) (x y z : X) → slice_get xs k ≡ Some x → slice_get (set xs k y) l ≡ Some z → (k ≡ l) × (z ≡ y) ⊎ (k ≢ l) × (slice_get xs l ≡ Some z)
+pub at-set : {X : Type 0} (xs : List X) (k l : ℕ) (x y z : X) → slice_get xs k ≡ Some x → slice_get (set xs k y) l ≡ Some z
+    → (k ≡ l) × (z ≡ y) ⊎ (k ≢ l) × (slice_get xs l ≡ Some z)
 at-set xs k l x y z e f =
     elim (cases_eq k l) [
-      | inl q ↦ let g : slice_get (set xs k y) k ≡ Some z = subst (λ i. slice_get (set xs k y) i ≡ Some z) (sym q) f in inl (q, same-get _ z y g (slice_get-set_same xs k x y e))
+      | inl q ↦ let g : slice_get (set xs k y) k ≡ Some z = subst (λ i. slice_get (set xs k y) i ≡ Some z) (sym q) f in
+          inl (q, same-get _ z y g (slice_get-set_same xs k x y e))
       | inr q ↦ inr (q, sym (slice_get-set_other xs k l y q) ∙ f)
     ]
 
@@ -189,20 +193,24 @@ drawn-on p top top1 Setup l d = d
 drawn-on p top top1 (Task t) l d = let q = d.1 in (d.0, omega (arith, q, l))
 
 -- another hart's part stands
-stands-on : (z p : Phase) (top top1 shut shut1 : ℕ) (mem ps bs : List ℕ) (k l : ℕ) (h : HartState) (r q : Role) → top ≤ top1 → shut ≤ shut1 → k ≢ l → Within (Touch p k r) ps → ((t : ℕ) → Has q t → Has r t → ⊥) → Holds z p top shut mem l h q → Holds z p top1 shut1 (put mem ps bs) l h q
+stands-on : (z p : Phase) (top top1 shut shut1 : ℕ) (mem ps bs : List ℕ) (k l : ℕ) (h : HartState) (r q : Role) → top ≤ top1 → shut ≤ shut1 → k ≢ l
+    → Within (Touch p k r) ps → ((t : ℕ) → Has q t → Has r t → ⊥) → Holds z p top shut mem l h q → Holds z p top1 shut1 (put mem ps bs) l h q
 stands-on z p top top1 shut shut1 mem ps bs k l h r Before lt ls ne w f o = o
 stands-on z p top top1 shut shut1 mem ps bs k l h r (Asked g) lt ls ne w f o = o
 stands-on z p top top1 shut shut1 mem ps bs k l h r Drawing lt ls ne w f o = o
-stands-on z p top top1 shut shut1 mem ps bs k l h r (Drew v) lt ls ne w f o = let q = o.1.1.0 in (o.0, (o.1.0, (omega (arith, q), λ a e. byte-put p.text mem ps bs a (not-in (Touch p k r) a ps (λ y. f v refl (owner p k r a v e y)) w) ∙ o.1.1.1 a e)))
+stands-on z p top top1 shut shut1 mem ps bs k l h r (Drew v) lt ls ne w f o = let q = o.1.1.0 in
+    (o.0, (o.1.0, (omega (arith, q), λ a e. byte-put p.text mem ps bs a (not-in (Touch p k r) a ps (λ y. f v refl (owner p k r a v e y)) w) ∙ o.1.1.1 a e)))
 stands-on z p top top1 shut shut1 mem ps bs k l h r (Inside x j m) lt ls ne w f o = record {
   drawn = drawn-on p top top1 x lt o.drawn;
   size = o.size;
-  agree = λ a e. byte-put p.text mem ps bs a (not-in (Touch p k r) a ps (λ y. clash p k l r x a y e ne (λ t d g. f t (inside-has x j m t g) d)) w) ∙ o.agree a e;
+  agree = λ a e. byte-put p.text mem ps bs a (not-in (Touch p k r) a ps (λ y. clash p k l r x a y e ne (λ t d g. f t (inside-has x j m t g) d)) w)
+      ∙ o.agree a e;
   soon = o.soon;
 }
 stands-on z p top top1 shut shut1 mem ps bs k l h r Adding lt ls ne w f o = let q = o.1.0 in (o.0, (omega (arith, q), o.1.1))
 stands-on z p top top1 shut shut1 mem ps bs k l h r Looking lt ls ne w f o = let q = o.1.0 in (o.0, (omega (arith, q), o.1.1))
-stands-on z p top top1 shut shut1 mem ps bs k l h r (Looked g) lt ls ne w f o = let q = o.1.1.1.0 in let x = o.1.1.0 in (o.0, (o.1.0, (omega (arith, x), (omega (arith, q), o.1.1.1.1))))
+stands-on z p top top1 shut shut1 mem ps bs k l h r (Looked g) lt ls ne w f o = let q = o.1.1.1.0 in let x = o.1.1.0 in
+    (o.0, (o.1.0, (omega (arith, x), (omega (arith, q), o.1.1.1.1))))
 stands-on z p top top1 shut shut1 mem ps bs k l h r Leaving lt ls ne w f o = let q = o.1.0 in (o.0, (omega (arith, q), o.1.1))
 stands-on z p top top1 shut shut1 mem ps bs k l h r Over lt ls ne w f o = let q = o.1.0 in (o.0, (omega (arith, q), o.1.1))
 
@@ -223,7 +231,9 @@ pub record Move (z p : Phase) (roles : List Role) (top : ℕ) (mem : List ℕ) (
 abbrev pub moved : State → ℕ → HartState → List ℕ → List ℕ → State
 moved s k h1 ps bs = record { text = s.text; memory = put s.memory ps bs; harts = set s.harts k h1 }
 
-module _ (z p : Phase) (tw : p.gate ≡ p.ticket + 4) (roles : List Role) (top : ℕ) (s : State) (k : ℕ) (r : Role) (h : HartState) (v : Inv z p roles top s) (er : slice_get roles k ≡ Some r) (eh : slice_get s.harts k ≡ Some h) (r1 : Role) (top1 : ℕ) (h1 : HartState) (ps bs : List ℕ) (m : Move z p roles top s.memory k r r1 top1 h1 ps bs) where
+module _ (z p : Phase) (tw : p.gate ≡ p.ticket + 4) (roles : List Role) (top : ℕ) (s : State) (k : ℕ) (r : Role) (h : HartState) (v : Inv z p roles top s)
+    (er : slice_get roles k ≡ Some r) (eh : slice_get s.harts k ≡ Some h) (r1 : Role) (top1 : ℕ) (h1 : HartState) (ps bs : List ℕ)
+    (m : Move z p roles top s.memory k r r1 top1 h1 ps bs) where
   abbrev mem1 : List ℕ
   mem1 = put s.memory ps bs
 
@@ -243,18 +253,22 @@ module _ (z p : Phase) (tw : p.gate ≡ p.ticket + 4) (roles : List Role) (top :
   apart-from : (l : ℕ) (q : Role) (t : ℕ) → k ≢ l → slice_get roles l ≡ Some q → Has q t → Has r1 t → ⊥
   apart-from l q t ne el hq hr = elim (m.new t hr) [
     | inl o ↦ v.one_each k l r q t ne er el o hq
-    | inr o ↦ let x = found s.harts roles l q (sym v.same) el in let y = has-below z p top (total has_added roles) s.memory l x.0 q t (v.holds l q x.0 el x.1) hq in absurd (omega (arith, o, y))
+    | inr o ↦ let x = found s.harts roles l q (sym v.same) el in let y = has-below z p top (total has_added roles) s.memory l x.0 q t (v.holds l q x.0 el x.1)
+        hq in absurd (omega (arith, o, y))
   ]
 
-  holds1 : (l : ℕ) (q : Role) (g : HartState) → slice_get roles1 l ≡ Some q → slice_get (set s.harts k h1) l ≡ Some g → Holds z p top1 (total has_added roles1) mem1 l g q
+  holds1 : (l : ℕ) (q : Role) (g : HartState) → slice_get roles1 l ≡ Some q → slice_get (set s.harts k h1) l ≡ Some g
+      → Holds z p top1 (total has_added roles1) mem1 l g q
   holds1 l q g el eg = elim (at-set roles k l r r1 q er el) [
     | inl a ↦ elim (at-set s.harts k l h h1 g eh eg) [
-      | inl b ↦ subst (λ i. Holds z p top1 (total has_added roles1) mem1 i g q) a.0 (subst (λ x. Holds z p top1 (total has_added roles1) mem1 k x q) (sym b.1) (subst (λ x. Holds z p top1 (total has_added roles1) mem1 k h1 x) (sym a.1) m.holds))
+      | inl b ↦ subst (λ i. Holds z p top1 (total has_added roles1) mem1 i g q) a.0 (subst (λ x. Holds z p top1 (total has_added roles1) mem1 k x q) (sym b.1)
+          (subst (λ x. Holds z p top1 (total has_added roles1) mem1 k h1 x) (sym a.1) m.holds))
       | inr b ↦ absurd (b.0 a.0)
     ]
     | inr a ↦ elim (at-set s.harts k l h h1 g eh eg) [
       | inl b ↦ absurd (a.0 b.0)
-      | inr b ↦ stands-on z p top top1 (total has_added roles) (total has_added roles1) s.memory ps bs k l g r q m.more more-added a.0 m.touch (λ t x y. v.one_each k l r q t a.0 er a.1 y x) (v.holds l q g a.1 b.1)
+      | inr b ↦ stands-on z p top top1 (total has_added roles) (total has_added roles1) s.memory ps bs k l g r q m.more more-added a.0 m.touch
+          (λ t x y. v.one_each k l r q t a.0 er a.1 y x) (v.holds l q g a.1 b.1)
     ]
   ]
 
@@ -277,7 +291,8 @@ module _ (z p : Phase) (tw : p.gate ≡ p.ticket + 4) (roles : List Role) (top :
   kept-held t n d = record {
     by = d.by;
     role = d.role;
-    at = slice_get-set_other roles k d.by r1 (λ e. n (subst (λ x. Has x t) (same-get (slice_get roles k) d.role r (subst (λ i. slice_get roles i ≡ Some d.role) (sym e) d.at) er) d.has)) ∙ d.at;
+    at = slice_get-set_other roles k d.by r1 (λ e. n (subst (λ x. Has x t) (same-get (slice_get roles k) d.role r (subst (λ i. slice_get roles i ≡ Some d.role)
+        (sym e) d.at) er) d.has)) ∙ d.at;
     has = d.has;
   }
 
@@ -305,8 +320,10 @@ module _ (z p : Phase) (tw : p.gate ≡ p.ticket + 4) (roles : List Role) (top :
     tickets = m.tickets;
     gates = m.gates;
     bound = m.bound;
-    came = λ y. word-same p.text mem1 s.memory z.gate (earlier y z.gate y.gate.first (omega arith)) (earlier y (z.gate + 1) y.gate.second (omega arith)) (earlier y (z.gate + 2) y.gate.third (omega arith)) (earlier y (z.gate + 3) y.gate.fourth (omega arith)) ∙ v.came y;
+    came = λ y. word-same p.text mem1 s.memory z.gate (earlier y z.gate y.gate.first (omega arith)) (earlier y (z.gate + 1) y.gate.second (omega arith))
+        (earlier y (z.gate + 2) y.gate.third (omega arith)) (earlier y (z.gate + 3) y.gate.fourth (omega arith)) ∙ v.came y;
     fixed = λ a e. same-byte a (λ w. not-fixed p k r a e w) ∙ v.fixed a e;
-    waiting = λ a t e l. let l0 : top ≤ t = let q = m.more in omega (arith, q, l) in same-byte a (λ w. let y = has-below z p top (total has_added roles) s.memory k h r t (v.holds k r h er eh) (owner p k r a t e w) in absurd (omega (arith, y, l0))) ∙ v.waiting a t e l0;
+    waiting = λ a t e l. let l0 : top ≤ t = let q = m.more in omega (arith, q, l) in same-byte a (λ w. let y = has-below z p top (total has_added roles)
+        s.memory k h r t (v.holds k r h er eh) (owner p k r a t e w) in absurd (omega (arith, y, l0))) ∙ v.waiting a t e l0;
     tasks = tasks1;
   }

@@ -9,7 +9,8 @@ use Rattle.multi_hart_logic.specs.Uses.{Task, Setup}
 use Rattle.vector_codegen_sharing.specs.Phases.{Phase}
 use Rattle.vector_codegen_sharing.specs.Programs.{Program}
 use Rattle.vector_codegen_sharing.specs.Fairness.{sum_below, turns_of_phase}
-use Rattle.vector_codegen_sharing.proofs.Roles.{Role, Before, Asked, Drawing, Drew, Inside, Adding, Looking, Looked, Leaving, Over, has_added, total, Becomes, InProgram}
+use Rattle.vector_codegen_sharing.proofs.Roles.{Role, Before, Asked, Drawing, Drew, Inside, Adding, Looking, Looked, Leaving, Over, has_added, total, Becomes}
+use Rattle.vector_codegen_sharing.proofs.Roles.{InProgram}
 use Rattle.vector_codegen_sharing.proofs.Keeping.{found, same-get, total-set}
 use Rattle.vector_codegen_sharing.proofs.Turning.{total-same}
 use Rattle.vector_codegen_sharing.proofs.Phases.{come, come-either, come-role, length-come, RolesAfter, Went}

@@ -20,7 +20,8 @@ come _ = Before
 
 pub all-ones : (f : Role → ℕ) → ((r : Role) → f r ≤ 1) → (rs : List Role) → length rs ≤ total f rs → (k : ℕ) (r : Role) → slice_get rs k ≡ Some r → f r ≡ 1
 all-ones f le [] h k r e = absurd (cc e)
-all-ones f le (x ∷ rs) h zero r e = let q : f x ≡ f r = ap f (let y : x ≡ r = cc e in y) in let a = le x in let b = total-most f le rs in omega (arith, q, a, b, h)
+all-ones f le (x ∷ rs) h zero r e = let q : f x ≡ f r = ap f (let y : x ≡ r = cc e in y) in let a = le x in let b = total-most f le rs in
+    omega (arith, q, a, b, h)
 all-ones f le (x ∷ rs) h (suc k) r e = all-ones f le rs (let a = le x in omega (arith, a, h)) k r e
 
 pub get-come : (rs : List Role) (k : ℕ) (r : Role) → slice_get rs k ≡ Some r → slice_get (map come rs) k ≡ Some (come r)
@@ -66,7 +67,8 @@ each-of zero x y k e = absurd (cc e)
 each-of (suc n) x y zero e = cc e
 each-of (suc n) x y (suc k) e = each-of n x y k e
 
-come-holds : (z q p : Phase) (top shut top1 shut1 : ℕ) (mem : List ℕ) (k : ℕ) (h : HartState) (r : Role) → Link q p → has_added r ≡ 1 → Holds z q top shut mem k h r → Holds q p top1 shut1 mem k h (come r)
+come-holds : (z q p : Phase) (top shut top1 shut1 : ℕ) (mem : List ℕ) (k : ℕ) (h : HartState) (r : Role) → Link q p → has_added r ≡ 1
+    → Holds z q top shut mem k h r → Holds q p top1 shut1 mem k h (come r)
 unfolding come
 come-holds z q p top shut top1 shut1 mem k h Looking l e o = (l, o.0)
 come-holds z q p top shut top1 shut1 mem k h (Looked g) l e o = (l, (o.0, o.1.0))
@@ -86,10 +88,14 @@ pub first-of : {X : Type 0} (xs : List X) → 0 < length xs → (x : X) × (slic
 first-of [] h = absurd (omega arith)
 first-of (x ∷ xs) h = (x, refl)
 
-word-is : (q : Phase) (mem : List ℕ) (a : ℕ) → byte_at q.text mem a ≡ q.start a → byte_at q.text mem (a + 1) ≡ q.start (a + 1) → byte_at q.text mem (a + 2) ≡ q.start (a + 2) → byte_at q.text mem (a + 3) ≡ q.start (a + 3) → word_at q.text mem a ≡ start_word q a
-word-is q mem a e f g h = ap (from_le_bytes w32) (ap (λ x. x ∷ byte_at q.text mem (a + 1) ∷ byte_at q.text mem (a + 2) ∷ byte_at q.text mem (a + 3) ∷ []) e ∙ ap (λ x. q.start a ∷ x ∷ byte_at q.text mem (a + 2) ∷ byte_at q.text mem (a + 3) ∷ []) f ∙ ap (λ x. q.start a ∷ q.start (a + 1) ∷ x ∷ byte_at q.text mem (a + 3) ∷ []) g ∙ ap (λ x. q.start a ∷ q.start (a + 1) ∷ q.start (a + 2) ∷ x ∷ []) h)
+word-is : (q : Phase) (mem : List ℕ) (a : ℕ) → byte_at q.text mem a ≡ q.start a → byte_at q.text mem (a + 1) ≡ q.start (a + 1)
+    → byte_at q.text mem (a + 2) ≡ q.start (a + 2) → byte_at q.text mem (a + 3) ≡ q.start (a + 3) → word_at q.text mem a ≡ start_word q a
+word-is q mem a e f g h = ap (from_le_bytes w32) (ap (λ x. x ∷ byte_at q.text mem (a + 1) ∷ byte_at q.text mem (a + 2) ∷ byte_at q.text mem (a + 3) ∷ []) e
+    ∙ ap (λ x. q.start a ∷ x ∷ byte_at q.text mem (a + 2) ∷ byte_at q.text mem (a + 3) ∷ []) f
+    ∙ ap (λ x. q.start a ∷ q.start (a + 1) ∷ x ∷ byte_at q.text mem (a + 3) ∷ []) g ∙ ap (λ x. q.start a ∷ q.start (a + 1) ∷ q.start (a + 2) ∷ x ∷ []) h)
 
-module _ (z q p : Phase) (s : State) (roles : List Role) (top : ℕ) (v : Inv z q roles top s) (full : q.harts ≤ total has_added roles) (some : 0 < q.harts) (f : Follows q p) where
+module _ (z q p : Phase) (s : State) (roles : List Role) (top : ℕ) (v : Inv z q roles top s) (full : q.harts ≤ total has_added roles) (some : 0 < q.harts)
+    (f : Follows q p) where
   abbrev l : Link q p
   l = f.link
 
@@ -115,9 +121,11 @@ module _ (z q p : Phase) (s : State) (roles : List Role) (top : ℕ) (v : Inv z 
   ]
 
   zero-word : (a : ℕ) → Fresh q a → word_at p.text s.memory a ≡ 0
-  zero-word a y = ap (λ t. word_at t s.memory a) (sym l.text) ∙ word-is q s.memory a (v.fixed a y.first) (v.fixed (a + 1) y.second) (v.fixed (a + 2) y.third) (v.fixed (a + 3) y.fourth) ∙ y.zero
+  zero-word a y = ap (λ t. word_at t s.memory a) (sym l.text) ∙ word-is q s.memory a (v.fixed a y.first) (v.fixed (a + 1) y.second) (v.fixed (a + 2) y.third)
+      (v.fixed (a + 3) y.fourth) ∙ y.zero
 
-  come-at : (k : ℕ) (r1 : Role) (h : HartState) → slice_get (map come roles) k ≡ Some r1 → slice_get s.harts k ≡ Some h → (r : Role) × (slice_get roles k ≡ Some r) × (come r ≡ r1)
+  come-at : (k : ℕ) (r1 : Role) (h : HartState) → slice_get (map come roles) k ≡ Some r1 → slice_get s.harts k ≡ Some h
+      → (r : Role) × (slice_get roles k ≡ Some r) × (come r ≡ r1)
   come-at k r1 h er eh =
       let r = found roles s.harts k h v.same eh in
       (r.0, r.1, same-get _ (come r.0) r1 (get-come roles k r.0 r.1) er)
@@ -141,7 +149,8 @@ module _ (z q p : Phase) (s : State) (roles : List Role) (top : ℕ) (v : Inv z 
     one_each = λ k i r r2 t ne er eq hr hq. let x = come-only k r er in has-none x.0 t (subst (λ y. Has y t) (sym x.1) hr);
     tickets = zero-word p.ticket f.tickets;
     gates = zero-word p.gate f.gates ∙ sym (total-come roles);
-    came = λ y. ap (λ t. word_at t s.memory q.gate) (sym l.text) ∙ v.gates ∙ (let a = total-most has_added added-most roles in let b = v.same in let c = v.many in let d = l.harts in omega (arith, a, b, c, d, full));
+    came = λ y. ap (λ t. word_at t s.memory q.gate) (sym l.text) ∙ v.gates ∙ (let a = total-most has_added added-most roles in let b = v.same in let c =
+        v.many in let d = l.harts in omega (arith, a, b, c, d, full));
     bound = omega arith;
     fixed = λ a e. shared a (subst Shared (sym e) tt);
     waiting = λ a t e m. shared a (subst Shared (sym e) tt);
@@ -154,7 +163,8 @@ module _ (z q p : Phase) (s : State) (roles : List Role) (top : ℕ) (v : Inv z 
 abbrev pub RolesAfter : Phase → ℕ → State → ℕ → List Role → List Role → ℕ → Type 0
 RolesAfter p top s k roles rs next =
     ((slice_get s.harts k ≡ None) × (rs ≡ roles) × (next ≡ top))
-    ⊎ ((r : Role) × (r1 : Role) × (top1 : ℕ) × (slice_get roles k ≡ Some r) × (rs ≡ set roles k r1) × Becomes p top (total has_added roles) r r1 top1 × (next ≡ top1))
+    ⊎ ((r : Role) × (r1 : Role) × (top1 : ℕ) × (slice_get roles k ≡ Some r) × (rs ≡ set roles k r1) × Becomes p top (total has_added roles) r r1 top1
+    × (next ≡ top1))
 
 -- the phase stays, or its gate is full and the next one begins
 abbrev pub Settled : ℕ → List Role → ℕ → ℕ → List Role → ℕ → Type 0
@@ -169,8 +179,14 @@ pub record Went (ph : ℕ → Phase) (last : ℕ) (s : State) (k : ℕ) (i : InP
   pub after : RolesAfter (ph i.at) i.phase.top s k i.phase.roles rs next
   pub settled : Settled i.at rs next to.at to.phase.roles to.phase.top
 
-pub one-turn : (z p : Phase) (c : Code p) (behind : HasGate p ⊎ HasEnd p) (td : TaskDone p) (s : State) (k : ℕ) → (i : InPhase z p s) → (total has_added i.roles < p.harts) ⊎ HasEnd p → (o : Option HartState) → slice_get s.harts k ≡ o → (j : InPhase z p (turn s k)) × RolesAfter p i.top s k i.roles j.roles j.top
-one-turn z p c behind td s k i so None e = (record { roles = i.roles; top = i.top; inv = subst (Inv z p i.roles i.top) (sym (ap (turned s k) e)) i.inv }, inl (e, refl, refl))
+pub one-turn : (z p : Phase) (c : Code p) (behind : HasGate p ⊎ HasEnd p) (td : TaskDone p) (s : State) (k : ℕ) → (i : InPhase z p s)
+    → (total has_added i.roles < p.harts) ⊎ HasEnd p → (o : Option HartState) → slice_get s.harts k ≡ o
+    → (j : InPhase z p (turn s k)) × RolesAfter p i.top s k i.roles j.roles j.top
+one-turn z p c behind td s k i so None e = (
+  record { roles = i.roles; top = i.top; inv = subst (Inv z p i.roles i.top) (sym (ap (turned s k) e)) i.inv },
+  inl
+      (e, refl, refl),
+)
 one-turn z p c behind td s k i so (Some h) e =
     let f = found i.roles s.harts k h i.inv.same e in
     let y = hart-turn z p c behind td i.roles i.top s k h i.inv e so f.0 f.1 in
@@ -184,14 +200,20 @@ module _ (ph : ℕ → Phase) (last : ℕ) (g : Program ph last) where
     | inr ne ↦ inl (g.follows c (omega (arith, le, ne))).link.waits
   ]
 
-  pub settle : (s : State) (c : ℕ) → c ≤ last → (i : InPhase (prior ph c) (ph c) s) → (j : InProgram ph last s) × Settled c i.roles i.top j.at j.phase.roles j.phase.top
+  pub settle : (s : State) (c : ℕ) → c ≤ last → (i : InPhase (prior ph c) (ph c) s) → (j : InProgram ph last s) × Settled c i.roles i.top j.at j.phase.roles
+      j.phase.top
   settle s c le i = elim (cases_eq c last) [
     | inl e ↦ (record { at = c; within = le; phase = i; still_open = inl e }, inl (refl, refl, refl))
     | inr ne ↦ elim (cases_lt (total has_added i.roles) (ph c).harts) [
       | inl lt ↦ (record { at = c; within = le; phase = i; still_open = inr lt }, inl (refl, refl, refl))
       | inr full ↦
           let below : c < last = omega (arith, le, ne) in
-          let to : InPhase (ph c) (ph (suc c)) s = record { roles = map come i.roles; top = 0; inv = passed (prior ph c) (ph c) (ph (suc c)) s i.roles i.top i.inv full (g.some c le) (g.follows c below) } in
+          let to : InPhase (ph c) (ph (suc c)) s = record {
+            roles = map come i.roles;
+            top = 0;
+            inv = passed (prior ph c) (ph c) (ph (suc c)) s i.roles i.top
+                i.inv full (g.some c le) (g.follows c below);
+          } in
           let none = total-come i.roles in
           let some = g.some (suc c) (omega (arith, below)) in
           let st : total has_added to.roles < (ph (suc c)).harts = omega (arith, none, some) in

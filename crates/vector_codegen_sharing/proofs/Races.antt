@@ -1,7 +1,8 @@
 -- No race outside the control words.
 use Rattle.multi_hart_logic.specs.Alone.{Says}
 use Rattle.multi_hart.specs.Run.{Within, is_in, reads, writes, State, run}
-use Rattle.std.proofs.Common.{◌≡◌, ℕ, suc, ◌+◌, ◌<◌, ◌≤◌, List, [], ◌∷◌, length, Option, Some, None, true, false, refl, ap, ◌∙◌, sym, subst, arith, inl, inr, true≢false}
+use Rattle.std.proofs.Common.{◌≡◌, ℕ, suc, ◌+◌, ◌<◌, ◌≤◌, List, [], ◌∷◌, length, Option, Some, None, true, false, refl, ap, ◌∙◌, sym, subst, arith, inl, inr}
+use Rattle.std.proofs.Common.{true≢false}
 use Rattle.std.specs.Prelude.{◌≢◌, ◌==◌, slice_get, cond, pos}
 use Rattle.std.proofs.lemmas.Bool.{cases_eq}
 use Rattle.std.proofs.lemmas.Bool.Decides.{nat_tests}
@@ -19,7 +20,8 @@ use Rattle.multi_hart_logic.specs.Uses.{Use, Control, Fixed, Owned, Private, Job
 use Rattle.vector_codegen_sharing.specs.Phases.{Phase, IsControl, Code}
 use Rattle.vector_codegen_sharing.specs.Programs.{Link, Program, start}
 use Rattle.vector_codegen_sharing.specs.Turns.{written_by_one, control_words, Race}
-use Rattle.vector_codegen_sharing.proofs.Roles.{Role, Before, Asked, Drawing, Drew, Inside, Adding, Looking, Looked, Leaving, Over, Has, has_added, total, Holds, Inv, InPhase, prior, InProgram}
+use Rattle.vector_codegen_sharing.proofs.Roles.{Role, Before, Asked, Drawing, Drew, Inside, Adding, Looking, Looked, Leaving, Over, Has, has_added, total}
+use Rattle.vector_codegen_sharing.proofs.Roles.{Holds, Inv, InPhase, prior, InProgram}
 use Rattle.vector_codegen_sharing.specs.Promises.{NeverRaces, RuleKept, RulesKept}
 use Rattle.vector_codegen_sharing.proofs.Keeping.{found, Touch, InWord, clash, inside-has, no-control-write, not-fixed}
 use Rattle.vector_codegen_sharing.proofs.Control.{gate-plus}
@@ -31,21 +33,26 @@ abbrev pub See : Phase → ℕ → Role → ℕ → Type 0
 See p k (Inside x j m) a = MayRead x k (p.uses a)
 See p k _ a = p.uses a ≡ Control
 
-raw : (p : Phase) (h : HartState) (at : ℕ) (i : Insn) → h.status ≡ Running → h.pc ≡ at → Says p.text at i → next_of p.text p.size h ≡ judged i (fault (length p.text) p.size i h)
+raw : (p : Phase) (h : HartState) (at : ℕ) (i : Insn) → h.status ≡ Running → h.pc ≡ at → Says p.text at i
+    → next_of p.text p.size h ≡ judged i (fault (length p.text) p.size i h)
 raw p h at i r c w =
     ap (λ st. if_running st (due (length p.text) p.size h (fetched p.text h.pc))) r
     ∙ ap (λ a. due (length p.text) p.size h (fetched p.text a)) c
     ∙ ap (due (length p.text) p.size h) w.fetched ∙ ap (meant (length p.text) p.size h) w.decoded
 
-reads-judged : (P : ℕ → Type 0) (h : HartState) (i : Insn) (f : Option Trap) → Within P (touched (read_by (kind_of i) (accesses i h))) → Within P (reads (judged i f) h)
+reads-judged : (P : ℕ → Type 0) (h : HartState) (i : Insn) (f : Option Trap) → Within P (touched (read_by (kind_of i) (accesses i h)))
+    → Within P (reads (judged i f) h)
 reads-judged P h i None w = w
 reads-judged P h i (Some t) w = tt
 
-writes-judged : (P : ℕ → Type 0) (h : HartState) (i : Insn) (f : Option Trap) → Within P (touched (written_by (kind_of i) (accesses i h))) → Within P (writes (judged i f) h)
+writes-judged : (P : ℕ → Type 0) (h : HartState) (i : Insn) (f : Option Trap) → Within P (touched (written_by (kind_of i) (accesses i h)))
+    → Within P (writes (judged i f) h)
 writes-judged P h i None w = w
 writes-judged P h i (Some t) w = tt
 
-both : (P Q : ℕ → Type 0) (p : Phase) (h : HartState) (at : ℕ) (i : Insn) → h.status ≡ Running → h.pc ≡ at → Says p.text at i → Within P (touched (read_by (kind_of i) (accesses i h))) → Within Q (touched (written_by (kind_of i) (accesses i h))) → Within P (reads (next_of p.text p.size h) h) × Within Q (writes (next_of p.text p.size h) h)
+both : (P Q : ℕ → Type 0) (p : Phase) (h : HartState) (at : ℕ) (i : Insn) → h.status ≡ Running → h.pc ≡ at → Says p.text at i
+    → Within P (touched (read_by (kind_of i) (accesses i h))) → Within Q (touched (written_by (kind_of i) (accesses i h)))
+    → Within P (reads (next_of p.text p.size h) h) × Within Q (writes (next_of p.text p.size h) h)
 both P Q p h at i r c w x y =
     let e = sym (raw p h at i r c w) in
     let f = fault (length p.text) p.size i h in
@@ -55,7 +62,16 @@ control-word : (p : Phase) (a : ℕ) → IsControl p a → Within (λ x. p.uses 
 control-word p a c = (c.first, (c.second, (c.third, (c.fourth, tt))))
 
 in-word : (p : Phase) (a : ℕ) → IsControl p a → Within (InWord p a) (touched (one_access Word a))
-in-word p a c = ((c.first, (omega arith, omega arith)), ((c.second, (omega arith, omega arith)), ((c.third, (omega arith, omega arith)), ((c.fourth, (omega arith, omega arith)), tt))))
+in-word p a c = (
+  (c.first, (omega arith, omega arith)),
+  (
+    (c.second, (omega arith, omega arith)),
+    (
+      (c.third, (omega arith, omega arith)),
+      ((c.fourth, (omega arith, omega arith)), tt),
+    ),
+  ),
+)
 
 abbrev pub Both : Phase → ℕ → Role → HartState → Type 0
 Both p k r h = Within (See p k r) (reads (next_of p.text p.size h) h) × Within (Touch p k r) (writes (next_of p.text p.size h) h)
@@ -66,13 +82,16 @@ says-to q p l at i w = subst (λ t. Says t at i) l.text w
 pub touches : (z p : Phase) (c : Code p) (top shut : ℕ) (mem : List ℕ) (k : ℕ) (h : HartState) (r : Role) → Holds z p top shut mem k h r → Both p k r h
 touches z p c top shut mem k h Before o =
     both (See p k Before) (Touch p k Before) p h (z.door + 4) (Load Lw 17 14 (pos 0)) o.1.running o.1.pc (says-to z p o.0 _ _ o.0.waits.look)
-    (subst (λ a. Within (λ x. p.uses x ≡ Control) (touched (one_access Word a))) (sym (ap (λ n. plus n (pos 0)) o.1.kept.gate ∙ gate-plus z o.0.code)) (control-word p z.gate o.0.gate)) tt
-touches z p c top shut mem k h (Asked g) o = both (See p k (Asked g)) (Touch p k (Asked g)) p h (z.door + 8) (Branch Bne 17 11 o.0.waits.back) o.1.0.running o.1.0.pc (says-to z p o.0 _ _ o.0.waits.again) tt tt
+    (subst (λ a. Within (λ x. p.uses x ≡ Control) (touched (one_access Word a))) (sym (ap (λ n. plus n (pos 0)) o.1.kept.gate ∙ gate-plus z o.0.code))
+    (control-word p z.gate o.0.gate)) tt
+touches z p c top shut mem k h (Asked g) o = both (See p k (Asked g)) (Touch p k (Asked g)) p h (z.door + 8) (Branch Bne 17 11 o.0.waits.back) o.1.0.running
+    o.1.0.pc (says-to z p o.0 _ _ o.0.waits.again) tt tt
 touches z p c top shut mem k h Drawing o =
     both (See p k Drawing) (Touch p k Drawing) p h p.draw_code (AmoaddW 12 13 15 false false) o.running o.pc c.draw
     (subst (λ a. Within (λ x. p.uses x ≡ Control) (touched (one_access Word a))) (sym o.kept.ticket) (control-word p p.ticket c.tickets))
     (subst (λ a. Within (InWord p p.ticket) (touched (one_access Word a))) (sym o.kept.ticket) (in-word p p.ticket c.tickets))
-touches z p c top shut mem k h (Drew v) o = both (See p k (Drew v)) (Touch p k (Drew v)) p h (p.draw_code + 4) (Branch Bgeu 12 16 c.out) o.0.running o.0.pc c.test tt tt
+touches z p c top shut mem k h (Drew v) o = both (See p k (Drew v)) (Touch p k (Drew v)) p h (p.draw_code + 4) (Branch Bgeu 12 16 c.out) o.0.running o.0.pc
+    c.test tt tt
 touches z p c top shut mem k h (Inside x j m) o =
     let q = o.soon.0 in (q.may_read, q.may_write)
 touches z p c top shut mem k h Adding o =
@@ -81,8 +100,10 @@ touches z p c top shut mem k h Adding o =
     (subst (λ a. Within (InWord p p.gate) (touched (one_access Word a))) (sym o.0.kept.gate) (in-word p p.gate c.gates))
 touches z p c top shut mem k h Looking o =
     both (See p k Looking) (Touch p k Looking) p h (p.door + 4) (Load Lw 17 14 (pos 0)) o.0.running o.0.pc o.1.1.look
-    (subst (λ a. Within (λ x. p.uses x ≡ Control) (touched (one_access Word a))) (sym (ap (λ n. plus n (pos 0)) o.0.kept.gate ∙ gate-plus p c)) (control-word p p.gate c.gates)) tt
-touches z p c top shut mem k h (Looked g) o = both (See p k (Looked g)) (Touch p k (Looked g)) p h (p.door + 8) (Branch Bne 17 11 o.1.1.1.1.back) o.0.running o.0.pc o.1.1.1.1.again tt tt
+    (subst (λ a. Within (λ x. p.uses x ≡ Control) (touched (one_access Word a))) (sym (ap (λ n. plus n (pos 0)) o.0.kept.gate ∙ gate-plus p c))
+    (control-word p p.gate c.gates)) tt
+touches z p c top shut mem k h (Looked g) o = both (See p k (Looked g)) (Touch p k (Looked g)) p h (p.door + 8) (Branch Bne 17 11 o.1.1.1.1.back) o.0.running
+    o.0.pc o.1.1.1.1.again tt tt
 touches z p c top shut mem k h Leaving o = both (See p k Leaving) (Touch p k Leaving) p h p.door Ecall o.0.running o.0.pc o.1.1 tt tt
 touches z p c top shut mem k h Over o =
     let e = sym (ap (λ st. if_running st (due (length p.text) p.size h (fetched p.text h.pc))) o.0) in
@@ -150,15 +171,19 @@ in-within P a (b ∷ ps) e w = elim (cases_eq a b) [
 ]
 
 -- what the next turn of a hart touches, by its role
-pub reads-by : (z p : Phase) (c : Code p) (s : State) (roles : List Role) (top k : ℕ) (h : HartState) (r : Role) → Inv z p roles top s → slice_get roles k ≡ Some r → slice_get s.harts k ≡ Some h → Within (See p k r) (reads (next_of s.text (length s.memory) h) h)
+pub reads-by : (z p : Phase) (c : Code p) (s : State) (roles : List Role) (top k : ℕ) (h : HartState) (r : Role) → Inv z p roles top s
+    → slice_get roles k ≡ Some r → slice_get s.harts k ≡ Some h → Within (See p k r) (reads (next_of s.text (length s.memory) h) h)
 reads-by z p c s roles top k h r v er eh =
     let x = (touches z p c top (total has_added roles) s.memory k h r (v.holds k r h er eh)).0 in
-    subst (λ t. Within (See p k r) (reads (next_of t (length s.memory) h) h)) (sym v.text) (subst (λ n. Within (See p k r) (reads (next_of p.text n h) h)) (sym v.size) x)
+    subst (λ t. Within (See p k r) (reads (next_of t (length s.memory) h) h)) (sym v.text) (subst (λ n. Within (See p k r) (reads (next_of p.text n h) h))
+    (sym v.size) x)
 
-pub writes-by : (z p : Phase) (c : Code p) (s : State) (roles : List Role) (top k : ℕ) (h : HartState) (r : Role) → Inv z p roles top s → slice_get roles k ≡ Some r → slice_get s.harts k ≡ Some h → Within (Touch p k r) (writes (next_of s.text (length s.memory) h) h)
+pub writes-by : (z p : Phase) (c : Code p) (s : State) (roles : List Role) (top k : ℕ) (h : HartState) (r : Role) → Inv z p roles top s
+    → slice_get roles k ≡ Some r → slice_get s.harts k ≡ Some h → Within (Touch p k r) (writes (next_of s.text (length s.memory) h) h)
 writes-by z p c s roles top k h r v er eh =
     let x = (touches z p c top (total has_added roles) s.memory k h r (v.holds k r h er eh)).1 in
-    subst (λ t. Within (Touch p k r) (writes (next_of t (length s.memory) h) h)) (sym v.text) (subst (λ n. Within (Touch p k r) (writes (next_of p.text n h) h)) (sym v.size) x)
+    subst (λ t. Within (Touch p k r) (writes (next_of t (length s.memory) h) h)) (sym v.text) (subst (λ n. Within (Touch p k r) (writes (next_of p.text n h) h))
+    (sym v.size) x)
 
 no-race : (z p : Phase) (c : Code p) (control : List ℕ) (s : State) → InPhase z p s → (x : Race control s) → IsWord p x.place
 no-race z p c control s i x =
@@ -169,7 +194,8 @@ no-race z p c control s i x =
     let w = in-within (Touch p x.first fr.0) x.place _ x.written (writes-by z p c s i.roles i.top x.first x.one fr.0 v fr.1 x.is_first) in
     meet p c x.first x.second fr.0 fq.0 x.place x.apart apart w (elim x.touched [
       | inl e ↦ in-within (See p x.second fq.0) x.place _ e (reads-by z p c s i.roles i.top x.second x.other fq.0 v fq.1 x.is_second)
-      | inr e ↦ touch-seen p x.second fq.0 x.place (in-within (Touch p x.second fq.0) x.place _ e (writes-by z p c s i.roles i.top x.second x.other fq.0 v fq.1 x.is_second))
+      | inr e ↦ touch-seen p x.second fq.0 x.place (in-within (Touch p x.second fq.0) x.place _ e (writes-by z p c s i.roles i.top x.second x.other fq.0 v fq.1
+          x.is_second))
     ])
 
 pub never-races : NeverRaces
@@ -182,7 +208,8 @@ never-races ph last entry memory turns g o x =
 
 -- ---- each turn keeps the rule of a phase
 
-kept-by : (z p : Phase) (k : ℕ) (r : Role) (top shut : ℕ) (mem : List ℕ) (h : HartState) → Holds z p top shut mem k h r → (a t : ℕ) → is_in a (writes (next_of p.text p.size h) h) ≡ true → p.uses a ≡ Owned t → Touch p k r a → p.rule t (writes (next_of p.text p.size h) h) ≡ true
+kept-by : (z p : Phase) (k : ℕ) (r : Role) (top shut : ℕ) (mem : List ℕ) (h : HartState) → Holds z p top shut mem k h r → (a t : ℕ)
+    → is_in a (writes (next_of p.text p.size h) h) ≡ true → p.uses a ≡ Owned t → Touch p k r a → p.rule t (writes (next_of p.text p.size h) h) ≡ true
 kept-by z p k (Inside x j m) top shut mem h o a t i u w = o.soon.0.keeps a t i u
 kept-by z p k Drawing top shut mem h o a t i u w = let q : Control ≡ Owned t = sym w.0 ∙ u in absurd (cc q)
 kept-by z p k Adding top shut mem h o a t i u w = let q : Control ≡ Owned t = sym w.0 ∙ u in absurd (cc q)
@@ -205,13 +232,15 @@ module _ (ph : ℕ → Phase) (last : ℕ) (g : Program ph last) (s : State) (i 
       let o = v.holds k f.0 h f.1 eh in
       let w = writes-by (prior ph i.at) p (g.code i.at i.within) s i.phase.roles i.phase.top k h f.0 v f.1 eh in
       let ps = writes (next_of s.text (length s.memory) h) h in
-      let same : ps ≡ writes (next_of p.text p.size h) h = ap (λ t. writes (next_of t (length s.memory) h) h) v.text ∙ ap (λ n. writes (next_of p.text n h) h) v.size in
+      let same : ps ≡ writes (next_of p.text p.size h) h = ap (λ t. writes (next_of t (length s.memory) h) h) v.text
+      ∙ ap (λ n. writes (next_of p.text n h) h) v.size in
       let touch : (a : ℕ) → is_in a ps ≡ true → Touch p k f.0 a = λ a e. in-within (Touch p k f.0) a ps e w in
       record {
         k = i.at;
         within = i.within;
         no_fixed = λ a e u. not-fixed p k f.0 a u (touch a e);
-        rule = λ a t e u. ap (p.rule t) same ∙ kept-by (prior ph i.at) p k f.0 i.phase.top (total has_added i.phase.roles) s.memory h o a t (ap (is_in a) (sym same) ∙ e) u (touch a e);
+        rule = λ a t e u. ap (p.rule t) same ∙ kept-by (prior ph i.at) p k f.0 i.phase.top (total has_added i.phase.roles) s.memory h o a t
+            (ap (is_in a) (sym same) ∙ e) u (touch a e);
       }
 
   pub rule-kept : (o : Option HartState) → slice_get s.harts k ≡ o → RuleKept ph last (written_by_one s o)

@@ -1,6 +1,7 @@
 -- Where a hart comes that is given turns alone.
 use Rattle.multi_hart.specs.Run.{Within, is_in, State, turn, run}
-use Rattle.std.proofs.Common.{◌≡◌, ℕ, zero, suc, ◌+◌, ◌<◌, ◌≤◌, List, [], ◌∷◌, ◌++◌, length, set, Some, Bool, true, false, refl, ap, ◌∙◌, sym, subst, arith, inl, inr}
+use Rattle.std.proofs.Common.{◌≡◌, ℕ, zero, suc, ◌+◌, ◌<◌, ◌≤◌, List, [], ◌∷◌, ◌++◌, length, set, Some, Bool, true, false, refl, ap, ◌∙◌, sym, subst, arith}
+use Rattle.std.proofs.Common.{inl, inr}
 use Rattle.std.specs.Prelude.{◌⊎◌, ◌==◌, ◌||◌, if◌then◌else◌, slice_get}
 use Rattle.std.proofs.lemmas.Bool.{cases_eq}
 use Rattle.std.proofs.lemmas.Bool.Decides.{nat_tests}
@@ -13,16 +14,19 @@ use Rattle.vector_codegen_sharing.specs.Programs.{Program}
 use Rattle.multi_hart.proofs.Resting.{run-append}
 use Rattle.hart_core.specs.HartState.{HartState}
 use Rattle.vector_codegen_sharing.specs.Turns.{or_known, last_written, is_word_in, written_next, OnlyBy, Name}
-use Rattle.vector_codegen_sharing.proofs.Roles.{Role, Before, Asked, Drawing, Drew, Inside, Adding, Looking, Looked, Leaving, Over, has_added, total, Holds, Inv, Turned}
+use Rattle.vector_codegen_sharing.proofs.Roles.{Role, Before, Asked, Drawing, Drew, Inside, Adding, Looking, Looked, Leaving, Over, has_added, total, Holds}
+use Rattle.vector_codegen_sharing.proofs.Roles.{Inv, Turned}
 use Rattle.vector_codegen_sharing.proofs.Keeping.{found, slice_get-set_same}
 use Rattle.vector_codegen_sharing.proofs.Control.{hart-turn, gate-or-end, add-writes, added-most, total-most}
 
-pub last-written-append : (x : ℕ) (known : List ℕ) (s : State) (xs ys : List ℕ) → last_written x known s (xs ++ ys) ≡ last_written x (last_written x known s xs) (run s xs) ys
+pub last-written-append : (x : ℕ) (known : List ℕ) (s : State) (xs ys : List ℕ) → last_written x known s (xs ++ ys) ≡ last_written x (last_written x known s xs)
+    (run s xs) ys
 last-written-append x known s [] ys = refl
 last-written-append x known s (k ∷ xs) ys = last-written-append x (or_known (k == x) (written_next s k) known) (turn s k) xs ys
 
 pub own-word : (own : Bool) (w : ℕ) (known : List ℕ) → own ≡ true → is_word_in w (or_known own (touched (one_access Word w)) known) ≡ true
-own-word true w known e = let f : (w == w) ≡ true = grind (arith, nat_tests) in ap (λ b. (if b then true else is_in w ((w + 1) ∷ (w + 2) ∷ (w + 3) ∷ [])) || is_in (w + 1) (touched (one_access Word w)) || is_in (w + 2) (touched (one_access Word w)) || is_in (w + 3) (touched (one_access Word w))) f
+own-word true w known e = let f : (w == w) ≡ true = grind (arith, nat_tests) in ap (λ b. (if b then true else is_in w ((w + 1) ∷ (w + 2) ∷ (w + 3) ∷ []))
+    || is_in (w + 1) (touched (one_access Word w)) || is_in (w + 2) (touched (one_access Word w)) || is_in (w + 3) (touched (one_access Word w))) f
 own-word false w known e = absurd (cc e)
 
 pub only-append : (k : ℕ) (xs ys : List ℕ) → OnlyBy k xs → OnlyBy k ys → OnlyBy k (xs ++ ys)
@@ -49,7 +53,8 @@ set-get (x ∷ rs) (suc k) r e = ap (λ l. x ∷ l) (set-get rs k r e)
 
 pub not-all : (rs : List Role) (k : ℕ) (r : Role) → slice_get rs k ≡ Some r → has_added r ≡ 0 → total has_added rs < length rs
 not-all [] k r e z = absurd (cc e)
-not-all (x ∷ rs) zero r e z = let q : has_added x ≡ has_added r = ap has_added (let y : x ≡ r = cc e in y) in let a = total-most has_added added-most rs in omega (arith, q, z, a)
+not-all (x ∷ rs) zero r e z = let q : has_added x ≡ has_added r = ap has_added (let y : x ≡ r = cc e in y) in let a = total-most has_added added-most rs in
+    omega (arith, q, z, a)
 not-all (x ∷ rs) (suc k) r e z = let a = not-all rs k r e z in let b = added-most x in omega (arith, a, b)
 
 -- a list of turns after which the hart k has the role r1 and no other role has changed
@@ -66,7 +71,8 @@ module _ (z p : Phase) (c : Code p) (td : TaskDone p) (behind-it : HasGate p ⊎
     pub with-at : (r : Role) → slice_get (with r) k ≡ Some r
     with-at r = slice_get-set_same roles k r0 r e0
 
-    pub one : (r : Role) (top : ℕ) (s : State) → Inv z p (with r) top s → (total has_added (with r) < p.harts) ⊎ HasEnd p → Turned z p (with r) top k r (turn s k)
+    pub one : (r : Role) (top : ℕ) (s : State) → Inv z p (with r) top s → (total has_added (with r) < p.harts) ⊎ HasEnd p
+        → Turned z p (with r) top k r (turn s k)
     one r top s v so =
         let h = found s.harts (with r) k r (sym v.same) (with-at r) in
         hart-turn z p c behind-it td (with r) top s k h.0 v h.1 so r (with-at r)
@@ -74,14 +80,22 @@ module _ (z p : Phase) (c : Code p) (td : TaskDone p) (behind-it : HasGate p ⊎
     pub out : (r : Role) (top : ℕ) (s : State) → Inv z p (with r) top s → has_added r ≡ 0 → (total has_added (with r) < p.harts) ⊎ HasEnd p
     out r top s v e = let a = not-all (with r) k r (with-at r) e in let b = v.same in let d = v.many in inl (omega (arith, a, b, d))
 
-    pub again : (r : Role) (top : ℕ) (s : State) (y : Turned z p (with r) top k r (turn s k)) (r1 : Role) (top1 : ℕ) → y.role ≡ r1 → y.top ≡ top1 → Inv z p (with r1) top1 (turn s k)
-    again r top s y r1 top1 e f = subst (λ q. Inv z p (with q) top1 (turn s k)) e (subst (λ n. Inv z p (with y.role) n (turn s k)) f (subst (λ l. Inv z p l y.top (turn s k)) (set-set roles k r y.role) y.inv))
+    pub again : (r : Role) (top : ℕ) (s : State) (y : Turned z p (with r) top k r (turn s k)) (r1 : Role) (top1 : ℕ) → y.role ≡ r1 → y.top ≡ top1
+        → Inv z p (with r1) top1 (turn s k)
+    again r top s y r1 top1 e f = subst (λ q. Inv z p (with q) top1 (turn s k)) e (subst (λ n. Inv z p (with y.role) n (turn s k)) f
+        (subst (λ l. Inv z p l y.top (turn s k)) (set-set roles k r y.role) y.inv))
 
     abbrev after : (r1 : Role) (top1 : ℕ) (s : State) → Got z p roles k r1 top1 (turn s k) → Got z p roles k r1 top1 s
     after r1 top1 s g = record { turns = k ∷ g.turns; only = (refl, g.only); inv = g.inv }
 
-    abbrev past : (r1 r2 : Role) (top1 top2 : ℕ) (s : State) (g : Got z p roles k r1 top1 s) → Got z p roles k r2 top2 (run s g.turns) → Got z p roles k r2 top2 s
-    past r1 r2 top1 top2 s g h = record { turns = g.turns ++ h.turns; only = only-append k g.turns h.turns g.only h.only; inv = subst (Inv z p (with r2) top2) (sym (run-append s g.turns h.turns)) h.inv }
+    abbrev past : (r1 r2 : Role) (top1 top2 : ℕ) (s : State) (g : Got z p roles k r1 top1 s) → Got z p roles k r2 top2 (run s g.turns)
+        → Got z p roles k r2 top2 s
+    past r1 r2 top1 top2 s g h = record {
+      turns = g.turns ++ h.turns;
+      only = only-append k g.turns h.turns g.only h.only;
+      inv = subst (Inv z p (with r2) top2)
+          (sym (run-append s g.turns h.turns)) h.inv;
+    }
 
     from-inside : (x : Job) (j : ℕ) (m : List ℕ) (top : ℕ) (s : State) → Inv z p (with (Inside x j m)) top s → Got z p roles k Drawing top s
     from-inside x zero m top s v =
@@ -89,7 +103,8 @@ module _ (z p : Phase) (c : Code p) (td : TaskDone p) (behind-it : HasGate p ⊎
         after Drawing top s (record { turns = []; only = tt; inv = again (Inside x zero m) top s y Drawing top y.becomes.1 y.becomes.0 })
     from-inside x (suc j) m top s v =
         let y = one (Inside x (suc j) m) top s v (out (Inside x (suc j) m) top s v refl) in
-        after Drawing top s (from-inside x j y.becomes.1.0 top (turn s k) (again (Inside x (suc j) m) top s y (Inside x j y.becomes.1.0) top y.becomes.1.1 y.becomes.0))
+        after Drawing top s (from-inside x j y.becomes.1.0 top (turn s k) (again (Inside x (suc j) m) top s y (Inside x j y.becomes.1.0) top y.becomes.1.1
+        y.becomes.0))
 
     abbrev from-adding : (top : ℕ) (s : State) → Inv z p (with Adding) top s → Got z p roles k Looking top s
     from-adding top s v =
@@ -165,7 +180,8 @@ module _ (z p : Phase) (c : Code p) (td : TaskDone p) (behind-it : HasGate p ⊎
     asked top s i =
         let y = one (Asked p.harts) top s i (out (Asked p.harts) top s i refl) in
         elim y.becomes.1 [
-          | inl a ↦ let h = inside Setup (p.turns Setup) a.1.0 top (turn s k) (again (Asked p.harts) top s y (Inside Setup (p.turns Setup) a.1.0) top a.1.1 y.becomes.0) in then-out s h
+          | inl a ↦ let h = inside Setup (p.turns Setup) a.1.0 top (turn s k) (again (Asked p.harts) top s y (Inside Setup (p.turns Setup) a.1.0) top a.1.1
+              y.becomes.0) in then-out s h
           | inr a ↦ absurd (a.0 refl)
         ]
 
@@ -179,7 +195,8 @@ module _ (z p : Phase) (c : Code p) (td : TaskDone p) (behind-it : HasGate p ⊎
     any-asked g top s i =
         let y = one (Asked g) top s i (out (Asked g) top s i refl) in
         elim y.becomes.1 [
-          | inl a ↦ let h = inside Setup (p.turns Setup) a.1.0 top (turn s k) (again (Asked g) top s y (Inside Setup (p.turns Setup) a.1.0) top a.1.1 y.becomes.0) in then-out s h
+          | inl a ↦ let h = inside Setup (p.turns Setup) a.1.0 top (turn s k) (again (Asked g) top s y (Inside Setup (p.turns Setup) a.1.0) top a.1.1
+              y.becomes.0) in then-out s h
           | inr a ↦ let h = before top (turn s k) (again (Asked g) top s y Before top a.1 y.becomes.0) in then-out s h
         ]
 
@@ -239,7 +256,8 @@ module _ (z p : Phase) (c : Code p) (td : TaskDone p) (behind-it : HasGate p ⊎
           let o = to-out r top s a i in
           let g = o.2 in
           elim o.3 [
-            | inl x ↦ let g1 : Got z p roles k Adding o.0 s = subst (λ q. Got z p roles k q o.0 s) x.1 g in past-gate Adding o.0 s g1 (adding-gate o.0 (run s g1.turns) g1.inv)
+            | inl x ↦ let g1 : Got z p roles k Adding o.0 s = subst (λ q. Got z p roles k q o.0 s) x.1 g in past-gate Adding o.0 s g1
+                (adding-gate o.0 (run s g1.turns) g1.inv)
             | inr x ↦ absurd (gate-or-end p hg x.0)
           ]
       | inr a ↦ absurd (gate-or-end p hg (over-end top s (subst (λ q. Inv z p (with q) top s) a i)))
@@ -250,7 +268,8 @@ module _ (z p : Phase) (c : Code p) (td : TaskDone p) (behind-it : HasGate p ⊎
     End s = (top1 : ℕ) × Got z p roles k Over top1 s
 
     leaving : (he : HasEnd p) (top : ℕ) (s : State) → Inv z p (with Leaving) top s → End s
-    leaving he top s i = let y = one Leaving top s i (inr he) in (top, after Over top s (record { turns = []; only = tt; inv = again Leaving top s y Over top y.becomes.1 y.becomes.0 }))
+    leaving he top s i = let y = one Leaving top s i (inr he) in
+        (top, after Over top s (record { turns = []; only = tt; inv = again Leaving top s y Over top y.becomes.1 y.becomes.0 }))
 
     gate-of : (r : Role) (top : ℕ) (s : State) → has_added r ≡ 1 → Inv z p (with r) top s → HasGate p
     gate-of Looking top s e i = (held Looking top s i).1.1.1
@@ -282,7 +301,8 @@ module _ (z p : Phase) (c : Code p) (td : TaskDone p) (behind-it : HasGate p ⊎
     do-task top s l i =
         let y = one (Drew top) (top + 1) (turn s k) (drawn top s i) (out (Drew top) (top + 1) (turn s k) (drawn top s i) refl) in
         elim y.becomes.1 [
-          | inl a ↦ after Drawing (top + 1) s (after Drawing (top + 1) (turn s k) (from-inside (Task top) (p.turns (Task top)) a.1.0 (top + 1) (turn (turn s k) k) (again (Drew top) (top + 1) (turn s k) y (Inside (Task top) (p.turns (Task top)) a.1.0) (top + 1) a.1.1 y.becomes.0)))
+          | inl a ↦ after Drawing (top + 1) s (after Drawing (top + 1) (turn s k) (from-inside (Task top) (p.turns (Task top)) a.1.0 (top + 1)
+              (turn (turn s k) k) (again (Drew top) (top + 1) (turn s k) y (Inside (Task top) (p.turns (Task top)) a.1.0) (top + 1) a.1.1 y.becomes.0)))
           | inr a ↦ let q = a.0 in absurd (omega (arith, q, l))
         ]
 

@@ -23,7 +23,8 @@ meeting : State
 meeting = run hasty hasty_turns
 
 race : Race (control_words 2) meeting
-unfolding meeting decoded decode.rd_of decode.rs1_of decode.rs2_of decode.i_immediate_of decode.s_immediate_of decode.u_immediate_of decode.b_offset_of decode.j_offset_of key_in scalar_table r_type i_type s_type b_type u_type j_type amo_type whole_word fixed span
+unfolding meeting decoded decode.rd_of decode.rs1_of decode.rs2_of decode.i_immediate_of decode.s_immediate_of decode.u_immediate_of decode.b_offset_of
+    decode.j_offset_of key_in scalar_table r_type i_type s_type b_type u_type j_type amo_type whole_word fixed span
 race = record {
   first = 1;
   second = 0;
@@ -74,63 +75,78 @@ data Locked : State → Type 0 where
   at_k4 : Locked k4
 
 turn-k0 : turn k0 0 ≡ k1
-unfolding k0 k1 decoded decode.rd_of decode.rs1_of decode.rs2_of decode.i_immediate_of decode.s_immediate_of decode.u_immediate_of decode.b_offset_of decode.j_offset_of key_in scalar_table r_type i_type s_type b_type u_type j_type amo_type whole_word fixed span
+unfolding k0 k1 decoded decode.rd_of decode.rs1_of decode.rs2_of decode.i_immediate_of decode.s_immediate_of decode.u_immediate_of decode.b_offset_of
+    decode.j_offset_of key_in scalar_table r_type i_type s_type b_type u_type j_type amo_type whole_word fixed span
 turn-k0 = refl
 
 there-k0 : slice_get k0.harts 0 ≡ Some (hart_at k0 0)
-unfolding k0 decoded decode.rd_of decode.rs1_of decode.rs2_of decode.i_immediate_of decode.s_immediate_of decode.u_immediate_of decode.b_offset_of decode.j_offset_of key_in scalar_table r_type i_type s_type b_type u_type j_type amo_type whole_word fixed span
+unfolding k0 decoded decode.rd_of decode.rs1_of decode.rs2_of decode.i_immediate_of decode.s_immediate_of decode.u_immediate_of decode.b_offset_of
+    decode.j_offset_of key_in scalar_table r_type i_type s_type b_type u_type j_type amo_type whole_word fixed span
 there-k0 = refl
 
 runs-k0 : (hart_at k0 0).status ≡ Running
-unfolding k0 decoded decode.rd_of decode.rs1_of decode.rs2_of decode.i_immediate_of decode.s_immediate_of decode.u_immediate_of decode.b_offset_of decode.j_offset_of key_in scalar_table r_type i_type s_type b_type u_type j_type amo_type whole_word fixed span
+unfolding k0 decoded decode.rd_of decode.rs1_of decode.rs2_of decode.i_immediate_of decode.s_immediate_of decode.u_immediate_of decode.b_offset_of
+    decode.j_offset_of key_in scalar_table r_type i_type s_type b_type u_type j_type amo_type whole_word fixed span
 runs-k0 = refl
 
 turn-k1 : turn k1 0 ≡ k2
-unfolding k1 k2 decoded decode.rd_of decode.rs1_of decode.rs2_of decode.i_immediate_of decode.s_immediate_of decode.u_immediate_of decode.b_offset_of decode.j_offset_of key_in scalar_table r_type i_type s_type b_type u_type j_type amo_type whole_word fixed span
+unfolding k1 k2 decoded decode.rd_of decode.rs1_of decode.rs2_of decode.i_immediate_of decode.s_immediate_of decode.u_immediate_of decode.b_offset_of
+    decode.j_offset_of key_in scalar_table r_type i_type s_type b_type u_type j_type amo_type whole_word fixed span
 turn-k1 = refl
 
 there-k1 : slice_get k1.harts 0 ≡ Some (hart_at k1 0)
-unfolding k1 decoded decode.rd_of decode.rs1_of decode.rs2_of decode.i_immediate_of decode.s_immediate_of decode.u_immediate_of decode.b_offset_of decode.j_offset_of key_in scalar_table r_type i_type s_type b_type u_type j_type amo_type whole_word fixed span
+unfolding k1 decoded decode.rd_of decode.rs1_of decode.rs2_of decode.i_immediate_of decode.s_immediate_of decode.u_immediate_of decode.b_offset_of
+    decode.j_offset_of key_in scalar_table r_type i_type s_type b_type u_type j_type amo_type whole_word fixed span
 there-k1 = refl
 
 runs-k1 : (hart_at k1 0).status ≡ Running
-unfolding k1 decoded decode.rd_of decode.rs1_of decode.rs2_of decode.i_immediate_of decode.s_immediate_of decode.u_immediate_of decode.b_offset_of decode.j_offset_of key_in scalar_table r_type i_type s_type b_type u_type j_type amo_type whole_word fixed span
+unfolding k1 decoded decode.rd_of decode.rs1_of decode.rs2_of decode.i_immediate_of decode.s_immediate_of decode.u_immediate_of decode.b_offset_of
+    decode.j_offset_of key_in scalar_table r_type i_type s_type b_type u_type j_type amo_type whole_word fixed span
 runs-k1 = refl
 
 turn-k2 : turn k2 0 ≡ k3
-unfolding k2 k3 decoded decode.rd_of decode.rs1_of decode.rs2_of decode.i_immediate_of decode.s_immediate_of decode.u_immediate_of decode.b_offset_of decode.j_offset_of key_in scalar_table r_type i_type s_type b_type u_type j_type amo_type whole_word fixed span
+unfolding k2 k3 decoded decode.rd_of decode.rs1_of decode.rs2_of decode.i_immediate_of decode.s_immediate_of decode.u_immediate_of decode.b_offset_of
+    decode.j_offset_of key_in scalar_table r_type i_type s_type b_type u_type j_type amo_type whole_word fixed span
 turn-k2 = refl
 
 there-k2 : slice_get k2.harts 0 ≡ Some (hart_at k2 0)
-unfolding k2 decoded decode.rd_of decode.rs1_of decode.rs2_of decode.i_immediate_of decode.s_immediate_of decode.u_immediate_of decode.b_offset_of decode.j_offset_of key_in scalar_table r_type i_type s_type b_type u_type j_type amo_type whole_word fixed span
+unfolding k2 decoded decode.rd_of decode.rs1_of decode.rs2_of decode.i_immediate_of decode.s_immediate_of decode.u_immediate_of decode.b_offset_of
+    decode.j_offset_of key_in scalar_table r_type i_type s_type b_type u_type j_type amo_type whole_word fixed span
 there-k2 = refl
 
 runs-k2 : (hart_at k2 0).status ≡ Running
-unfolding k2 decoded decode.rd_of decode.rs1_of decode.rs2_of decode.i_immediate_of decode.s_immediate_of decode.u_immediate_of decode.b_offset_of decode.j_offset_of key_in scalar_table r_type i_type s_type b_type u_type j_type amo_type whole_word fixed span
+unfolding k2 decoded decode.rd_of decode.rs1_of decode.rs2_of decode.i_immediate_of decode.s_immediate_of decode.u_immediate_of decode.b_offset_of
+    decode.j_offset_of key_in scalar_table r_type i_type s_type b_type u_type j_type amo_type whole_word fixed span
 runs-k2 = refl
 
 turn-k3 : turn k3 0 ≡ k4
-unfolding k3 k4 decoded decode.rd_of decode.rs1_of decode.rs2_of decode.i_immediate_of decode.s_immediate_of decode.u_immediate_of decode.b_offset_of decode.j_offset_of key_in scalar_table r_type i_type s_type b_type u_type j_type amo_type whole_word fixed span
+unfolding k3 k4 decoded decode.rd_of decode.rs1_of decode.rs2_of decode.i_immediate_of decode.s_immediate_of decode.u_immediate_of decode.b_offset_of
+    decode.j_offset_of key_in scalar_table r_type i_type s_type b_type u_type j_type amo_type whole_word fixed span
 turn-k3 = refl
 
 there-k3 : slice_get k3.harts 0 ≡ Some (hart_at k3 0)
-unfolding k3 decoded decode.rd_of decode.rs1_of decode.rs2_of decode.i_immediate_of decode.s_immediate_of decode.u_immediate_of decode.b_offset_of decode.j_offset_of key_in scalar_table r_type i_type s_type b_type u_type j_type amo_type whole_word fixed span
+unfolding k3 decoded decode.rd_of decode.rs1_of decode.rs2_of decode.i_immediate_of decode.s_immediate_of decode.u_immediate_of decode.b_offset_of
+    decode.j_offset_of key_in scalar_table r_type i_type s_type b_type u_type j_type amo_type whole_word fixed span
 there-k3 = refl
 
 runs-k3 : (hart_at k3 0).status ≡ Running
-unfolding k3 decoded decode.rd_of decode.rs1_of decode.rs2_of decode.i_immediate_of decode.s_immediate_of decode.u_immediate_of decode.b_offset_of decode.j_offset_of key_in scalar_table r_type i_type s_type b_type u_type j_type amo_type whole_word fixed span
+unfolding k3 decoded decode.rd_of decode.rs1_of decode.rs2_of decode.i_immediate_of decode.s_immediate_of decode.u_immediate_of decode.b_offset_of
+    decode.j_offset_of key_in scalar_table r_type i_type s_type b_type u_type j_type amo_type whole_word fixed span
 runs-k3 = refl
 
 turn-k4 : turn k4 0 ≡ k3
-unfolding k4 k3 decoded decode.rd_of decode.rs1_of decode.rs2_of decode.i_immediate_of decode.s_immediate_of decode.u_immediate_of decode.b_offset_of decode.j_offset_of key_in scalar_table r_type i_type s_type b_type u_type j_type amo_type whole_word fixed span
+unfolding k4 k3 decoded decode.rd_of decode.rs1_of decode.rs2_of decode.i_immediate_of decode.s_immediate_of decode.u_immediate_of decode.b_offset_of
+    decode.j_offset_of key_in scalar_table r_type i_type s_type b_type u_type j_type amo_type whole_word fixed span
 turn-k4 = refl
 
 there-k4 : slice_get k4.harts 0 ≡ Some (hart_at k4 0)
-unfolding k4 decoded decode.rd_of decode.rs1_of decode.rs2_of decode.i_immediate_of decode.s_immediate_of decode.u_immediate_of decode.b_offset_of decode.j_offset_of key_in scalar_table r_type i_type s_type b_type u_type j_type amo_type whole_word fixed span
+unfolding k4 decoded decode.rd_of decode.rs1_of decode.rs2_of decode.i_immediate_of decode.s_immediate_of decode.u_immediate_of decode.b_offset_of
+    decode.j_offset_of key_in scalar_table r_type i_type s_type b_type u_type j_type amo_type whole_word fixed span
 there-k4 = refl
 
 runs-k4 : (hart_at k4 0).status ≡ Running
-unfolding k4 decoded decode.rd_of decode.rs1_of decode.rs2_of decode.i_immediate_of decode.s_immediate_of decode.u_immediate_of decode.b_offset_of decode.j_offset_of key_in scalar_table r_type i_type s_type b_type u_type j_type amo_type whole_word fixed span
+unfolding k4 decoded decode.rd_of decode.rs1_of decode.rs2_of decode.i_immediate_of decode.s_immediate_of decode.u_immediate_of decode.b_offset_of
+    decode.j_offset_of key_in scalar_table r_type i_type s_type b_type u_type j_type amo_type whole_word fixed span
 runs-k4 = refl
 
 stays : (s : State) → Locked s → Locked (turn s 0)
@@ -180,7 +196,8 @@ locked-harts-stay = (
 -- ---- a jump to itself
 
 jump : (hart : ℕ) → turn jumping hart ≡ jumping
-unfolding decoded decode.rd_of decode.rs1_of decode.rs2_of decode.i_immediate_of decode.s_immediate_of decode.u_immediate_of decode.b_offset_of decode.j_offset_of key_in scalar_table r_type i_type s_type b_type u_type j_type amo_type whole_word fixed span
+unfolding decoded decode.rd_of decode.rs1_of decode.rs2_of decode.i_immediate_of decode.s_immediate_of decode.u_immediate_of decode.b_offset_of
+    decode.j_offset_of key_in scalar_table r_type i_type s_type b_type u_type j_type amo_type whole_word fixed span
 jump zero = refl
 jump (suc zero) = refl
 jump (suc (suc k)) = refl
@@ -190,7 +207,8 @@ goes_on [] = refl
 goes_on (hart ∷ turns) = ap (λ s. run s turns) (jump hart) ∙ goes_on turns
 
 running : all_finished jumping ≡ false
-unfolding decoded decode.rd_of decode.rs1_of decode.rs2_of decode.i_immediate_of decode.s_immediate_of decode.u_immediate_of decode.b_offset_of decode.j_offset_of key_in scalar_table r_type i_type s_type b_type u_type j_type amo_type whole_word fixed span
+unfolding decoded decode.rd_of decode.rs1_of decode.rs2_of decode.i_immediate_of decode.s_immediate_of decode.u_immediate_of decode.b_offset_of
+    decode.j_offset_of key_in scalar_table r_type i_type s_type b_type u_type j_type amo_type whole_word fixed span
 running = refl
 
 pub jumps-never-end : JumpsNeverEnd

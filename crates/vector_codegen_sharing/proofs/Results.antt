@@ -33,7 +33,8 @@ is-done (Stopped t) e = absurd (cc e)
 
 over-list : (hs : List HartState) → list_all (λ h. has_finished h.status) hs ≡ true → (k : ℕ) (h : HartState) → slice_get hs k ≡ Some h → h.status ≡ Done
 over-list [] e k h x = absurd (cc x)
-over-list (y ∷ hs) e zero h x = let q : y ≡ h = cc x in subst (λ z. z.status ≡ Done) q (is-done y.status (first (has_finished y.status) (list_all (λ h. has_finished h.status) hs) e))
+over-list (y ∷ hs) e zero h x = let q : y ≡ h = cc x in subst (λ z. z.status ≡ Done) q
+    (is-done y.status (first (has_finished y.status) (list_all (λ h. has_finished h.status) hs) e))
   where
     first : (a b : Bool) → (a && b) ≡ true → a ≡ true
     first true b e = refl

@@ -83,7 +83,8 @@ abbrev pub Holds : Phase → Phase → ℕ → ℕ → List ℕ → ℕ → Hart
 Holds q p top shut mem k h Before = Link q p × Stands q k h (q.door + 4)
 Holds q p top shut mem k h (Asked g) = Link q p × (Stands q k h (q.door + 8) × (slice_index h.registers 17 ≡ g))
 Holds q p top shut mem k h Drawing = Stands p k h p.draw_code
-Holds q p top shut mem k h (Drew v) = Stands p k h (p.draw_code + 4) × ((slice_index h.registers 12 ≡ v) × ((v < top) × ((a : ℕ) → p.uses a ≡ Owned v → byte_at p.text mem a ≡ p.start a)))
+Holds q p top shut mem k h (Drew v) = Stands p k h (p.draw_code + 4) × ((slice_index h.registers 12 ≡ v) × ((v < top) × ((a : ℕ) → p.uses a ≡ Owned v
+    → byte_at p.text mem a ≡ p.start a)))
 Holds q p top shut mem k h (Inside t j m) = Under p top mem k h t j m
 Holds q p top shut mem k h Adding = Stands p k h p.door × ((p.tasks < top) × HasGate p)
 Holds q p top shut mem k h Looking = Stands p k h (p.door + 4) × ((p.tasks < top) × HasGate p)
@@ -104,7 +105,8 @@ pub record Inv (q p : Phase) (roles : List Role) (top : ℕ) (s : State) : Type 
   pub bytes : AreBytes s.memory
   pub many : length s.harts ≡ p.harts
   pub same : length roles ≡ length s.harts
-  pub holds : (k : ℕ) (r : Role) (h : HartState) → slice_get roles k ≡ Some r → slice_get s.harts k ≡ Some h → Holds q p top (total has_added roles) s.memory k h r
+  pub holds : (k : ℕ) (r : Role) (h : HartState) → slice_get roles k ≡ Some r → slice_get s.harts k ≡ Some h
+      → Holds q p top (total has_added roles) s.memory k h r
   pub one_each : (k l : ℕ) (r q : Role) (t : ℕ) → k ≢ l → slice_get roles k ≡ Some r → slice_get roles l ≡ Some q → Has r t → Has q t → ⊥
   pub tickets : word_at p.text s.memory p.ticket ≡ top
   pub gates : word_at p.text s.memory p.gate ≡ total has_added roles
@@ -123,9 +125,11 @@ pub record InPhase (q p : Phase) (s : State) : Type 0 where
 -- what a turn makes of a role, and of the next number to draw
 abbrev pub Becomes : Phase → ℕ → ℕ → Role → Role → ℕ → Type 0
 Becomes p top shut Before r1 top1 = (top1 ≡ top) × (r1 ≡ Asked p.harts)
-Becomes p top shut (Asked g) r1 top1 = (top1 ≡ top) × (((g ≡ p.harts) × ((m : List ℕ) × (r1 ≡ Inside Setup (p.turns Setup) m))) ⊎ ((g ≢ p.harts) × (r1 ≡ Before)))
+Becomes p top shut (Asked g) r1 top1 = (top1 ≡ top) × (((g ≡ p.harts) × ((m : List ℕ) × (r1 ≡ Inside Setup (p.turns Setup) m)))
+    ⊎ ((g ≢ p.harts) × (r1 ≡ Before)))
 Becomes p top shut Drawing r1 top1 = (top1 ≡ top + 1) × (r1 ≡ Drew top)
-Becomes p top shut (Drew v) r1 top1 = (top1 ≡ top) × (((v < p.tasks) × ((m : List ℕ) × (r1 ≡ Inside (Task v) (p.turns (Task v)) m))) ⊎ ((p.tasks ≤ v) × ((HasGate p × (r1 ≡ Adding)) ⊎ (HasEnd p × (r1 ≡ Leaving)))))
+Becomes p top shut (Drew v) r1 top1 = (top1 ≡ top) × (((v < p.tasks) × ((m : List ℕ) × (r1 ≡ Inside (Task v) (p.turns (Task v)) m)))
+    ⊎ ((p.tasks ≤ v) × ((HasGate p × (r1 ≡ Adding)) ⊎ (HasEnd p × (r1 ≡ Leaving)))))
 Becomes p top shut (Inside x zero m) r1 top1 = (top1 ≡ top) × (r1 ≡ Drawing)
 Becomes p top shut (Inside x (suc j) m) r1 top1 = (top1 ≡ top) × ((m1 : List ℕ) × (r1 ≡ Inside x j m1))
 Becomes p top shut Adding r1 top1 = (top1 ≡ top) × (r1 ≡ Looking)

@@ -43,7 +43,8 @@ module _ (ph : ℕ → Phase) (last : ℕ) (pr : Program ph last) (k : ℕ) wher
   gate-is at le = let a = pr.tickets at le in let b = (pr.code at le).two_words in omega (arith, a, b)
 
   abbrev Further : ℕ → ℕ → Type 0
-  Further d at = (s : State) (known : List ℕ) (e : ℕ) → d ≡ suc e → (rs : List Role) → Inv (ph at) (ph (suc at)) rs 0 s → (q : Role) → slice_get rs k ≡ Some q → has_added q ≡ 0 → Stops s known
+  Further d at = (s : State) (known : List ℕ) (e : ℕ) → d ≡ suc e → (rs : List Role) → Inv (ph at) (ph (suc at)) rs 0 s → (q : Role) → slice_get rs k ≡ Some q
+      → has_added q ≡ 0 → Stops s known
 
   -- what stands behind the phase under way
   gate-or-last : (at : ℕ) → at ≤ last → ((at < last) × HasGate (ph at)) ⊎ HasEnd (ph at)
@@ -53,7 +54,8 @@ module _ (ph : ℕ → Phase) (last : ℕ) (pr : Program ph last) (k : ℕ) wher
   ]
 
   -- the hart has added: it waits, or all have
-  added : (d at top : ℕ) (roles : List Role) (r : Role) (s : State) (known : List ℕ) → at + d ≡ last → at < last → Inv (prior ph at) (ph at) roles top s → slice_get roles k ≡ Some r → is_word_in (gate_word at) known ≡ true
+  added : (d at top : ℕ) (roles : List Role) (r : Role) (s : State) (known : List ℕ) → at + d ≡ last → at < last → Inv (prior ph at) (ph at) roles top s
+      → slice_get roles k ≡ Some r → is_word_in (gate_word at) known ≡ true
       → Further d at → Stops s known
   added d at top roles r s known e below-last v er w next = elim (cases_lt (total has_added roles) (ph at).harts) [
     | inl lt ↦ ([], tt, inl (at, (below-last, (w, low lt))))
@@ -63,15 +65,18 @@ module _ (ph : ℕ → Phase) (last : ℕ) (pr : Program ph last) (k : ℕ) wher
       low : total has_added roles < (ph at).harts → word_at s.text s.memory (gate_word at) < length s.harts
       low lt =
           let le : at ≤ last = omega (arith, e) in
-          let x : word_at s.text s.memory (gate_word at) ≡ total has_added roles = ap (λ t. word_at t s.memory (gate_word at)) v.text ∙ ap (word_at (ph at).text s.memory) (sym (gate-is at le)) ∙ v.gates in
+          let x : word_at s.text s.memory (gate_word at) ≡ total has_added roles = ap (λ t. word_at t s.memory (gate_word at)) v.text
+          ∙ ap (word_at (ph at).text s.memory) (sym (gate-is at le)) ∙ v.gates in
           let y = v.many in omega (arith, x, y, lt)
 
       go : (n : ℕ) → at + n ≡ last → Further n at → (ph at).harts ≤ total has_added roles → Stops s known
-      go (suc n) e next full = next s known n refl (map come roles) (passed (prior ph at) (ph at) (ph (suc at)) s roles top v full (pr.some at (omega (arith, e))) (pr.follows at (omega (arith, e)))) (come r) (get-come roles k r er) (none-added r)
+      go (suc n) e next full = next s known n refl (map come roles) (passed (prior ph at) (ph at) (ph (suc at)) s roles top v full
+          (pr.some at (omega (arith, e))) (pr.follows at (omega (arith, e)))) (come r) (get-come roles k r er) (none-added r)
       go zero e next full = absurd (omega (arith, e, below-last))
 
   -- at the last phase a hart comes to its end
-  ends : (at top : ℕ) (roles : List Role) (r : Role) (s : State) (known : List ℕ) → at ≤ last → HasEnd (ph at) → Inv (prior ph at) (ph at) roles top s → slice_get roles k ≡ Some r → Stops s known
+  ends : (at top : ℕ) (roles : List Role) (r : Role) (s : State) (known : List ℕ) → at ≤ last → HasEnd (ph at) → Inv (prior ph at) (ph at) roles top s
+      → slice_get roles k ≡ Some r → Stops s known
   ends at top roles r s known le he v er =
       let p = ph at in
       let z = prior ph at in
@@ -81,7 +86,8 @@ module _ (ph : ℕ → Phase) (last : ℕ) (pr : Program ph last) (k : ℕ) wher
       let o = slice_get-set_same roles k r Over er in
       (w.1.turns, w.1.only, inr (λ h eg. (i.holds k Over h o eg).0))
 
-  reach : (d at top : ℕ) (roles : List Role) (r : Role) (s : State) (known : List ℕ) → at + d ≡ last → Inv (prior ph at) (ph at) roles top s → slice_get roles k ≡ Some r → (has_added r ≡ 1 → is_word_in (gate_word at) known ≡ true) → Further d at → Stops s known
+  reach : (d at top : ℕ) (roles : List Role) (r : Role) (s : State) (known : List ℕ) → at + d ≡ last → Inv (prior ph at) (ph at) roles top s
+      → slice_get roles k ≡ Some r → (has_added r ≡ 1 → is_word_in (gate_word at) known ≡ true) → Further d at → Stops s known
   reach d at top roles r s known e v er m next =
       let le : at ≤ last = omega (arith, e) in
       elim (gate-or-last at le) [
@@ -92,16 +98,20 @@ module _ (ph : ℕ → Phase) (last : ℕ) (pr : Program ph last) (k : ℕ) wher
               let p = ph at in
               let z = prior ph at in
               let bh = behind ph last pr at le in
-              let w = to-gate z p (pr.code at le) (pr.tasks at le) bh k roles r er r top s hg.1 a (as-set z p (pr.code at le) (pr.tasks at le) bh roles k r top s er v) in
-              before s known w.1.turns w.1.only (added d at w.0 (set roles k Looking) Looking (run s w.1.turns) (last_written k known s w.1.turns) e hg.0 w.1.inv (slice_get-set_same roles k r Looking er)
+              let w = to-gate z p (pr.code at le) (pr.tasks at le) bh k roles r er r top s hg.1 a (as-set z p (pr.code at le) (pr.tasks at le) bh roles k r top
+              s er v) in
+              before s known w.1.turns w.1.only (added d at w.0 (set roles k Looking) Looking (run s w.1.turns) (last_written k known s w.1.turns) e hg.0
+              w.1.inv (slice_get-set_same roles k r Looking er)
               (subst (λ x. is_word_in x (last_written k known s w.1.turns) ≡ true) (gate-is at le) (w.2 known)) next)
         ]
       ]
 
-  stops : (d at top : ℕ) (roles : List Role) (r : Role) (s : State) (known : List ℕ) → at + d ≡ last → Inv (prior ph at) (ph at) roles top s → slice_get roles k ≡ Some r → (has_added r ≡ 1 → is_word_in (gate_word at) known ≡ true) → Stops s known
+  stops : (d at top : ℕ) (roles : List Role) (r : Role) (s : State) (known : List ℕ) → at + d ≡ last → Inv (prior ph at) (ph at) roles top s
+      → slice_get roles k ≡ Some r → (has_added r ≡ 1 → is_word_in (gate_word at) known ≡ true) → Stops s known
   stops zero at top roles r s known e v er m = reach zero at top roles r s known e v er m (λ s1 kn n f rs i q eq z. absurd (omega (arith, f)))
   stops (suc d) at top roles r s known e v er m =
-      reach (suc d) at top roles r s known e v er m (λ s1 kn n f rs i q eq z. stops d (suc at) 0 rs q s1 kn (omega (arith, e)) i eq (λ o. absurd (omega (arith, o, z))))
+      reach (suc d) at top roles r s known e v er m (λ s1 kn n f rs i q eq z. stops d (suc at) 0 rs q s1 kn (omega (arith, e)) i eq
+      (λ o. absurd (omega (arith, o, z))))
 
 pub there : {X : Type 0} (xs : List X) (k : ℕ) → k < length xs → (x : X) × (slice_get xs k ≡ Some x)
 there [] k l = absurd (omega (arith, l))
@@ -129,7 +139,8 @@ alone-stops ph last entry memory turns g o k lt =
           within = w.1.0;
           wrote = ap (is_word_in (gate_word w.0)) (last-written-append k [] begin turns r.0) ∙ w.1.1.0;
           below =
-              let y : word_at (run begin (turns ++ r.0)).text (run begin (turns ++ r.0)).memory (gate_word w.0) < length (run begin (turns ++ r.0)).harts = subst (λ s. word_at s.text s.memory (gate_word w.0) < length s.harts) (sym here) w.1.1.1 in
+              let y : word_at (run begin (turns ++ r.0)).text (run begin (turns ++ r.0)).memory (gate_word w.0) < length (run begin (turns ++ r.0)).harts =
+              subst (λ s. word_at s.text s.memory (gate_word w.0) < length s.harts) (sym here) w.1.1.1 in
               let n : length (run begin (turns ++ r.0)).harts ≡ length begin.harts = (shape-run begin (turns ++ r.0)).harts in omega (arith, y, n);
         })
         | inr w ↦ inr (λ h e. w h (subst (λ s. slice_get s.harts k ≡ Some h) here e))

@@ -1,7 +1,8 @@
 -- Rules for the run of one job alone: one more instruction in front, and a counted loop.
 use Rattle.multi_hart_logic.specs.Alone.{Covers, Says, Keeps}
 use Rattle.multi_hart.specs.Run.{Within, is_in, writes}
-use Rattle.std.proofs.Common.{◌≡◌, ℕ, zero, suc, ◌+◌, ◌*◌, ◌%◌, ◌^◌, ◌≤◌, List, length, set, None, Bool, true, false, refl, ap, ◌∙◌, sym, subst, arith, inl, inr, get_or-set_other, [], ◌∷◌, length-set}
+use Rattle.std.proofs.Common.{◌≡◌, ℕ, zero, suc, ◌+◌, ◌*◌, ◌%◌, ◌^◌, ◌≤◌, List, length, set, None, Bool, true, false, refl, ap, ◌∙◌, sym, subst, arith, inl}
+use Rattle.std.proofs.Common.{inr, get_or-set_other, [], ◌∷◌, length-set}
 use Rattle.std.specs.Prelude.{◌≢◌, ◌⊎◌, ◌==◌, ◌||◌, not, slice_index, slice_get, nat_lt, Some, ℤ}
 use Rattle.std.proofs.lemmas.Bool.{ltb-true}
 use Rattle.std.proofs.lemmas.Bool.Decides.{nat_tests}
@@ -40,20 +41,23 @@ May p x k i h =
 pub keeps-none : (p : Phase) (x : Job) (k : ℕ) → Keeps (world p x k) []
 keeps-none p x k a t e u = absurd (cc e)
 
-pub wp-at : (p : Phase) (x : Job) (k n at : ℕ) (i : Insn) (h : HartState) (m : List ℕ) → length m ≡ p.size → h.status ≡ Running → h.pc ≡ at → Says p.text at i → fault (length p.text) p.size i h ≡ None
+pub wp-at : (p : Phase) (x : Job) (k n at : ℕ) (i : Insn) (h : HartState) (m : List ℕ) → length m ≡ p.size → h.status ≡ Running → h.pc ≡ at → Says p.text at i
+    → fault (length p.text) p.size i h ≡ None
     → May p x k i h
     → SoonDone p x k n (left (world p x k) m h i).0 (left (world p x k) m h i).1
     → SoonDone p x k (suc n) h m
 wp-at p x k n at i h m l r c w f may s = in-front (world p x k) _ n at i h m l r c w f may.0 may.1 may.2 s
 
-pub wp : (p : Phase) (x : Job) (k n at : ℕ) (i : Insn) (h : HartState) (m : List ℕ) → length m ≡ p.size → Stands p k h at → Says p.text at i → fault (length p.text) p.size i h ≡ None
+pub wp : (p : Phase) (x : Job) (k n at : ℕ) (i : Insn) (h : HartState) (m : List ℕ) → length m ≡ p.size → Stands p k h at → Says p.text at i
+    → fault (length p.text) p.size i h ≡ None
     → May p x k i h
     → SoonDone p x k n (left (world p x k) m h i).0 (left (world p x k) m h i).1
     → SoonDone p x k (suc n) h m
 wp p x k n at i h m l st w f may s = wp-at p x k n at i h m l st.running st.pc w f may s
 
 -- and what is covered later
-cover-later : (p : Phase) (x : Job) (k n at : ℕ) (i : Insn) (h : HartState) (m : List ℕ) → length m ≡ p.size → Stands p k h at → Says p.text at i → fault (length p.text) p.size i h ≡ None
+cover-later : (p : Phase) (x : Job) (k n at : ℕ) (i : Insn) (h : HartState) (m : List ℕ) → length m ≡ p.size → Stands p k h at → Says p.text at i
+    → fault (length p.text) p.size i h ≡ None
     → Cover p x n (left (world p x k) m h i).0 (left (world p x k) m h i).1 → Cover p x (suc n) h m
 cover-later p Setup k n at i h m l st w f c = tt
 cover-later p (Task t) k n at i h m l st w f c =
@@ -61,7 +65,8 @@ cover-later p (Task t) k n at i h m l st w f c =
     let q : step p.text m h ≡ applied m (done h i (numbers_read p.text m h i)) = ap (applied m) (effect-does p.text p.size m h (Does i) l e) in
     λ a u b. inr (subst (λ y. Covers p.text p.size n y.hart y.memory a) (sym q) (c a u b))
 
-pub wp-all : (p : Phase) (x : Job) (k n at : ℕ) (i : Insn) (h : HartState) (m : List ℕ) → length m ≡ p.size → Stands p k h at → Says p.text at i → fault (length p.text) p.size i h ≡ None
+pub wp-all : (p : Phase) (x : Job) (k n at : ℕ) (i : Insn) (h : HartState) (m : List ℕ) → length m ≡ p.size → Stands p k h at → Says p.text at i
+    → fault (length p.text) p.size i h ≡ None
     → May p x k i h
     → All p x k n (left (world p x k) m h i).0 (left (world p x k) m h i).1
     → All p x k (suc n) h m
@@ -73,11 +78,13 @@ wp-all p x k n at i h m l st w f may s = (wp p x k n at i h m l st w f may s.0, 
 abbrev pub is_free : ℕ → Bool
 is_free r = not (r == 10 || r == 11 || r == 13 || r == 14 || r == 15 || r == 16)
 
-pub goes-on : (p : Phase) (k at next r v : ℕ) (h : HartState) → (at + 4) % 2 ^ 32 ≡ next → is_free r ≡ true → Stands p k h at → Stands p k (record h { pc = (h.pc + 4) % 2 ^ 32; registers = set h.registers r v }) next
+pub goes-on : (p : Phase) (k at next r v : ℕ) (h : HartState) → (at + 4) % 2 ^ 32 ≡ next → is_free r ≡ true → Stands p k h at
+    → Stands p k (record h { pc = (h.pc + 4) % 2 ^ 32; registers = set h.registers r v }) next
 goes-on p k at next r v h e f st = record {
   running = st.running;
   pc = ap (λ a. (a + 4) % 2 ^ 32) st.pc ∙ e;
-  kept = kept-set p k h.registers h.vectors r v (apart 10 f refl) (apart 11 f refl) (apart 13 f refl) (apart 14 f refl) (apart 15 f refl) (apart 16 f refl) st.kept;
+  kept = kept-set p k h.registers h.vectors r v (apart 10 f refl) (apart 11 f refl) (apart 13 f refl) (apart 14 f refl) (apart 15 f refl) (apart 16 f refl)
+      st.kept;
 }
   where
     apart : (q : ℕ) → is_free r ≡ true → is_free q ≡ false → q ≢ r
@@ -90,7 +97,8 @@ pub now : (p : Phase) (k at : ℕ) (h : HartState) (r v : ℕ) → Stands p k h 
 now p k at h r v st l = get_or-set_same h.registers r v 0 (let s = st.kept.size in let q = ltb-true r 32 l in omega (arith, s, q))
 
 pub kept-other : (h : HartState) (r q v w : ℕ) → (q == r) ≡ false → slice_index h.registers q ≡ w → slice_index (set h.registers r v) q ≡ w
-kept-other h r q v w n e = get_or-set_other h.registers r q v 0 (λ y. let x : (q == r) ≡ true = grind (arith, nat_tests) in let z : true ≡ false = sym x ∙ n in cc z) ∙ e
+kept-other h r q v w n e = get_or-set_other h.registers r q v 0 (λ y. let x : (q == r) ≡ true = grind (arith, nat_tests) in let z : true ≡ false = sym x
+    ∙ n in cc z) ∙ e
 
 -- a vector register gets 16 other bytes
 set-either : {X : Type 0} (xs : List X) (i j : ℕ) (y x : X) → slice_get (set xs i y) j ≡ Some x → (x ≡ y) ⊎ (slice_get xs j ≡ Some x)
@@ -100,7 +108,8 @@ set-either (z ∷ xs) zero (suc j) y x e = inr e
 set-either (z ∷ xs) (suc i) zero y x e = inr e
 set-either (z ∷ xs) (suc i) (suc j) y x e = set-either xs i j y x e
 
-pub kept-vector : (p : Phase) (k : ℕ) (xs : List ℕ) (vs : List (List ℕ)) (v : ℕ) (bytes : List ℕ) → length bytes ≡ 16 → AreBytes bytes → Kept p k xs vs → Kept p k xs (set vs v bytes)
+pub kept-vector : (p : Phase) (k : ℕ) (xs : List ℕ) (vs : List (List ℕ)) (v : ℕ) (bytes : List ℕ) → length bytes ≡ 16 → AreBytes bytes → Kept p k xs vs
+    → Kept p k xs (set vs v bytes)
 kept-vector p k xs vs v bytes l u o = record {
   size = o.size;
   vector_count = length-set vs v bytes ∙ o.vector_count;
@@ -122,37 +131,52 @@ pub load-ok : (w n a : ℕ) → a % 4 ≡ 0 → data_start ≤ a → a + 4 ≤ d
 load-ok w n a e l h = grind (arith, nat_tests)
 
 -- a word that is stored at a, where the job may write it
-pub wp-store : (p : Phase) (x : Job) (k n at rs1 rs2 : ℕ) (imm : ℤ) (h : HartState) (m : List ℕ) (a v : ℕ) → length m ≡ p.size → Stands p k h at → Says p.text at (Store Sw rs1 rs2 imm)
+pub wp-store : (p : Phase) (x : Job) (k n at rs1 rs2 : ℕ) (imm : ℤ) (h : HartState) (m : List ℕ) (a v : ℕ) → length m ≡ p.size → Stands p k h at
+    → Says p.text at (Store Sw rs1 rs2 imm)
     → plus (register h rs1) imm ≡ a → register h rs2 ≡ v → a % 4 ≡ 0 → data_start ≤ a → a + 4 ≤ data_start + p.size
     → Within (λ b. MayWrite x k (p.uses b)) (touched (one_access Word a)) → Keeps (world p x k) (touched (one_access Word a))
     → SoonDone p x k n (advanced h) (put_number m Word a v) → SoonDone p x k (suc n) h m
 wp-store p x k n at rs1 rs2 imm h m a v l st w ea ev al lo hi wr kp s =
     wp p x k n at (Store Sw rs1 rs2 imm) h m l st w
-    (ap (λ b. or_else (first_fault (length p.text) p.size Writes (one_access Word b)) None) ea ∙ store-ok (length p.text) p.size a al lo hi)
-    (tt, subst (λ b. Within (λ b1. MayWrite x k (p.uses b1)) (touched (one_access Word b))) (sym ea) wr, subst (λ b. Keeps (world p x k) (touched (one_access Word b))) (sym ea) kp)
-    (subst (λ b. SoonDone p x k n (advanced h) (put_number m Word b (register h rs2))) (sym ea) (subst (λ b. SoonDone p x k n (advanced h) (put_number m Word a b)) (sym ev) s))
+    (ap (λ b. or_else (first_fault (length p.text) p.size Writes (one_access Word b)) None) ea ∙ store-ok (length p.text) p.size a al lo hi) (
+      tt,
+      subst (λ b. Within (λ b1. MayWrite x k (p.uses b1)) (touched (one_access Word b))) (sym ea) wr,
+      subst (λ b. Keeps (world p x k)
+          (touched (one_access Word b))) (sym ea) kp,
+    )
+    (subst (λ b. SoonDone p x k n (advanced h) (put_number m Word b (register h rs2))) (sym ea)
+    (subst (λ b. SoonDone p x k n (advanced h) (put_number m Word a b)) (sym ev) s))
 
-pub wp-store-all : (p : Phase) (x : Job) (k n at rs1 rs2 : ℕ) (imm : ℤ) (h : HartState) (m : List ℕ) (a v : ℕ) → length m ≡ p.size → Stands p k h at → Says p.text at (Store Sw rs1 rs2 imm)
+pub wp-store-all : (p : Phase) (x : Job) (k n at rs1 rs2 : ℕ) (imm : ℤ) (h : HartState) (m : List ℕ) (a v : ℕ) → length m ≡ p.size → Stands p k h at
+    → Says p.text at (Store Sw rs1 rs2 imm)
     → plus (register h rs1) imm ≡ a → register h rs2 ≡ v → a % 4 ≡ 0 → data_start ≤ a → a + 4 ≤ data_start + p.size
     → Within (λ b. MayWrite x k (p.uses b)) (touched (one_access Word a)) → Keeps (world p x k) (touched (one_access Word a))
     → All p x k n (advanced h) (put_number m Word a v) → All p x k (suc n) h m
 wp-store-all p x k n at rs1 rs2 imm h m a v l st w ea ev al lo hi wr kp s =
     wp-all p x k n at (Store Sw rs1 rs2 imm) h m l st w
-    (ap (λ b. or_else (first_fault (length p.text) p.size Writes (one_access Word b)) None) ea ∙ store-ok (length p.text) p.size a al lo hi)
-    (tt, subst (λ b. Within (λ b1. MayWrite x k (p.uses b1)) (touched (one_access Word b))) (sym ea) wr, subst (λ b. Keeps (world p x k) (touched (one_access Word b))) (sym ea) kp)
-    (subst (λ b. All p x k n (advanced h) (put_number m Word b (register h rs2))) (sym ea) (subst (λ b. All p x k n (advanced h) (put_number m Word a b)) (sym ev) s))
+    (ap (λ b. or_else (first_fault (length p.text) p.size Writes (one_access Word b)) None) ea ∙ store-ok (length p.text) p.size a al lo hi) (
+      tt,
+      subst (λ b. Within (λ b1. MayWrite x k (p.uses b1)) (touched (one_access Word b))) (sym ea) wr,
+      subst (λ b. Keeps (world p x k)
+          (touched (one_access Word b))) (sym ea) kp,
+    )
+    (subst (λ b. All p x k n (advanced h) (put_number m Word b (register h rs2))) (sym ea) (subst (λ b. All p x k n (advanced h) (put_number m Word a b))
+    (sym ev) s))
 
 -- the same, and the word is covered later, or is what the task owns
-pub cover-store : (p : Phase) (t k n at rs1 rs2 : ℕ) (imm : ℤ) (h : HartState) (m : List ℕ) (a : ℕ) → length m ≡ p.size → Stands p k h at → Says p.text at (Store Sw rs1 rs2 imm)
+pub cover-store : (p : Phase) (t k n at rs1 rs2 : ℕ) (imm : ℤ) (h : HartState) (m : List ℕ) (a : ℕ) → length m ≡ p.size → Stands p k h at
+    → Says p.text at (Store Sw rs1 rs2 imm)
     → plus (register h rs1) imm ≡ a → a % 4 ≡ 0 → data_start ≤ a → a + 4 ≤ data_start + p.size
     → ((b : ℕ) → p.uses b ≡ Owned t → is_in b (touched (one_access Word a)) ≡ true)
     → Cover p (Task t) (suc n) h m
 cover-store p t k n at rs1 rs2 imm h m a l st w ea al lo hi f b u y =
-    let e = next-by p.text p.size h at (Store Sw rs1 rs2 imm) st.running st.pc w (ap (λ b. or_else (first_fault (length p.text) p.size Writes (one_access Word b)) None) ea ∙ store-ok (length p.text) p.size a al lo hi) in
+    let e = next-by p.text p.size h at (Store Sw rs1 rs2 imm) st.running st.pc w
+    (ap (λ b. or_else (first_fault (length p.text) p.size Writes (one_access Word b)) None) ea ∙ store-ok (length p.text) p.size a al lo hi) in
     inl (ap (λ y. is_in b (writes y h)) e ∙ ap (λ y. is_in b (touched (one_access Word y))) ea ∙ f b u)
 
 -- a word that is loaded from a, where the job may read it
-pub wp-load : (p : Phase) (x : Job) (k n at rd rs1 : ℕ) (imm : ℤ) (h : HartState) (m : List ℕ) (a v : ℕ) → length m ≡ p.size → Stands p k h at → Says p.text at (Load Lw rd rs1 imm)
+pub wp-load : (p : Phase) (x : Job) (k n at rd rs1 : ℕ) (imm : ℤ) (h : HartState) (m : List ℕ) (a v : ℕ) → length m ≡ p.size → Stands p k h at
+    → Says p.text at (Load Lw rd rs1 imm)
     → plus (register h rs1) imm ≡ a → word_at p.text m a ≡ v → a % 4 ≡ 0 → data_start ≤ a → a + 4 ≤ data_start + p.size
     → Within (λ b. MayRead x k (p.uses b)) (touched (one_access Word a))
     → All p x k n (given h rd v) m → All p x k (suc n) h m
@@ -163,6 +187,9 @@ wp-load p x k n at rd rs1 imm h m a v l st w ea ev al lo hi rd1 s =
     (subst (λ y. All p x k n (given h rd y) m) (sym (ap (word_at p.text m) ea ∙ ev)) s)
 
 -- a counted loop: P i holds with i rounds to go, and a round takes c turns
-pub rounds : (p : Phase) (x : Job) (k c n : ℕ) (P : ℕ → HartState → List ℕ → Type 0) → ((i r : ℕ) (h : HartState) (m : List ℕ) → P (suc i) h m → ((h1 : HartState) (m1 : List ℕ) → P i h1 m1 → SoonDone p x k r h1 m1) → SoonDone p x k (c + r) h m) → ((h : HartState) (m : List ℕ) → P 0 h m → SoonDone p x k n h m) → (i : ℕ) (h : HartState) (m : List ℕ) → P i h m → SoonDone p x k (i * c + n) h m
+pub rounds : (p : Phase) (x : Job) (k c n : ℕ) (P : ℕ → HartState → List ℕ → Type 0) → ((i r : ℕ) (h : HartState) (m : List ℕ) → P (suc i) h m
+    → ((h1 : HartState) (m1 : List ℕ) → P i h1 m1 → SoonDone p x k r h1 m1) → SoonDone p x k (c + r) h m) → ((h : HartState) (m : List ℕ) → P 0 h m
+    → SoonDone p x k n h m) → (i : ℕ) (h : HartState) (m : List ℕ) → P i h m → SoonDone p x k (i * c + n) h m
 rounds p x k c n P body rest zero h m o = subst (λ y. SoonDone p x k y h m) (let e : n ≡ 0 * c + n = omega arith in e) (rest h m o)
-rounds p x k c n P body rest (suc i) h m o = subst (λ y. SoonDone p x k y h m) (let e : c + (i * c + n) ≡ suc i * c + n = omega arith in e) (body i (i * c + n) h m o (λ h1 m1 o1. rounds p x k c n P body rest i h1 m1 o1))
+rounds p x k c n P body rest (suc i) h m o = subst (λ y. SoonDone p x k y h m) (let e : c + (i * c + n) ≡ suc i * c + n = omega arith in e)
+    (body i (i * c + n) h m o (λ h1 m1 o1. rounds p x k c n P body rest i h1 m1 o1))

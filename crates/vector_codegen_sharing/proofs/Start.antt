@@ -71,7 +71,14 @@ opening ph last entry memory g o =
       bytes = o.bytes;
       many = length-opening entry p.harts p.harts;
       same = length-settings p s.memory s.harts;
-      holds = λ k r h er eh. subst (Holds nowhere p 0 (total has_added rs) s.memory k h) (each-setting p s.memory s.harts k r er) (record { drawn = tt; size = o.size; agree = λ a e. refl; soon = let q = opening-is entry p.harts p.harts k h eh in subst (λ x. SoonDone p Setup k (suc (p.turns Setup)) x s.memory) q.1 (o.setup k q.0) });
+      holds = λ k r h er eh. subst (Holds nowhere p 0 (total has_added rs) s.memory k h) (each-setting p s.memory s.harts k r er) (record {
+        drawn = tt;
+        size =
+            o.size;
+        agree = λ a e. refl;
+        soon = let q = opening-is entry p.harts p.harts k h eh in subst (λ x. SoonDone p Setup k (suc (p.turns Setup)) x
+            s.memory) q.1 (o.setup k q.0);
+      });
       one_each = λ k l r q t ne er eq hr hq. subst (λ x. Has x t) (sym (each-setting p s.memory s.harts k r er)) hr;
       tickets = o.tickets;
       gates = o.gates ∙ sym none;
@@ -81,10 +88,17 @@ opening ph last entry memory g o =
       waiting = λ a t e l. o.found a (subst Shared (sym e) tt);
       tasks = λ t l m. absurd (omega (arith, m));
     } in
-    record { at = 0; within = omega arith; phase = record { roles = rs; top = 0; inv = i }; still_open = inr (let a = g.some 0 (omega arith) in omega (arith, a, none)) }
+    record {
+      at = 0;
+      within = omega arith;
+      phase = record { roles = rs; top = 0; inv = i };
+      still_open = inr (let a = g.some 0 (omega arith) in
+          omega (arith, a, none));
+    }
 
 -- no hart has added yet
-pub opening-none : (ph : ℕ → Phase) (last entry : ℕ) (memory : List ℕ) (g : Program ph last) (o : Opens (ph 0) entry memory) (k : ℕ) (r : Role) → slice_get (opening ph last entry memory g o).phase.roles k ≡ Some r → has_added r ≡ 0
+pub opening-none : (ph : ℕ → Phase) (last entry : ℕ) (memory : List ℕ) (g : Program ph last) (o : Opens (ph 0) entry memory) (k : ℕ) (r : Role)
+    → slice_get (opening ph last entry memory g o).phase.roles k ≡ Some r → has_added r ≡ 0
 unfolding opening
 opening-none ph last entry memory g o k r e = let s = start (ph 0) entry memory in sym (ap has_added (each-setting (ph 0) s.memory s.harts k r e))
 
@@ -96,12 +110,14 @@ unfolding opening
 opening-first ph last entry memory g o = (refl, refl, λ k r e. sym (each-setting (ph 0) memory (start (ph 0) entry memory).harts k r e))
 
 -- the roles with which a run begins
-pub opening-starts : (ph : ℕ → Phase) (last entry : ℕ) (memory : List ℕ) (g : Program ph last) (o : Opens (ph 0) entry memory) → (roles : List Role) × Inv nowhere (ph 0) roles 0 (start (ph 0) entry memory) × ((k : ℕ) (r : Role) → slice_get roles k ≡ Some r → Early r)
+pub opening-starts : (ph : ℕ → Phase) (last entry : ℕ) (memory : List ℕ) (g : Program ph last) (o : Opens (ph 0) entry memory)
+    → (roles : List Role) × Inv nowhere (ph 0) roles 0 (start (ph 0) entry memory) × ((k : ℕ) (r : Role) → slice_get roles k ≡ Some r → Early r)
 unfolding opening
 opening-starts ph last entry memory g o =
     let i = (opening ph last entry memory g o).phase in
     let s = start (ph 0) entry memory in
     (i.roles, i.inv, λ k r e. subst Early (each-setting (ph 0) s.memory s.harts k r e) tt)
 
-pub always : (ph : ℕ → Phase) (last entry : ℕ) (memory turns : List ℕ) → Program ph last → Opens (ph 0) entry memory → InProgram ph last (run (start (ph 0) entry memory) turns)
+pub always : (ph : ℕ → Phase) (last entry : ℕ) (memory turns : List ℕ) → Program ph last → Opens (ph 0) entry memory
+    → InProgram ph last (run (start (ph 0) entry memory) turns)
 always ph last entry memory turns g o = all ph last g (start (ph 0) entry memory) turns (opening ph last entry memory g o)

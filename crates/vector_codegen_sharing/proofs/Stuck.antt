@@ -19,18 +19,21 @@ looking : State
 looking = run stuck (0 ∷ 1 ∷ 0 ∷ 1 ∷ 0 ∷ 1 ∷ 0 ∷ 1 ∷ 0 ∷ 1 ∷ 0 ∷ 1 ∷ [])
 
 again : run looking (0 ∷ 1 ∷ 0 ∷ 1 ∷ []) ≡ looking
-unfolding looking decoded decode.rd_of decode.rs1_of decode.rs2_of decode.i_immediate_of decode.u_immediate_of decode.b_offset_of key_in scalar_table r_type i_type s_type b_type u_type j_type amo_type whole_word fixed span
+unfolding looking decoded decode.rd_of decode.rs1_of decode.rs2_of decode.i_immediate_of decode.u_immediate_of decode.b_offset_of key_in scalar_table r_type
+    i_type s_type b_type u_type j_type amo_type whole_word fixed span
 again = refl
 
 unfinished : all_finished looking ≡ false
-unfolding looking decoded decode.rd_of decode.rs1_of decode.rs2_of decode.i_immediate_of decode.u_immediate_of decode.b_offset_of key_in scalar_table r_type i_type s_type b_type u_type j_type amo_type whole_word fixed span
+unfolding looking decoded decode.rd_of decode.rs1_of decode.rs2_of decode.i_immediate_of decode.u_immediate_of decode.b_offset_of key_in scalar_table r_type
+    i_type s_type b_type u_type j_type amo_type whole_word fixed span
 unfinished = refl
 
 same-status : (x h : HartState) → ◌≡◌ {A = Option HartState} (Some x) (Some h) → x.status ≡ Running → h.status ≡ Running
 same-status x h e r = let q : x ≡ h = cc in subst (λ y. y.status ≡ Running) q r
 
 running : (k : ℕ) (h : HartState) → slice_get looking.harts k ≡ Some h → h.status ≡ Running
-unfolding looking decoded decode.rd_of decode.rs1_of decode.rs2_of decode.i_immediate_of decode.u_immediate_of decode.b_offset_of key_in scalar_table r_type i_type s_type b_type u_type j_type amo_type whole_word fixed span
+unfolding looking decoded decode.rd_of decode.rs1_of decode.rs2_of decode.i_immediate_of decode.u_immediate_of decode.b_offset_of key_in scalar_table r_type
+    i_type s_type b_type u_type j_type amo_type whole_word fixed span
 running zero h e = same-status _ h e refl
 running (suc zero) h e = same-status _ h e refl
 running (suc (suc k)) h e = absurd (cc e)

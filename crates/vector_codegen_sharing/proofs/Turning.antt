@@ -1,6 +1,7 @@
 -- The turns of a phase, each a move.
 use Rattle.multi_hart_logic.specs.Alone.{Quiet, Says}
-use Rattle.std.proofs.Common.{◌≡◌, ℕ, zero, suc, ◌+◌, ◌-◌, List, [], ◌∷◌, length, get_or, set, Some, None, Bool, true, false, refl, ap, ◌∙◌, sym, subst, arith, inl, inr}
+use Rattle.std.proofs.Common.{◌≡◌, ℕ, zero, suc, ◌+◌, ◌-◌, List, [], ◌∷◌, length, get_or, set, Some, None, Bool, true, false, refl, ap, ◌∙◌, sym, subst, arith}
+use Rattle.std.proofs.Common.{inl, inr}
 use Rattle.std.specs.Prelude.{◌⊎◌, slice_get, nat_lt, cond}
 use Rattle.std.proofs.lemmas.Bool.{cases_eq}
 use Rattle.rv_insn.specs.declared.instructions.Insn.{Insn}
@@ -27,36 +28,45 @@ set-both (x ∷ m) [] i b e = absurd (omega arith)
 set-both (x ∷ m) (y ∷ n) zero b e = refl
 set-both (x ∷ m) (y ∷ n) (suc i) b e = set-both m n i b (omega arith)
 
-cond-both : (t : Bool) (x : ℕ) (m n : List ℕ) (i b : ℕ) → length m ≡ length n → cond t x (get_or (cond t m (set m i b)) i 0) ≡ cond t x (get_or (cond t n (set n i b)) i 0)
+cond-both : (t : Bool) (x : ℕ) (m n : List ℕ) (i b : ℕ) → length m ≡ length n → cond t x (get_or (cond t m (set m i b)) i 0)
+    ≡ cond t x (get_or (cond t n (set n i b)) i 0)
 cond-both true x m n i b e = refl
 cond-both false x m n i b e = set-both m n i b e
 
-put_byte-both : (text m n : List ℕ) (q b a : ℕ) → length m ≡ length n → byte_at text m a ≡ byte_at text n a → byte_at text (put_byte m q b) a ≡ byte_at text (put_byte n q b) a
+put_byte-both : (text m n : List ℕ) (q b a : ℕ) → length m ≡ length n → byte_at text m a ≡ byte_at text n a
+    → byte_at text (put_byte m q b) a ≡ byte_at text (put_byte n q b) a
 put_byte-both text m n q b a l e = elim (cases_eq a q) [
   | inl y ↦ subst (λ z. byte_at text (put_byte m z b) a ≡ byte_at text (put_byte n z b) a) y (cond-both (nat_lt a data_start) _ m n (a - data_start) b l)
   | inr y ↦ byte-put_byte text m q b a y ∙ e ∙ sym (byte-put_byte text n q b a y)
 ]
 
-pub put-both : (text m n ps bs : List ℕ) (a : ℕ) → length m ≡ length n → byte_at text m a ≡ byte_at text n a → byte_at text (put m ps bs) a ≡ byte_at text (put n ps bs) a
+pub put-both : (text m n ps bs : List ℕ) (a : ℕ) → length m ≡ length n → byte_at text m a ≡ byte_at text n a
+    → byte_at text (put m ps bs) a ≡ byte_at text (put n ps bs) a
 put-both text m n [] bs a l e = e
 put-both text m n (q ∷ ps) [] a l e = e
-put-both text m n (q ∷ ps) (b ∷ bs) a l e = put-both text (put_byte m q b) (put_byte n q b) ps bs a (length-put_byte m q b ∙ l ∙ sym (length-put_byte n q b)) (put_byte-both text m n q b a l e)
+put-both text m n (q ∷ ps) (b ∷ bs) a l e = put-both text (put_byte m q b) (put_byte n q b) ps bs a (length-put_byte m q b ∙ l
+    ∙ sym (length-put_byte n q b)) (put_byte-both text m n q b a l e)
 
 -- turns
-pub effect-does : (p : Phase) (mem : List ℕ) (h : HartState) (n : Next) → length mem ≡ p.size → next_of p.text p.size h ≡ n → effect p.text mem h ≡ made p.text mem h n
+pub effect-does : (p : Phase) (mem : List ℕ) (h : HartState) (n : Next) → length mem ≡ p.size → next_of p.text p.size h ≡ n
+    → effect p.text mem h ≡ made p.text mem h n
 effect-does p mem h n l e = ap (λ x. made p.text mem h (next_of p.text x h)) l ∙ ap (made p.text mem h) e
 
-pub next-by : (p : Phase) (h : HartState) (at : ℕ) (i : Insn) → h.status ≡ Running → h.pc ≡ at → Says p.text at i → fault (length p.text) p.size i h ≡ None → next_of p.text p.size h ≡ Does i
+pub next-by : (p : Phase) (h : HartState) (at : ℕ) (i : Insn) → h.status ≡ Running → h.pc ≡ at → Says p.text at i → fault (length p.text) p.size i h ≡ None
+    → next_of p.text p.size h ≡ Does i
 next-by p h at i r c w f =
     ap (λ st. if_running st (due (length p.text) p.size h (fetched p.text h.pc))) r
     ∙ ap (λ a. due (length p.text) p.size h (fetched p.text a)) c
     ∙ ap (due (length p.text) p.size h) w.fetched ∙ ap (meant (length p.text) p.size h) w.decoded ∙ ap (judged i) f
 
-pub next-does : (p : Phase) (k : ℕ) (h : HartState) (at : ℕ) (i : Insn) → Stands p k h at → Says p.text at i → fault (length p.text) p.size i h ≡ None → next_of p.text p.size h ≡ Does i
+pub next-does : (p : Phase) (k : ℕ) (h : HartState) (at : ℕ) (i : Insn) → Stands p k h at → Says p.text at i → fault (length p.text) p.size i h ≡ None
+    → next_of p.text p.size h ≡ Does i
 next-does p k h at i s w f = next-by p h at i s.running s.pc w f
 
-pub turn-is : (p : Phase) (s : State) (k : ℕ) (h : HartState) (e : Effect) → s.text ≡ p.text → slice_get s.harts k ≡ Some h → effect p.text s.memory h ≡ e → turn s k ≡ moved s k e.hart e.places e.bytes
-turn-is p s k h e t eh ee = ap (turned s k) eh ∙ ap (λ x. put_back s k (applied s.memory (effect x s.memory h))) t ∙ ap (λ x. put_back s k (applied s.memory x)) ee
+pub turn-is : (p : Phase) (s : State) (k : ℕ) (h : HartState) (e : Effect) → s.text ≡ p.text → slice_get s.harts k ≡ Some h → effect p.text s.memory h ≡ e
+    → turn s k ≡ moved s k e.hart e.places e.bytes
+turn-is p s k h e t eh ee = ap (turned s k) eh ∙ ap (λ x. put_back s k (applied s.memory (effect x s.memory h))) t
+    ∙ ap (λ x. put_back s k (applied s.memory x)) ee
 
 pub total-same : (f : Role → ℕ) (rs : List Role) (k : ℕ) (r q : Role) → slice_get rs k ≡ Some r → f r ≡ f q → total f (set rs k q) ≡ total f rs
 total-same f rs k r q e w = let u = total-set f rs k r q e in omega (arith, u, w)
@@ -70,7 +80,8 @@ leaves-out p Setup u mem d o i y = absurd d
 leaves-out p (Task t) u mem d o i y = o i (y ∙ ap (λ q. Owned q) (sym d))
 
 -- the words that no task writes
-control-word : (p : Phase) (t : Job) (k : ℕ) (m ps bs : List ℕ) (a : ℕ) → IsControl p a → Within (λ x. MayWrite t k (p.uses x)) ps → word_at p.text (put m ps bs) a ≡ word_at p.text m a
+control-word : (p : Phase) (t : Job) (k : ℕ) (m ps bs : List ℕ) (a : ℕ) → IsControl p a → Within (λ x. MayWrite t k (p.uses x)) ps
+    → word_at p.text (put m ps bs) a ≡ word_at p.text m a
 control-word p t k m ps bs a c w = word-same p.text _ m a (go a c.first) (go (a + 1) c.second) (go (a + 2) c.third) (go (a + 3) c.fourth)
   where
     no : (x : ℕ) (qs : List ℕ) → p.uses x ≡ Control → Within (λ y. MayWrite t k (p.uses y)) qs → NotIn x qs
@@ -81,7 +92,8 @@ control-word p t k m ps bs a c w = word-same p.text _ m a (go a c.first) (go (a 
     go x e = byte-put p.text m ps bs x (no x ps e w)
 
 -- a turn inside a task
-module _ (z p : Phase) (c : Code p) (roles : List Role) (top : ℕ) (s : State) (k : ℕ) (h : HartState) (v : Inv z p roles top s) (eh : slice_get s.harts k ≡ Some h) where
+module _ (z p : Phase) (c : Code p) (roles : List Role) (top : ℕ) (s : State) (k : ℕ) (h : HartState) (v : Inv z p roles top s) (eh : slice_get s.harts k
+    ≡ Some h) where
   module _ (t : Job) (j : ℕ) (m : List ℕ) (er : slice_get roles k ≡ Some (Inside t j m)) where
     here : Under p top s.memory k h t j m
     here = v.holds k (Inside t j m) h er eh
@@ -96,10 +108,13 @@ module _ (z p : Phase) (c : Code p) (roles : List Role) (top : ℕ) (s : State) 
     quiet = here.soon.0
 
     same-effect : effect p.text s.memory h ≡ e
-    same-effect = frame p.text s.memory m h (v.size ∙ sym here.size) (subst (λ l. Agree (byte_at p.text s.memory) (byte_at p.text m) (reads (next_of p.text l h) h)) (sym v.size) (agree-within (λ a. MayRead t k (p.uses a)) _ _ _ here.agree quiet.may_read))
+    same-effect = frame p.text s.memory m h (v.size
+        ∙ sym here.size) (subst (λ l. Agree (byte_at p.text s.memory) (byte_at p.text m) (reads (next_of p.text l h) h)) (sym v.size)
+        (agree-within (λ a. MayRead t k (p.uses a)) _ _ _ here.agree quiet.may_read))
 
     writes-in : Within (λ a. MayWrite t k (p.uses a)) e.places
-    writes-in = subst (Within (λ a. MayWrite t k (p.uses a))) (sym (places-are p.text m h)) (subst (λ l. Within (λ a. MayWrite t k (p.uses a)) (writes (next_of p.text l h) h)) (sym here.size) quiet.may_write)
+    writes-in = subst (Within (λ a. MayWrite t k (p.uses a))) (sym (places-are p.text m h)) (subst (λ l. Within (λ a. MayWrite t k (p.uses a))
+        (writes (next_of p.text l h) h)) (sym here.size) quiet.may_write)
 
     agree1 : (a : ℕ) → MayRead t k (p.uses a) → byte_at p.text (put s.memory e.places e.bytes) a ≡ byte_at p.text m1 a
     agree1 a r = put-both p.text s.memory m e.places e.bytes a (v.size ∙ sym here.size) (here.agree a r)
@@ -108,7 +123,9 @@ module _ (z p : Phase) (c : Code p) (roles : List Role) (top : ℕ) (s : State) 
     same-turn = turn-is p s k h e v.text eh same-effect
 
     -- the move to a role that keeps the job, or has left its bytes
-    move : (r1 : Role) → has_added r1 ≡ 0 → is_past p.tasks r1 ≡ 0 → Holds z p top (total has_added roles) (put s.memory e.places e.bytes) k e.hart r1 → ((u : ℕ) → Has r1 u → HasJob t u) → ((u : ℕ) → HasJob t u → Has r1 u ⊎ Complete p (put s.memory e.places e.bytes) u) → Move z p roles top s.memory k (Inside t j m) r1 top e.hart e.places e.bytes
+    move : (r1 : Role) → has_added r1 ≡ 0 → is_past p.tasks r1 ≡ 0 → Holds z p top (total has_added roles) (put s.memory e.places e.bytes) k e.hart r1
+        → ((u : ℕ) → Has r1 u → HasJob t u) → ((u : ℕ) → HasJob t u → Has r1 u ⊎ Complete p (put s.memory e.places e.bytes) u)
+        → Move z p roles top s.memory k (Inside t j m) r1 top e.hart e.places e.bytes
     move r1 ea ep hold new old =
         let same = total-same has_added roles k (Inside t j m) r1 er (sym ea) in
         let past = total-same (is_past p.tasks) roles k (Inside t j m) r1 er (sym ep) in record {
@@ -126,7 +143,8 @@ module _ (z p : Phase) (c : Code p) (roles : List Role) (top : ℕ) (s : State) 
         }
 
     to : (r1 : Role) → Move z p roles top s.memory k (Inside t j m) r1 top e.hart e.places e.bytes → Inv z p (set roles k r1) top (turn s k)
-    to r1 mv = subst (Inv z p (set roles k r1) top) (sym same-turn) (next z p c.two_words roles top s k (Inside t j m) h v er eh r1 top e.hart e.places e.bytes mv)
+    to r1 mv = subst (Inv z p (set roles k r1) top) (sym same-turn) (next z p c.two_words roles top s k (Inside t j m) h v er eh r1 top e.hart e.places e.bytes
+        mv)
 
   ending : (t : Job) (m : List ℕ) (er : slice_get roles k ≡ Some (Inside t zero m)) → Turned z p roles top k (Inside t zero m) (turn s k)
   ending t m er =
@@ -141,7 +159,8 @@ module _ (z p : Phase) (c : Code p) (roles : List Role) (top : ℕ) (s : State) 
             agree1 t zero m er i r ∙ leaves-out p t u (put m e1.places e1.bytes) d o.soon.1.1 i y)));
       }
 
-  pub went-on : (t : Job) (j : ℕ) (m : List ℕ) (er : slice_get roles k ≡ Some (Inside t (suc j) m)) → Inv z p (set roles k (Inside t j (step p.text m h).memory)) top (turn s k)
+  pub went-on : (t : Job) (j : ℕ) (m : List ℕ) (er : slice_get roles k ≡ Some (Inside t (suc j) m))
+      → Inv z p (set roles k (Inside t j (step p.text m h).memory)) top (turn s k)
   went-on t j m er =
       let o = here t (suc j) m er in
       let e1 = effect p.text m h in

@@ -4,7 +4,8 @@
 -- Task t of the first phase stores its number into its hart's own word, loads it back, adds 5 and leaves that in word 4 + t of the
 -- data. Task t of the second phase loads what the *other* task of the first phase left, adds 10 and leaves that in word 6 + t. So the
 -- words 6 and 7 are 16 and 15 wherever all harts have finished. Each task writes all bytes that it owns, a word at a time.
-use Rattle.std.specs.Prelude.{◌≡◌, ◌≤◌, ℕ, zero, suc, ◌+◌, ◌-◌, ◌/◌, ◌%◌, ◌*◌, nat_lt, ◌==◌, if◌then◌else◌, List, [], ◌∷◌, ◌++◌, length, slice_index, replicate, Bool, true}
+use Rattle.std.specs.Prelude.{◌≡◌, ◌≤◌, ℕ, zero, suc, ◌+◌, ◌-◌, ◌/◌, ◌%◌, ◌*◌, nat_lt, ◌==◌, if◌then◌else◌, List, [], ◌∷◌, ◌++◌, length, slice_index, replicate}
+use Rattle.std.specs.Prelude.{Bool, true}
 use Rattle.std.specs.Int.{w32, to_le_bytes}
 use Rattle.std.specs.List.{concat}
 use Rattle.memory.specs.Access.{data_start, word_at}

@@ -1,7 +1,8 @@
 -- Words for lists of turns of harts that share their work by words of control: who wrote what, traps, races, waiting, rounds. Phases are
 -- numbers here, by which the words of control are counted; what a phase does, and its code, is named nowhere. This project's own. Data begins
 -- with two words for each phase: at 0x00200000 + 8 * k the ticket word of phase k, and four bytes on its gate word.
-use Rattle.std.specs.Prelude.{◌≡◌, ◌≢◌, ◌<◌, ◌⊎◌, ℕ, zero, suc, ◌+◌, ◌*◌, ◌==◌, ◌||◌, ◌&&◌, nat_le, nat_lt, Bool, true, false, if◌then◌else◌, List, [], ◌∷◌, ◌++◌, length, slice_get, Option, Some, None}
+use Rattle.std.specs.Prelude.{◌≡◌, ◌≢◌, ◌<◌, ◌⊎◌, ℕ, zero, suc, ◌+◌, ◌*◌, ◌==◌, ◌||◌, ◌&&◌, nat_le, nat_lt, Bool, true, false, if◌then◌else◌, List, [], ◌∷◌}
+use Rattle.std.specs.Prelude.{◌++◌, length, slice_get, Option, Some, None}
 use Rattle.std.specs.List.{list_all, list_any}
 use Rattle.rv_insn.specs.declared.outcomes.Trap.{Trap}
 use Rattle.memory.specs.Access.{data_start, word_at}

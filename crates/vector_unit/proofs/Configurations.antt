@@ -5,7 +5,8 @@ use Rattle.std.proofs.lemmas.Bool.{and_parts, leb-true, not-false}
 use Rattle.lanes.specs.Words.{IsWidth}
 use Rattle.rv_insn.specs.declared.vector_operations.ElementWidth.{ElementWidth}
 use Rattle.rv_insn.specs.declared.vector_operations.ElementWidth.TheVariants.{Bits8, Bits16, Bits32}
-use Rattle.vector_unit.specs.Vector.{Vectors, is_supported, has_vill, vlmul_of, vsew_of, group_of, most_elements, bits_of, width, group, group_at, count, is_misplaced}
+use Rattle.vector_unit.specs.Vector.{Vectors, is_supported, has_vill, vlmul_of, vsew_of, group_of, most_elements, bits_of, width, group, group_at, count}
+use Rattle.vector_unit.specs.Vector.{is_misplaced}
 
 few : (k : ℕ) → k ≤ 2 → 2 ^ k ≤ 4
 few zero l = omega arith
@@ -14,7 +15,8 @@ few (suc (suc zero)) l = omega arith
 few (suc (suc (suc k))) l = absurd (omega arith)
 
 pub few_registers : (vtype : ℕ) → is_supported vtype ≡ true → 2 ^ (vtype % 8) ≤ 4
-few_registers vtype e = few (vtype % 8) (leb-true (vtype % 8) 2 (and_parts (nat_lt vtype 256) (nat_le (vlmul_of vtype) 2) (and_parts (nat_lt vtype 256 && nat_le (vlmul_of vtype) 2) (nat_le (vsew_of vtype) 2) e).0).1)
+few_registers vtype e = few (vtype % 8) (leb-true (vtype % 8) 2 (and_parts (nat_lt vtype 256) (nat_le (vlmul_of vtype) 2) (and_parts (nat_lt vtype 256
+    && nat_le (vlmul_of vtype) 2) (nat_le (vsew_of vtype) 2) e).0).1)
 
 a_width : (k : ℕ) → k ≤ 2 → IsWidth (8 * 2 ^ k)
 a_width zero l = inl refl
@@ -25,7 +27,8 @@ a_width (suc (suc (suc k))) l = absurd (omega arith)
 pub is_width : (state : Vectors) → has_vill state ≡ false → IsWidth (width state)
 is_width state e =
     a_width (vsew_of state.vtype)
-    (leb-true (vsew_of state.vtype) 2 (and_parts (nat_lt state.vtype 256 && nat_le (vlmul_of state.vtype) 2) (nat_le (vsew_of state.vtype) 2) (not-false (is_supported state.vtype) e)).1)
+    (leb-true (vsew_of state.vtype) 2 (and_parts (nat_lt state.vtype 256 && nat_le (vlmul_of state.vtype) 2) (nat_le (vsew_of state.vtype) 2)
+    (not-false (is_supported state.vtype) e)).1)
 
 pub is_small : (state : Vectors) → has_vill state ≡ false → group state ≤ 4
 is_small state e = few_registers state.vtype (not-false (is_supported state.vtype) e)

@@ -12,10 +12,12 @@ use Rattle.vector_unit.specs.declared.elements.NewElements.{NewElements}
 use Rattle.vector_unit.specs.declared.elements.NewElements.TheVariants.{Arithmetic, Multiply, Merge, Copy, Numbers, Bytes}
 use Rattle.vector_unit.specs.declared.operands.Operand.{Operand}
 use Rattle.vector_unit.specs.declared.operands.Operand.TheVariants.{Register, Number, Immediate, Amount}
-use Rattle.vector_unit.specs.Vector.{Vectors, register, with_register, has_vill, width, count, group, of_group, element_from, active_in, with_registers, with_elements}
+use Rattle.vector_unit.specs.Vector.{Vectors, register, with_register, has_vill, width, count, group, of_group, element_from, active_in, with_registers}
+use Rattle.vector_unit.specs.Vector.{with_elements}
 use Rattle.vector_unit.specs.Operands.{operand_elements}
 use Rattle.vector_unit.specs.Operations as op
-use Rattle.vector_unit.specs.inner.Parts.{own_count, register_part, operand_part, active_part, new_part, new_elements, merged_register, with_parts, with_part_bits, with_parts_bits, reduced_parts}
+use Rattle.vector_unit.specs.inner.Parts.{own_count, register_part, operand_part, active_part, new_part, new_elements, merged_register, with_parts}
+use Rattle.vector_unit.specs.inner.Parts.{with_part_bits, with_parts_bits, reduced_parts}
 use Rattle.vector_unit.proofs.Configurations.{is_width, is_small}
 use Rattle.vector_unit.proofs.Parts.{part_of, part-zip, part-merged, part-range, part-replicate, same-below, from-start, bits-cut, reduced-cut}
 
@@ -23,7 +25,8 @@ use Rattle.vector_unit.proofs.Parts.{part_of, part-zip, part-merged, part-range,
 
 pub record IsCut (state : Vectors) : Type 0 where
   pub all : count state ≡ group state * own_count state
-  pub place : (part i : ℕ) → i < own_count state → ((part * own_count state + i) / own_count state ≡ part) × ((part * own_count state + i) % own_count state ≡ i)
+  pub place : (part i : ℕ) → i < own_count state → ((part * own_count state + i) / own_count state ≡ part) × ((part * own_count state + i) % own_count state
+      ≡ i)
   pub few : group state * own_count state ≤ 64
   pub low : (k : ℕ) → k < 64 → k % 2 ^ width state ≡ k
 
@@ -73,20 +76,23 @@ own : (state : Vectors) → IsCut state → (v part i : ℕ) → i < own_count s
     → element_from state (width state) v (part * own_count state + i) ≡ element (width state) (register state (v + part)) i
 own state cut v part i l = let place = cut.place part i l in rw (place.0, place.1) refl
 
-part-group : (state : Vectors) → IsCut state → (v part : ℕ) → part < group state → part_of (own_count state) part (of_group state v) ≡ register_part state v part
+part-group : (state : Vectors) → IsCut state → (v part : ℕ) → part < group state → part_of (own_count state) part (of_group state v)
+    ≡ register_part state v part
 unfolding elements
 part-group state cut v part l =
     part-range (element_from state (width state) v) (own_count state) part (count state) (within state cut part l)
     ∙ same-below (λ i. element_from state (width state) v (part * own_count state + i)) (element (width state) (register state (v + part))) (own_count state)
     (λ i low. own state cut v part i low)
 
-part-operand : (state : Vectors) → IsCut state → (other : Operand) (part : ℕ) → part < group state → part_of (own_count state) part (operand_elements state other) ≡ operand_part state other part
+part-operand : (state : Vectors) → IsCut state → (other : Operand) (part : ℕ) → part < group state
+    → part_of (own_count state) part (operand_elements state other) ≡ operand_part state other part
 part-operand state cut (Register v) part l = part-group state cut v part l
 part-operand state cut (Number n) part l = part-replicate _ (own_count state) part (count state) (within state cut part l)
 part-operand state cut (Immediate imm) part l = part-replicate _ (own_count state) part (count state) (within state cut part l)
 part-operand state cut (Amount amount) part l = part-replicate _ (own_count state) part (count state) (within state cut part l)
 
-part-active : (state : Vectors) → IsCut state → (vm : Bool) (part : ℕ) → part < group state → part_of (own_count state) part (active_in state vm) ≡ active_part state vm part
+part-active : (state : Vectors) → IsCut state → (vm : Bool) (part : ℕ) → part < group state → part_of (own_count state) part (active_in state vm)
+    ≡ active_part state vm part
 unfolding active
 part-active state cut vm part l =
     ap (part_of (own_count state) part) (from-start (is_active state.vl vm (register state 0)) (count state))
@@ -99,7 +105,8 @@ part-mask state cut part l =
     ap (part_of (own_count state) part) (from-start (mask_bit (register state 0)) (count state))
     ∙ part-range (mask_bit (register state 0)) (own_count state) part (count state) (within state cut part l)
 
-part-numbers : (state : Vectors) → IsCut state → (part : ℕ) → part < group state → part_of (own_count state) part (range_with_len 0 (count state)) ≡ new_part state Numbers part
+part-numbers : (state : Vectors) → IsCut state → (part : ℕ) → part < group state → part_of (own_count state) part (range_with_len 0 (count state))
+    ≡ new_part state Numbers part
 part-numbers state cut part l =
     let n = own_count state in
     let in_all : part * n + n ≤ count state = within state cut part l in
@@ -108,7 +115,8 @@ part-numbers state cut part l =
     ∙ part-range (λ i. i) n part (count state) in_all
     ∙ same-below (λ i. part * n + i) (λ i. (part * n + i) % 2 ^ width state) n (λ i low. sym (cut.low (part * n + i) (omega (arith, low, in_all, most))))
 
-part-new : (state : Vectors) → IsCut state → (new : NewElements) (part : ℕ) → part < group state → part_of (own_count state) part (new_elements state new) ≡ new_part state new part
+part-new : (state : Vectors) → IsCut state → (new : NewElements) (part : ℕ) → part < group state → part_of (own_count state) part (new_elements state new)
+    ≡ new_part state new part
 part-new state cut (Arithmetic o vs2 other) part l =
     part-zip (op.arithmetic_vx o (width state)) (own_count state) part (of_group state vs2) (operand_elements state other)
     ∙ rw (part-group state cut vs2 part l, part-operand state cut other part l) refl
@@ -131,7 +139,8 @@ next_part n part xs =
     drop-drop n (part * n) xs ∙ ap (λ k. drop k xs) more
 
 in_parts : (state : Vectors) → IsCut state → (vd : ℕ) (vm : Bool) (new : NewElements) (others part : ℕ) → part + others ≤ group state
-    → with_registers state (width state) (vd + part) others (drop (part * own_count state) (merged (active_in state vm) (new_elements state new) (of_group state vd)))
+    → with_registers state (width state) (vd + part) others (drop (part * own_count state) (merged (active_in state vm) (new_elements state new)
+    (of_group state vd)))
     ≡ with_parts state vd vm new part others
 in_parts state cut vd vm new zero part l = refl
 in_parts state cut vd vm new (suc others) part l =
@@ -163,7 +172,8 @@ written_alone state e one vd vm new = ap (with_parts state vd vm new 0) (sym one
 
 -- ---- bits
 
-bits_in_parts : (state : Vectors) → IsCut state → (o : CompareVxOp) (vs2 : ℕ) (other : Operand) (vm : Bool) (others part : ℕ) (bytes : List ℕ) → part + others ≡ group state
+bits_in_parts : (state : Vectors) → IsCut state → (o : CompareVxOp) (vs2 : ℕ) (other : Operand) (vm : Bool) (others part : ℕ) (bytes : List ℕ)
+    → part + others ≡ group state
     → with_mask_bits_from (part * own_count state) (drop (part * own_count state) (active_in state vm))
     (drop (part * own_count state) (zip_with (op.compare_vx o (width state)) (of_group state vs2) (operand_elements state other))) bytes
     ≡ with_parts_bits state o vs2 other vm part others bytes
@@ -171,7 +181,12 @@ unfolding active
 bits_in_parts state cut o vs2 other vm zero part bytes l =
     let last : part ≡ group state = omega (arith, l) in
     let end : drop (part * own_count state) (active_in state vm) ≡ [] =
-    drop_all (part * own_count state) (active_in state vm) (rw (length-map-range_with_len (λ i. is_active state.vl vm (register state 0) (0 + i)) 0 (count state), last, cut.all) (omega arith)) in
+    drop_all (part * own_count state) (active_in state vm) (rw (
+      length-map-range_with_len (λ i. is_active state.vl vm (register state 0) (0 + i)) 0
+          (count state),
+      last,
+      cut.all,
+    ) (omega arith)) in
     rw end refl
 bits_in_parts state cut o vs2 other vm (suc others) part bytes l =
     let n = own_count state in
@@ -202,14 +217,26 @@ unfolding active
 reduced_in_parts state cut o vs2 vm zero part start l =
     let last : part ≡ group state = omega (arith, l) in
     let end : drop (part * own_count state) (active_in state vm) ≡ [] =
-    drop_all (part * own_count state) (active_in state vm) (rw (length-map-range_with_len (λ i. is_active state.vl vm (register state 0) (0 + i)) 0 (count state), last, cut.all) (omega arith)) in
+    drop_all (part * own_count state) (active_in state vm) (rw (
+      length-map-range_with_len (λ i. is_active state.vl vm (register state 0) (0 + i)) 0
+          (count state),
+      last,
+      cut.all,
+    ) (omega arith)) in
     rw end refl
 reduced_in_parts state cut o vs2 vm (suc others) part start l =
     let n = own_count state in
     let below : part < group state = omega (arith, l) in
     reduced-cut (op.reduction o (width state)) n (drop (part * n) (active_in state vm)) start (drop (part * n) (of_group state vs2))
-    ∙ rw (next_part n part (active_in state vm), next_part n part (of_group state vs2), part-active state cut vm part below, part-group state cut vs2 part below)
-    (reduced_in_parts state cut o vs2 vm others (part + 1) (reduced (op.reduction o (width state)) (active_part state vm part) start (register_part state vs2 part)) (omega (arith, l)))
+    ∙ rw (
+      next_part n part (active_in state vm),
+      next_part n part (of_group state vs2),
+      part-active state cut vm part below,
+      part-group state cut vs2 part
+          below,
+    )
+    (reduced_in_parts state cut o vs2 vm others (part + 1) (reduced (op.reduction o (width state)) (active_part state vm part) start (register_part state vs2
+    part)) (omega (arith, l)))
 
 pub joined_all : (state : Vectors) → has_vill state ≡ false → (o : ReductionOp) (vs2 : ℕ) (vm : Bool) (start : ℕ)
     → reduced_parts state o vs2 vm 0 (group state) start ≡ reduced (op.reduction o (width state)) (active_in state vm) start (of_group state vs2)

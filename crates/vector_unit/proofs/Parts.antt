@@ -84,7 +84,8 @@ further f first a (suc n) =
     let next : first + a + 1 ≡ first + (a + 1) = omega arith in
     ap (λ xs. f (first + a) ∷ xs) (ap (λ k. map f (range_with_len k n)) next ∙ further f first (a + 1) n)
 
-pub part-range : {A : Type 0} (f : ℕ → A) (n part m : ℕ) → part * n + n ≤ m → part_of n part (map f (range_with_len 0 m)) ≡ map (λ i. f (part * n + i)) (range_with_len 0 n)
+pub part-range : {A : Type 0} (f : ℕ → A) (n part m : ℕ) → part * n + n ≤ m → part_of n part (map f (range_with_len 0 m)) ≡ map (λ i. f (part * n + i))
+    (range_with_len 0 n)
 part-range f n part m le =
     let first = part * n in
     let whole : m ≡ first + (m - first) = omega arith in
@@ -115,7 +116,8 @@ from-start f n = same-below (λ i. f (0 + i)) f n (λ i low. let same : 0 + i �
 -- ---- what goes on from element to element goes on from part to part
 
 pub bits-cut : (n i : ℕ) (tests bits : List Bool) (bytes : List ℕ)
-    → with_mask_bits_from i tests bits bytes ≡ with_mask_bits_from (i + n) (drop n tests) (drop n bits) (with_mask_bits_from i (take n tests) (take n bits) bytes)
+    → with_mask_bits_from i tests bits bytes ≡ with_mask_bits_from (i + n) (drop n tests) (drop n bits) (with_mask_bits_from i (take n tests) (take n bits)
+    bytes)
 bits-cut zero i tests bits bytes = let same : i + 0 ≡ i = omega arith in rw same refl
 bits-cut (suc n) i [] bits bytes = refl
 bits-cut (suc n) i (a ∷ tests) [] bytes = sym (no-bits (i + suc n) (drop n tests) bytes)
@@ -126,7 +128,8 @@ bits-cut (suc n) i (a ∷ tests) [] bytes = sym (no-bits (i + suc n) (drop n tes
 bits-cut (suc n) i (a ∷ tests) (b ∷ bits) bytes =
     let next : i + 1 + n ≡ i + suc n = omega arith in
     bits-cut n (i + 1) tests bits (cond a (with_mask_bit bytes i b) bytes)
-    ∙ ap (λ k. with_mask_bits_from k (drop n tests) (drop n bits) (with_mask_bits_from (i + 1) (take n tests) (take n bits) (cond a (with_mask_bit bytes i b) bytes))) next
+    ∙ ap (λ k. with_mask_bits_from k (drop n tests) (drop n bits) (with_mask_bits_from (i + 1) (take n tests) (take n bits) (cond a (with_mask_bit bytes i b)
+    bytes))) next
 
 none-chosen : {A : Type 0} (tests : List Bool) → chosen_of {A = A} tests [] ≡ []
 none-chosen [] = refl

@@ -8,7 +8,8 @@
 -- elements which are not active are kept, that a masked row whose destination is v0 is illegal (vmerge too, compares and
 -- reductions apart), that the width of accesses at offsets, and of extended bytes, has to be the configured one, that no row
 -- takes more than four registers, and that all sources are read before anything is written, whatever overlaps.
-use Rattle.std.specs.Prelude.{ℕ, zero, suc, ◌+◌, ◌*◌, ◌/◌, ◌%◌, ◌^◌, ◌==◌, ◌&&◌, ◌||◌, not, Bool, true, false, if◌then◌else◌, nat_lt, List, [], ◌∷◌, map, take, drop, slice_index, replicate, Option, Some, None, ℤ, min, nat_le, slice_index_or, slice_set}
+use Rattle.std.specs.Prelude.{ℕ, zero, suc, ◌+◌, ◌*◌, ◌/◌, ◌%◌, ◌^◌, ◌==◌, ◌&&◌, ◌||◌, not, Bool, true, false, if◌then◌else◌, nat_lt, List, [], ◌∷◌, map, take}
+use Rattle.std.specs.Prelude.{drop, slice_index, replicate, Option, Some, None, ℤ, min, nat_le, slice_index_or, slice_set}
 use Rattle.std.specs.List.{list_any, range_with_len}
 use Rattle.lanes.specs.Words as word
 use Rattle.lanes.specs.Words.{element, with_element, register_of, zip_with, merged, reduced, active, mask_bits, with_mask_bits_from}
@@ -172,15 +173,23 @@ asked_of insn x = None
 -- ---- the vector state after an instruction on registers alone
 
 abbrev pub vector_after : VectorInsn → (ℕ → ℕ) → Vectors → Vectors
-vector_after (v.ArithmeticVv o vd vs2 vs1 vm) x state = with_elements state vd vm (zip_with (op.arithmetic_vv o (width state)) (of_group state vs2) (of_group state vs1))
-vector_after (v.ArithmeticVx o vd vs2 rs1 vm) x state = with_elements state vd vm (zip_with (op.arithmetic_vx o (width state)) (of_group state vs2) (of_scalar state (x rs1)))
-vector_after (v.ArithmeticVi o vd vs2 imm vm) x state = with_elements state vd vm (zip_with (op.arithmetic_vi o (width state)) (of_group state vs2) (of_immediate state imm))
-vector_after (v.ShiftVi o vd vs2 amount vm) x state = with_elements state vd vm (zip_with (op.shift_vi o (width state)) (of_group state vs2) (replicate (count state) amount))
+vector_after (v.ArithmeticVv o vd vs2 vs1 vm) x state = with_elements state vd vm (zip_with (op.arithmetic_vv o (width state)) (of_group state vs2)
+    (of_group state vs1))
+vector_after (v.ArithmeticVx o vd vs2 rs1 vm) x state = with_elements state vd vm (zip_with (op.arithmetic_vx o (width state)) (of_group state vs2)
+    (of_scalar state (x rs1)))
+vector_after (v.ArithmeticVi o vd vs2 imm vm) x state = with_elements state vd vm (zip_with (op.arithmetic_vi o (width state)) (of_group state vs2)
+    (of_immediate state imm))
+vector_after (v.ShiftVi o vd vs2 amount vm) x state = with_elements state vd vm (zip_with (op.shift_vi o (width state)) (of_group state vs2)
+    (replicate (count state) amount))
 vector_after (v.CompareVv o vd vs2 vs1 vm) x state = with_bits state vd vm (zip_with (op.compare_vv o (width state)) (of_group state vs2) (of_group state vs1))
-vector_after (v.CompareVx o vd vs2 rs1 vm) x state = with_bits state vd vm (zip_with (op.compare_vx o (width state)) (of_group state vs2) (of_scalar state (x rs1)))
-vector_after (v.CompareVi o vd vs2 imm vm) x state = with_bits state vd vm (zip_with (op.compare_vi o (width state)) (of_group state vs2) (of_immediate state imm))
-vector_after (v.MultiplyVv o vd vs2 vs1 vm) x state = with_elements state vd vm (zip_with (op.multiply o (width state)) (of_group state vs2) (of_group state vs1))
-vector_after (v.MultiplyVx o vd vs2 rs1 vm) x state = with_elements state vd vm (zip_with (op.multiply o (width state)) (of_group state vs2) (of_scalar state (x rs1)))
+vector_after (v.CompareVx o vd vs2 rs1 vm) x state = with_bits state vd vm (zip_with (op.compare_vx o (width state)) (of_group state vs2)
+    (of_scalar state (x rs1)))
+vector_after (v.CompareVi o vd vs2 imm vm) x state = with_bits state vd vm (zip_with (op.compare_vi o (width state)) (of_group state vs2)
+    (of_immediate state imm))
+vector_after (v.MultiplyVv o vd vs2 vs1 vm) x state = with_elements state vd vm (zip_with (op.multiply o (width state)) (of_group state vs2)
+    (of_group state vs1))
+vector_after (v.MultiplyVx o vd vs2 rs1 vm) x state = with_elements state vd vm (zip_with (op.multiply o (width state)) (of_group state vs2)
+    (of_scalar state (x rs1)))
 vector_after (v.Reduce o vd vs2 vs1 vm) x state =
     with_first state vd (reduced (op.reduction o (width state)) (active_in state vm) (element (width state) (register state vs1) 0) (of_group state vs2))
 vector_after (v.MergeVv vd vs2 vs1) x state = with_elements state vd true (merged_by_mask state (of_group state vs1) (of_group state vs2))

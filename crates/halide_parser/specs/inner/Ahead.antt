@@ -34,16 +34,37 @@ second_name tokens = name_behind tokens
 
 -- behind `func name (`
 abbrev pub definition_scope : List Token → Scope
-definition_scope (t.Name first ∷ rest) = record { first_argument = Some first; second_argument = second_argument rest; first_reduction = None; second_reduction = None; own = None }
+definition_scope (t.Name first ∷ rest) = record {
+  first_argument = Some first;
+  second_argument = second_argument rest;
+  first_reduction =
+      None;
+  second_reduction = None;
+  own = None;
+}
 definition_scope _ = empty
 
 abbrev pub arguments_of : Option Func → Option ℕ → Scope
 arguments_of None own = record { first_argument = None; second_argument = None; first_reduction = None; second_reduction = None; own = own }
-arguments_of (Some f) own = record { first_argument = Some f.first_argument; second_argument = f.second_argument; first_reduction = None; second_reduction = None; own = own }
+arguments_of (Some f) own = record {
+  first_argument = Some f.first_argument;
+  second_argument = f.second_argument;
+  first_reduction = None;
+  second_reduction =
+      None;
+  own = own;
+}
 
 -- with the reduction variables that stand behind `over`
 abbrev pub with_ranges : Scope → List Token → Scope
-with_ranges scope (t.Name first ∷ rest) = record { first_argument = scope.first_argument; second_argument = scope.second_argument; first_reduction = Some first; second_reduction = second_name rest; own = scope.own }
+with_ranges scope (t.Name first ∷ rest) = record {
+  first_argument = scope.first_argument;
+  second_argument = scope.second_argument;
+  first_reduction =
+      Some first;
+  second_reduction = second_name rest;
+  own = scope.own;
+}
 with_ranges scope _ = scope
 
 abbrev pub update_scope : Reader → List ℕ → List Token → Scope

@@ -25,7 +25,17 @@ use Rattle.halide_parser_syntax.specs.inner.Algebra.{Algebra}
 use Rattle.halide_parser.specs.Expressions.{is_own, two_operation, sum_operation, comparison_operation, variable, source}
 
 abbrev pub no_marks : Marks
-no_marks = record { is_unknown = false; is_wrong_count = false; is_bad_divisor = false; uses_first = false; uses_second = false; calls_own = false; moves_first = false; moves_second = false }
+no_marks = record {
+  is_unknown = false;
+  is_wrong_count = false;
+  is_bad_divisor = false;
+  uses_first = false;
+  uses_second = false;
+  calls_own =
+      false;
+  moves_first = false;
+  moves_second = false;
+}
 
 abbrev pub both_marks : Marks → Marks → Marks
 both_marks a b = record {
@@ -128,7 +138,17 @@ own_marks is_own first second = record {
 }
 
 abbrev pub unknown_mark : Marks
-unknown_mark = record { is_unknown = true; is_wrong_count = false; is_bad_divisor = false; uses_first = false; uses_second = false; calls_own = false; moves_first = false; moves_second = false }
+unknown_mark = record {
+  is_unknown = true;
+  is_wrong_count = false;
+  is_bad_divisor = false;
+  uses_first = false;
+  uses_second = false;
+  calls_own =
+      false;
+  moves_first = false;
+  moves_second = false;
+}
 
 abbrev pub with_wrong_count : Bool → Marks → Marks
 with_wrong_count is_wrong marks = record {
@@ -228,7 +248,17 @@ division_tree is_wanted is_quotient (Some a) (Some c) = if is_wanted then (if is
 division_tree is_wanted is_quotient _ _ = None
 
 abbrev pub divisor_marks : Option ℕ → Marks
-divisor_marks by = record { is_unknown = false; is_wrong_count = false; is_bad_divisor = not (is_some by); uses_first = false; uses_second = false; calls_own = false; moves_first = false; moves_second = false }
+divisor_marks by = record {
+  is_unknown = false;
+  is_wrong_count = false;
+  is_bad_divisor = not (is_some by);
+  uses_first = false;
+  uses_second = false;
+  calls_own =
+      false;
+  moves_first = false;
+  moves_second = false;
+}
 
 -- a quotient or a remainder; the divisor counts as a node
 unfoldable pub divided : Bool → Judged → Judged → Judged

@@ -62,6 +62,20 @@ made_index alg (Some w) = Some (made alg w)
 abbrev pub made_line : {V : Type 0} → Algebra V → Line Written → Line V
 made_line alg line.Blank = line.Blank
 made_line alg (line.Input e is_bytes) = line.Input e is_bytes
-made_line alg (line.Func d) = line.Func (record { name = d.name; first_argument = d.first_argument; second_argument = d.second_argument; right = made alg d.right })
-made_line alg (line.Update u) = line.Update (record { name = u.name; left_x = made alg u.left_x; left_y = made_index alg u.left_y; right = made alg u.right; first = u.first; second = u.second })
+made_line alg (line.Func d) = line.Func (record {
+  name = d.name;
+  first_argument = d.first_argument;
+  second_argument = d.second_argument;
+  right =
+      made alg d.right;
+})
+made_line alg (line.Update u) = line.Update (record {
+  name = u.name;
+  left_x = made alg u.left_x;
+  left_y = made_index alg u.left_y;
+  right =
+      made alg u.right;
+  first = u.first;
+  second = u.second;
+})
 made_line alg (line.Output e) = line.Output e

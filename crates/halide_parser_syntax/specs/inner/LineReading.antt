@@ -39,7 +39,16 @@ kind _ = Err Syntax
 
 -- behind the minimum
 abbrev pub bounds_from : List ℕ → Bool → List Token → Read Bounds
-bounds_from name is_negative (t.Number minimum ∷ t.Number extent ∷ rest) = Ok (record { name = name; is_negative = is_negative; minimum = minimum; extent = extent }, rest)
+bounds_from name is_negative (t.Number minimum ∷ t.Number extent ∷ rest) = Ok (
+  record {
+    name = name;
+    is_negative = is_negative;
+    minimum = minimum;
+    extent =
+        extent;
+  },
+  rest,
+)
 bounds_from name is_negative _ = Err Syntax
 
 abbrev pub bounds_behind : List ℕ → List Token → Read Bounds
@@ -100,7 +109,8 @@ module _ {V : Type 0} (alg : Algebra V) where
   -- behind `update name (`
   unfoldable pub change : List ℕ → List Token → Result (Line V) ParseFault
   change name tokens =
-      read tokens >>= λ x. index x.1 >>= λ y. assigned y.1 >>= λ behind. read behind >>= λ right. over right.1 >>= λ ranges. bounds ranges >>= λ first. more_bounds first.1 >>= λ second.
+      read tokens >>= λ x. index x.1 >>= λ y. assigned y.1 >>= λ behind. read behind >>= λ right. over right.1 >>= λ ranges. bounds ranges >>= λ first.
+      more_bounds first.1 >>= λ second.
       Ok (line.Update (record { name = name; left_x = x.0; left_y = y.0; right = right.0; first = first.0; second = second }))
 
   -- what the tokens of a line say

@@ -108,7 +108,8 @@ module _ {V : Type 0} (alg : Algebra V) where
   -- an operand joins the signs and the product before it
   abbrev pub operand : List (Frame V) → Pending V → V → State V
   operand stack pending value =
-      having stack (record { signs = 0; product = None; sum = pending.sum; comparison = pending.comparison }) (product_of pending.product (negated pending.signs value))
+      having stack (record { signs = 0; product = None; sum = pending.sum; comparison = pending.comparison }) (product_of pending.product
+      (negated pending.signs value))
 
   -- a sum goes on
   abbrev pub added : List (Frame V) → Pending V → V → SumOperator → State V

@@ -85,7 +85,8 @@ Holds None now before = before ≡ now
 -- what a slice has written after so many points of an update
 pub record IsForward (scene : Scene) (own updates number : ℕ) (slice : Slice) : Type 0 where
   pub each : (x y : ℕ) → x < 2 ^ 32 → y < 2 ^ 32 → is_on slice x y ≡ true
-      → Holds (written slice.writes x y) (after_of own (slice_get scene.funcs.now own) (inputs_of scene) (earlier_of scene own) updates number x y) (stage_of scene own updates x y)
+      → Holds (written slice.writes x y) (after_of own (slice_get scene.funcs.now own) (inputs_of scene) (earlier_of scene own) updates number x y)
+      (stage_of scene own updates x y)
 
 -- the slice of this point for an update
 pub record IsBegun (update : Update) (x y : ℕ) (slice : Slice) : Type 0 where

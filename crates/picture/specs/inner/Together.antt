@@ -21,7 +21,8 @@ use Rattle.picture_rows.specs.Rows.{value_at}
 -- the Func after so many points of a pass
 abbrev pub after_points : Scene → Pass → ℕ → Plane
 after_points scene pass number =
-    after pass.own pass.update.now (inputs_of scene) (earlier_of scene pass.own) (stage pass.own pass.func.now (inputs_of scene) (earlier_of scene pass.own) pass.updates) number
+    after pass.own pass.update.now (inputs_of scene) (earlier_of scene pass.own) (stage pass.own pass.func.now (inputs_of scene) (earlier_of scene pass.own)
+    pass.updates) number
 
 -- an update that can be run forward holds for each value of the one argument that goes up along such lines
 abbrev pub IsSide : Update → Along → Type 0

@@ -73,7 +73,8 @@ coded_at places (parts.Sequence first second) = record {
 coded_at places (parts.For counter count kind body) = record {
   own = stmts.For counter count kind body.own;
   code = λ scope. code_chosen places scope counter count body.own (turn_by_turn scope counter count kind body) (group_collected count kind body.own);
-  turns = λ scope values. turns_chosen places scope counter count body.own values (loop_turns scope counter count kind body values) (group_collected count kind body.own);
+  turns = λ scope values. turns_chosen places scope counter count body.own values (loop_turns scope counter count kind body values) (group_collected count kind
+      body.own);
 }
 coded_at places (parts.Bind counter whole extent body) = record {
   own = stmts.Bind counter whole extent body.own;

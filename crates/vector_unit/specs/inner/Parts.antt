@@ -51,7 +51,8 @@ active_part state vm part = active (part * own_count state) (own_count state) st
 abbrev pub new_part : Vectors → NewElements → ℕ → List ℕ
 new_part state (Arithmetic o vs2 other) part = zip_with (op.arithmetic_vx o (width state)) (register_part state vs2 part) (operand_part state other part)
 new_part state (Multiply o vs2 other) part = zip_with (op.multiply o (width state)) (register_part state vs2 part) (operand_part state other part)
-new_part state (Merge vs2 other) part = merged (mask_bits (part * own_count state) (own_count state) (register state 0)) (operand_part state other part) (register_part state vs2 part)
+new_part state (Merge vs2 other) part = merged (mask_bits (part * own_count state) (own_count state) (register state 0)) (operand_part state other part)
+    (register_part state vs2 part)
 new_part state (Copy other) part = operand_part state other part
 new_part state Numbers part = map (λ i. (part * own_count state + i) % 2 ^ width state) (range_with_len 0 (own_count state))
 new_part state (Bytes vs2) part = map (λ i. slice_index (register state vs2) (part * own_count state + i)) (range_with_len 0 (own_count state))

@@ -11,5 +11,6 @@ returns-in_default-operands t c =
 pub returns : goal.returns
 returns t c =
     rw c.together.ensures
-    (one_more _ _ _ c.args.slots.now _ _ c.args.operands.now _ _ _ _ _ (front_and_rest c.args.slots.now _ c.in-len1-up.len_at_least) (named_front c.args.operands.now _ c.operand-item.is c.in-len1-up-operands.len_at_least)
+    (one_more _ _ _ c.args.slots.now _ _ c.args.operands.now _ _ _ _ _ (front_and_rest c.args.slots.now _ c.in-len1-up.len_at_least)
+    (named_front c.args.operands.now _ c.operand-item.is c.in-len1-up-operands.len_at_least)
     (c.named_at.ensures ∙ ap (option_map _) c.in_default-named_at.is) c.fill_slot-first.ensures c.fill-others.ensures)

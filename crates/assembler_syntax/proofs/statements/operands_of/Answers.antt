@@ -11,14 +11,17 @@ pub pieces-init : goal.pieces-init
 pieces-init c = first_starts c.args.tokens.now c.new-operands.result (sym c.is_empty.ensures ∙ c.if-is_empty.false) c.new-operands.ensures
 
 pub returns-in_default : goal.returns-in_default
-returns-in_default c = fails c.args.tokens.now _ c.pieces.rest.now _ _ c.first_piece.ensures.pieces (sym c.in_ok-operand.ensures ∙ c.in_default.is) c.pieces.invariant
+returns-in_default c = fails c.args.tokens.now _ c.pieces.rest.now _ _ c.first_piece.ensures.pieces (sym c.in_ok-operand.ensures
+    ∙ c.in_default.is) c.pieces.invariant
 
 pub returns-in_default-after : goal.returns-in_default-after
 returns-in_default-after c =
     rw c.in_ok-push.ensures.ok
-    (stops c.args.tokens.now _ c.pieces.rest.now _ _ (rw c.in_default-after.is at c.first_piece.ensures.pieces) (sym c.in_ok-operand.ensures ∙ c.in-Some.is) c.pieces.invariant)
+    (stops c.args.tokens.now _ c.pieces.rest.now _ _ (rw c.in_default-after.is at c.first_piece.ensures.pieces) (sym c.in_ok-operand.ensures
+    ∙ c.in-Some.is) c.pieces.invariant)
 
 pub pieces-preserved : goal.pieces-preserved
 pieces-preserved c =
     rw c.in_ok-push.ensures.ok
-    (goes_on c.args.tokens.now _ c.pieces.rest.now _ c.in-Some-after.more.now _ (rw c.in-Some-after.is at c.first_piece.ensures.pieces) (sym c.in_ok-operand.ensures ∙ c.in-Some.is) c.pieces.invariant)
+    (goes_on c.args.tokens.now _ c.pieces.rest.now _ c.in-Some-after.more.now _ (rw c.in-Some-after.is at c.first_piece.ensures.pieces)
+    (sym c.in_ok-operand.ensures ∙ c.in-Some.is) c.pieces.invariant)

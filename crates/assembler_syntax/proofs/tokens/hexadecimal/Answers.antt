@@ -5,7 +5,8 @@ use Rattle.assembler_syntax.proofs.tokens.hexadecimal.Goals as goal
 
 pub loop-digit-preserved : goal.loop-digit-preserved
 loop-digit-preserved c = (
-  next_hexadecimal c.args.digits.now c.loop-digit.digit-index c.loop-digit.number _ _ c.loop-digit-test.true c.loop-digit.invariant.0 (c.digit_of.ensures.value) c.capped-number.ensures.value,
+  next_hexadecimal c.args.digits.now c.loop-digit.digit-index c.loop-digit.number _ _ c.loop-digit-test.true c.loop-digit.invariant.0 (c.digit_of.ensures.value)
+      c.capped-number.ensures.value,
   c.capped-number.ensures.small,
 )
 

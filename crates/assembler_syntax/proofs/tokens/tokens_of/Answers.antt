@@ -18,4 +18,5 @@ tokens-preserved c =
     let goes : ends (skip_blanks c.tokens.rest.now) ≡ false = rw (← c.skip_blanks-text.ensures.value) (sym c.ends.ensures ∙ c.if-ends.false) in
     let text_goes : ends c.skip_blanks-text.result.now ≡ false = sym c.ends.ensures ∙ c.if-ends.false in
     let less = c.in_ok-next.ensures.shorter (some_left c.skip_blanks-text.result.now text_goes) in
-    rw c.in_ok-push.ensures.items (goes_on _ _ c.tokens.rest.now _ _ goes (rw c.skip_blanks-text.ensures.value at c.in_ok-next.ensures.value) (omega (arith, less, c.skip_blanks-text.ensures.within)) c.tokens.invariant)
+    rw c.in_ok-push.ensures.items (goes_on _ _ c.tokens.rest.now _ _ goes (rw c.skip_blanks-text.ensures.value at c.in_ok-next.ensures.value)
+    (omega (arith, less, c.skip_blanks-text.ensures.within)) c.tokens.invariant)

@@ -17,6 +17,7 @@ loop-hart-preserved c =
       length-set words at new ∙ i.0,
       λ hart below.
           dite (ℕ_discrete hart at)
-          (λ e. ap (slice_index _) e ∙ get_or-set_same words at new 0 (search rules) ∙ sym (read-at items at new c.word.ensures) ∙ ap (slice_index items) (sym e))
+          (λ e. ap (slice_index _) e ∙ get_or-set_same words at new 0 (search rules) ∙ sym (read-at items at new c.word.ensures)
+          ∙ ap (slice_index items) (sym e))
           (λ n. get_or-set_other words at hart new 0 n ∙ i.1 hart (omega (arith, n))),
     )

@@ -9,5 +9,6 @@ pure_tasks-requires-clause-splits c = few_splits c.args.func.now None c.args.pla
 
 pub update_tasks-requires-clause-splits : goal.update_tasks-requires-clause-splits
 update_tasks-requires-clause-splits c =
-    update_splits c.args.func.now c.args.plan.now c.requires.plan c.in-Some.at c.in-Some-get.update.now c.in-Some-get-2.stage.now (sym c.get.ensures.value ∙ ap option_copied c.in-Some-get.is)
+    update_splits c.args.func.now c.args.plan.now c.requires.plan c.in-Some.at c.in-Some-get.update.now c.in-Some-get-2.stage.now (sym c.get.ensures.value
+    ∙ ap option_copied c.in-Some-get.is)
     (sym c.get-2.ensures.value ∙ ap option_copied c.in-Some-get-2.is)

@@ -13,4 +13,5 @@ returns-in-None c = λ p q m h.
 pub returns-in-Some : goal.returns-in-Some
 returns-in-Some c = λ p q m h.
     let e : answer (counted c.args.table.now) c.args.source ≡ Some (count_call c.in-Some.call) = sym c.found.ensures ∙ ap call_of c.in-Some.is in
-    subst (λ (i : Option (ℕ → Option ℕ → ℕ)). Same (sum_at c.applied.result p q) (answered (1 + m) m None i)) (sym e) (c.applied.ensures p q m 0 h (c.number-in-Some.ensures p q))
+    subst (λ (i : Option (ℕ → Option ℕ → ℕ)). Same (sum_at c.applied.result p q) (answered (1 + m) m None i)) (sym e) (c.applied.ensures p q m 0 h
+    (c.number-in-Some.ensures p q))

@@ -8,7 +8,8 @@ pub returns-in-None : goal.returns-in-None
 returns-in-None c = λ p q m n h k.
     let e : answer (counted c.args.table.now) c.args.source ≡ None = sym c.found.ensures ∙ ap call_of c.in-None.is in
     subst (λ (i : Option (ℕ → Option ℕ → ℕ)). Same (sum_at c.plus-in-None.result p q) (answered (1 + m + n) m (Some n) i)) (sym e)
-    (both_same (sum_at c.number.result p q) 1 (sum_at c.args.x p q) (sum_at c.args.y p q) m n (sum_at c.plus.result p q) (sum_at c.plus-in-None.result p q) (c.number.ensures p q) (c.plus.ensures p q) (c.plus-in-None.ensures p q) h k)
+    (both_same (sum_at c.number.result p q) 1 (sum_at c.args.x p q) (sum_at c.args.y p q) m n (sum_at c.plus.result p q) (sum_at c.plus-in-None.result p q)
+    (c.number.ensures p q) (c.plus.ensures p q) (c.plus-in-None.ensures p q) h k)
 
 pub returns-in-Some : goal.returns-in-Some
 returns-in-Some c = λ p q m n h k.

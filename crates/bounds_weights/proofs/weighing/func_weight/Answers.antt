@@ -15,4 +15,5 @@ returns c = λ flags funcs known.
     let own = stage_weight (nodes_in flags funcs c.args.func.now.pure) c.args.plan.now.pure in
     let others = updates_weight flags funcs c.args.func.now.updates c.args.plan.now.updates in
     times_capped c.saturating_add.result c.consumer_copies.result (own + others) (consumer_copies c.args.plans.now c.args.own.now.place) c.saturating_mul.result
-    (plus_capped c.stage_weight-pure.result c.updates_weight-updates.result own others c.saturating_add.result p u c.saturating_add.ensures) c.consumer_copies.ensures c.saturating_mul.ensures
+    (plus_capped c.stage_weight-pure.result c.updates_weight-updates.result own others c.saturating_add.result p u c.saturating_add.ensures)
+    c.consumer_copies.ensures c.saturating_mul.ensures

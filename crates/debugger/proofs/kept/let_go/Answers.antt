@@ -15,7 +15,8 @@ returns-clause-fits c = λ image log memory fits.
     let put = with_items_is kept.below c.settle.new.below (long ∙ sym kept.below.ok.0) in
     let new : Kept = record { below = with_items kept.below c.settle.new.below; places = c.remove-first.new.self; written = kept.written } in
     let is = first-and-rest kept.places.items first c.requires c.remove-first.ensures.value in
-    (let-go image log kept new first c.deref_mut.result.now c.settle.new.below memory is c.remove-first.ensures.items refl was put c.settle.ensures.as_many c.settle.ensures.pages c.settle.ensures.lowest fits).0
+    (let-go image log kept new first c.deref_mut.result.now c.settle.new.below memory is c.remove-first.ensures.items refl was put c.settle.ensures.as_many
+    c.settle.ensures.pages c.settle.ensures.lowest fits).0
 
 pub returns-clause-last : goal.returns-clause-last
 returns-clause-last c = λ image log memory fits.
@@ -26,4 +27,5 @@ returns-clause-last c = λ image log memory fits.
     let put = with_items_is kept.below c.settle.new.below (long ∙ sym kept.below.ok.0) in
     let new : Kept = record { below = with_items kept.below c.settle.new.below; places = c.remove-first.new.self; written = kept.written } in
     let is = first-and-rest kept.places.items first c.requires c.remove-first.ensures.value in
-    (let-go image log kept new first c.deref_mut.result.now c.settle.new.below memory is c.remove-first.ensures.items refl was put c.settle.ensures.as_many c.settle.ensures.pages c.settle.ensures.lowest fits).1
+    (let-go image log kept new first c.deref_mut.result.now c.settle.new.below memory is c.remove-first.ensures.items refl was put c.settle.ensures.as_many
+    c.settle.ensures.pages c.settle.ensures.lowest fits).1

@@ -20,7 +20,8 @@ returns-in-Some c = λ session log breaks machine.
     c.contains.ensures.value
     ∙ ap (list_any (λ mark. mark == c.pc.result)) breaks
     ∙ ap (λ (pc : ℕ). list_any (λ mark. mark == pc) session.breaks) (c.pc.ensures ∙ ap (λ (s : State). (hart_at s hart).pc) machine)
-    ∙ sym (breaks-next session c.args.place hart (next-here session.log.turns c.args.place hart c.in-Some.field-0-1 (subst (λ (l : LogState). Stand l.turns c.args.place hart c.in-Some.field-0-1) log next.stand)))
+    ∙ sym (breaks-next session c.args.place hart (next-here session.log.turns c.args.place hart c.in-Some.field-0-1
+    (subst (λ (l : LogState). Stand l.turns c.args.place hart c.in-Some.field-0-1) log next.stand)))
 
 pub returns-in-None : goal.returns-in-None
 returns-in-None c = λ session log breaks machine.

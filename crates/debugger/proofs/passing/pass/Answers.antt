@@ -45,7 +45,8 @@ returns-in_default-status c =
     record {
       passed = λ session fits. c.pass_rest.ensures.passed session c.args.marks.now.watches.now c.in-Some.count fits run some most is;
       state = λ session fits.
-          (let once = at-once session log machine place hart c.in-Some.count turns fits.same_log is run fits.state (c.requires.harts ∙ ap (λ (l : LogState). l.harts) fits.same_log) some most (λ two. rests) in
+          (let once = at-once session log machine place hart c.in-Some.count turns fits.same_log is run fits.state (c.requires.harts
+          ∙ ap (λ (l : LogState). l.harts) fits.same_log) some most (λ two. rests) in
           let still = subst (λ (s : State). (hart_at s hart).status ≢ Running) fits.state rests in
           fits.state ∙ sym (rest-state session place hart c.in-Some.count turns once still) ∙ ap (λ (n : ℕ). state_at session (place + n)) (sym made));
       steps = λ other count found.
@@ -95,10 +96,12 @@ returns-clause-passed c = λ session fits.
     let bound = c.make_until-until.ensures.some.1 in
     let within : turns ≤ count = omega arith in
     let state = c.make_until-until.ensures.state in
-    let behind = stands-behind session log c.args.marks.now.breaks.now c.args.marks.now.watches.now machine c.make_until-until.new.machine place hart count turns fits is run within state in
+    let behind = stands-behind session log c.args.marks.now.breaks.now c.args.marks.now.watches.now machine c.make_until-until.new.machine place hart count
+    turns fits is run within state in
     let stands = c.is_on_break-on_break.ensures session fits.same_log fits.same_breaks behind in
     let on_break = c.is_on_break-on_break.result in
-    let until = until-of session log c.args.marks.now.breaks.now c.args.marks.now.watches.now machine c.make_until-until.new.machine place hart count turns changed on_break fits is run some within state c.make_until-until.ensures.quiet c.make_until-until.ensures.changed stands in
+    let until = until-of session log c.args.marks.now.breaks.now c.args.marks.now.watches.now machine c.make_until-until.new.machine place hart count turns
+    changed on_break fits is run some within state c.make_until-until.ensures.quiet c.make_until-until.ensures.changed stands in
     record {
       some = some;
       between = λ k after before. until-between session place hart count turns k changed on_break until after before;
@@ -111,7 +114,8 @@ returns-clause-state c = λ session fits.
     let most = c.min-most.ensures in
     let bound = c.make_until-until.ensures.some.1 in
     let within : c.make_until-until.result.turns ≤ c.in-Some.count = omega arith in
-    stands-behind session c.args.log.now c.args.marks.now.breaks.now c.args.marks.now.watches.now c.args.machine.now c.make_until-until.new.machine c.args.way.place c.in-Some.hart c.in-Some.count c.make_until-until.result.turns fits
+    stands-behind session c.args.log.now c.args.marks.now.breaks.now c.args.marks.now.watches.now c.args.machine.now c.make_until-until.new.machine
+    c.args.way.place c.in-Some.hart c.in-Some.count c.make_until-until.result.turns fits
     c.harts-harts.ensures.log (sym c.run_at.ensures ∙ c.in-Some.is) within c.make_until-until.ensures.state
 
 pub returns-clause-steps : goal.returns-clause-steps
@@ -130,4 +134,5 @@ returns-clause-counted c = λ session fits.
     let least = c.min-all.ensures in
     let most = c.min-most.ensures in
     let bound = c.make_until-until.ensures.some.1 in
-    sym c.make_until-until.ensures.steps ∙ ap (λ (s : State). steps_of s hart turns) fits.state ∙ steps-standing session place hart count turns stand (omega arith)
+    sym c.make_until-until.ensures.steps ∙ ap (λ (s : State). steps_of s hart turns) fits.state
+    ∙ steps-standing session place hart count turns stand (omega arith)

@@ -37,7 +37,8 @@ returns-clause-state c = λ start from.
     let least = c.min.ensures in
     c.make_counted-steps.ensures.state
     ∙ ap (λ (s : State). run s (replicate c.at_most-turns.result c.in-Some.hart)) from
-    ∙ sym (run-standing start c.args.log.now.turns c.args.way.place c.in-Some.hart c.in-Some.count c.at_most-turns.result next.stand (omega (arith, c.at_most-turns.ensures.most)))
+    ∙ sym (run-standing start c.args.log.now.turns c.args.way.place c.in-Some.hart c.in-Some.count c.at_most-turns.result next.stand
+    (omega (arith, c.at_most-turns.ensures.most)))
 
 pub returns-clause-steps : goal.returns-clause-steps
 returns-clause-steps c = λ hart count is.
@@ -53,4 +54,5 @@ returns-clause-counted c = λ session same here.
     let next = next-is c.args.log.now place hart count c.harts-harts.ensures.log (sym c.run_at.ensures ∙ c.in-Some.is) in
     let stand = subst (λ (log : LogState). Stand log.turns place hart count) same next.stand in
     let least = c.min.ensures in
-    c.make_counted-steps.ensures.steps ∙ ap (λ (s : State). steps_of s hart turns) here ∙ steps-standing session place hart count turns stand (omega (arith, c.at_most-turns.ensures.most))
+    c.make_counted-steps.ensures.steps ∙ ap (λ (s : State). steps_of s hart turns) here
+    ∙ steps-standing session place hart count turns stand (omega (arith, c.at_most-turns.ensures.most))

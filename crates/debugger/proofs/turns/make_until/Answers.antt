@@ -25,7 +25,8 @@ loop-turns-preserved c =
     let none = c.goes_on.ensures.quiet c.if-goes_on.true in
     let last : turns ≡ turns + 1 - 1 = omega arith in
     let on : list_any (λ mark. mark == (hart_at (run start (replicate turns hart)) hart).pc) breaks ≡ false =
-    ap (λ (s : State). list_any (λ mark. mark == (hart_at s hart).pc) breaks) (sym state) ∙ ap (λ (pc : ℕ). list_any (λ mark. mark == pc) breaks) (sym c.pc.ensures) ∙ none.1 in
+    ap (λ (s : State). list_any (λ mark. mark == (hart_at s hart).pc) breaks) (sym state)
+    ∙ ap (λ (pc : ℕ). list_any (λ mark. mark == pc) breaks) (sym c.pc.ensures) ∙ none.1 in
     let changed : list_any (differs (run start (replicate (turns - 1) hart)) (run start (replicate turns hart))) watches ≡ false =
     ap (λ (s : State). list_any (differs (run start (replicate (turns - 1) hart)) s) watches) (sym state) ∙ sym c.loop-turns.invariant.changed ∙ none.0 in
     let before = run start (replicate (turns - 1) hart) in
@@ -34,7 +35,8 @@ loop-turns-preserved c =
     let stepped : outcome before hart ≡ Stepped = sym c.loop-turns.invariant.told ∙ c.goes_on.ensures.stepped c.if-goes_on.true in
     let some = c.loop-turns.invariant.some in
     let as_many : turns - 1 + 1 ≡ turns = omega arith in
-    let turned : turn before hart ≡ run start (replicate turns hart) = sym (run-same-more start hart (turns - 1)) ∙ ap (λ (n : ℕ). run start (replicate n hart)) as_many in
+    let turned : turn before hart ≡ run start (replicate turns hart) = sym (run-same-more start hart (turns - 1))
+    ∙ ap (λ (n : ℕ). run start (replicate n hart)) as_many in
     let runs : (hart_at (run start (replicate turns hart)) hart).status ≡ Running =
     subst (λ (s : State). (hart_at s hart).status ≡ Running) turned (runs-after before hart below c.loop-turns.invariant.runs stepped) in
     let one = running-makes-one _ runs in
@@ -48,7 +50,8 @@ loop-turns-preserved c =
       steps = steps-more start hart turns ∙ omega (arith, one, so_far);
       few = omega (arith, c.loop-turns-test.true);
       quiet = quiet-more start hart breaks watches turns c.loop-turns.invariant.quiet on changed;
-      changed = c.turn_watched-told-in-loop-turns.ensures.changed ∙ ap (λ (s : State). list_any (differs s new) watches) (state ∙ ap (λ (n : ℕ). run start (replicate n hart)) last);
+      changed = c.turn_watched-told-in-loop-turns.ensures.changed ∙ ap (λ (s : State). list_any (differs s new) watches) (state
+          ∙ ap (λ (n : ℕ). run start (replicate n hart)) last);
       shape = shape-then start old new c.loop-turns.invariant.shape shape;
       marks = marks_then _ _ _ _ _ _ c.loop-turns.invariant.marks c.turn_watched-told-in-loop-turns.ensures.marks;
     }

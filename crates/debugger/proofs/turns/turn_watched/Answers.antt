@@ -29,9 +29,11 @@ returns-clause-changed c =
     elim c.else-not-is_empty.branch [
       | else-not-is_empty-via-then-not-is_empty+else-is_some w ↦
           (let none : option_and_then store_in (fetched now.text (hart_at now hart).pc) ≡ None =
-          ap (λ (pc : ℕ). option_and_then store_in (fetched now.text pc)) (sym w.pc.ensures) ∙ sym (w.store_at.ensures now.text c.requires.meant) ∙ copied-none w.store_at.result (sym w.is_some.ensures ∙ w.if-is_some.false) in
+          ap (λ (pc : ℕ). option_and_then store_in (fetched now.text pc)) (sym w.pc.ensures) ∙ sym (w.store_at.ensures now.text c.requires.meant)
+          ∙ copied-none w.store_at.result (sym w.is_some.ensures ∙ w.if-is_some.false) in
           let text = ap (λ (s : State). s.text) c.turn_marking-told.ensures.state ∙ (shape-turn now hart).text in
           let memory = ap (λ (s : State). s.memory) c.turn_marking-told.ensures.state ∙ quiet_memory now hart c.requires.there none in
           sym (differs-none now after c.args.watches.now text memory))
-      | else-not-is_empty-via-else-not-is_empty w ↦ (sym (any-empty (differs now after) c.args.watches.now (eqb-true (length c.args.watches.now) 0 (sym c.is_empty.ensures ∙ w.if-not-is_empty.false))))
+      | else-not-is_empty-via-else-not-is_empty w ↦ (sym (any-empty (differs now after) c.args.watches.now (eqb-true (length c.args.watches.now) 0
+          (sym c.is_empty.ensures ∙ w.if-not-is_empty.false))))
     ]

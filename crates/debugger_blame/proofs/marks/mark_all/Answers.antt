@@ -52,7 +52,8 @@ runs-preserved c =
     record {
       within = stand.within;
       shape = shape-then start now _ inv.shape (subst (KeepsShape now) (sym state) (shape-run now (replicate count hart)));
-      state = state ∙ ap (λ (s : State). run s (replicate count hart)) inv.state ∙ sym (run-append start (take place turns) (replicate count hart)) ∙ ap (run start) (sym taken);
+      state = state ∙ ap (λ (s : State). run s (replicate count hart)) inv.state ∙ sym (run-append start (take place turns) (replicate count hart))
+          ∙ ap (run start) (sym taken);
       marks = subst (λ (ts : List ℕ). AreMarks c.args.range.marking c.args.range.first start ts c.mark_run.new.marks) (sym taken)
           (c.mark_run.ensures.marks start (take place turns) inv.state (length-take-le place turns inv.within) inv.marks);
     }
@@ -63,4 +64,5 @@ returns c =
     let turns = c.args.log.now.turns in
     let behind = run_at-none turns c.runs.place (sym c.in_default.ensures) in
     let all : c.runs.place ≡ length turns = omega (arith, c.runs.invariant.within, behind) in
-    subst (λ (ts : List ℕ). AreMarks c.args.range.marking c.args.range.first start ts c.runs.marks) (ap (λ n. take n turns) all ∙ take-length turns) c.runs.invariant.marks
+    subst (λ (ts : List ℕ). AreMarks c.args.range.marking c.args.range.first start ts c.runs.marks) (ap (λ n. take n turns) all
+    ∙ take-length turns) c.runs.invariant.marks

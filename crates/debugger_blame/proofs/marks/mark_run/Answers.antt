@@ -25,12 +25,15 @@ returns-in_default c =
       state = c.run_same.ensures.state ∙ ap (λ (s : State). run s (replicate (count - made) hart)) inv.state
           ∙ sym (run-append start (replicate made hart) (replicate (count - made) hart)) ∙ ap (run start) (rest_added [] made count hart inv.few);
       marks = λ begin done from place are. subst (λ (ts : List ℕ). AreMarks marking first begin ts marks) (rest_added done made count hart inv.few)
-          (rests_marked marking first begin (done ++ replicate made hart) now hart (count - made) marks (run_added start begin now done made hart inv.state from) below rests
+          (rests_marked marking first begin (done ++ replicate made hart) now hart (count - made) marks (run_added start begin now done made hart inv.state
+          from) below rests
           (inv.marks begin done from place are));
     }
 
 pub turns-preserved : goal.turns-preserved
 turns-preserved c =
-    more_made c.args.machine.now c.turns.machine c.mark_some-made.new.machine c.args.stretch.hart c.args.stretch.place c.turns.made c.mark_some-made.result c.args.stretch.count
-    c.args.range.marking c.args.range.first c.args.marks.now c.turns.marks c.mark_some-made.new.marks c.turns.invariant (omega (arith, c.mark_some-made.ensures.within, c.turns.invariant.few))
+    more_made c.args.machine.now c.turns.machine c.mark_some-made.new.machine c.args.stretch.hart c.args.stretch.place c.turns.made c.mark_some-made.result
+    c.args.stretch.count
+    c.args.range.marking c.args.range.first c.args.marks.now c.turns.marks c.mark_some-made.new.marks c.turns.invariant
+    (omega (arith, c.mark_some-made.ensures.within, c.turns.invariant.few))
     c.mark_some-made.ensures.state c.mark_some-made.ensures.shape c.mark_some-made.ensures.marks

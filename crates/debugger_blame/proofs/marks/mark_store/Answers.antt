@@ -33,5 +33,6 @@ returns-clause-marks c =
     let legal : illegal_fault c.args.insn.now (hart_at now hart) ≡ _ = sym (ap (λ insn. illegal_fault insn (hart_at now hart)) same) ∙ did.legal in
     let stored = (rw (c.hart.ensures) at c.in-Some.ensures.one) legal in
     let writes = did.writes_it ∙ ap (λ insn. places_stored insn (hart_at now hart)) same ∙ sym stored in
-    marked_so c.args.first (λ word. is_word_in word (touched (accesses_at c.in-Some.number.width (c.in-Some.number.address ∷ [])))) _ c.args.mark c.args.marks.now
+    marked_so c.args.first (λ word. is_word_in word (touched (accesses_at c.in-Some.number.width (c.in-Some.number.address ∷ [])))) _ c.args.mark
+    c.args.marks.now
     c.mark_numbers.new.marks (λ word. ap (is_word_in word) writes) c.mark_numbers.ensures

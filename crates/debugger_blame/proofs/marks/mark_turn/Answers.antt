@@ -15,8 +15,10 @@ returns-in_default-clause-marks c = λ begin done from place are.
     let now = c.args.machine.now in
     let hart = c.args.hart in
     let none : option_and_then store_in (fetched now.text (hart_at now hart).pc) ≡ None =
-    ap (λ pc. option_and_then store_in (fetched now.text pc)) (sym c.pc.ensures) ∙ sym (c.store_at.ensures now.text c.requires.meant) ∙ ap (λ o. option_copied o) c.in_default.is in
-    quiet_marked c.args.range.marking c.args.range.first begin done now hart c.args.marks.now from (quiet_without_store now hart (hart_there now hart c.requires.there) none) are
+    ap (λ pc. option_and_then store_in (fetched now.text pc)) (sym c.pc.ensures) ∙ sym (c.store_at.ensures now.text c.requires.meant)
+    ∙ ap (λ o. option_copied o) c.in_default.is in
+    quiet_marked c.args.range.marking c.args.range.first begin done now hart c.args.marks.now from (quiet_without_store now hart
+    (hart_there now hart c.requires.there) none) are
 
 pub returns-clause-marks : goal.returns-clause-marks
 returns-clause-marks c = λ begin done from place are.

@@ -52,7 +52,8 @@ runs-preserved c =
     record {
       within = stand.within;
       shape = shape-then start now _ inv.shape (subst (KeepsShape now) (sym state) (shape-run now (replicate count hart)));
-      state = state ∙ ap (λ (s : State). run s (replicate count hart)) inv.state ∙ sym (run-append start (take place turns) (replicate count hart)) ∙ ap (run start) (sym taken);
+      state = state ∙ ap (λ (s : State). run s (replicate count hart)) inv.state ∙ sym (run-append start (take place turns) (replicate count hart))
+          ∙ ap (run start) (sym taken);
       blames = subst (λ (ts : List ℕ). Blames start ts c.args.address c.pass_run-last.result) (sym taken)
           (c.pass_run-last.ensures.blames start (take place turns) inv.state (length-take-le place turns inv.within) inv.blames);
     }

@@ -30,7 +30,8 @@ returns-in_default c =
       state = c.run_same.ensures.state ∙ ap (λ (s : State). run s (replicate (count - made) hart)) inv.state
           ∙ sym (run-append start (replicate made hart) (replicate (count - made) hart)) ∙ ap (run start) (rest_added [] made count hart inv.few);
       blames = λ begin done from place blames. subst (λ (ts : List ℕ). Blames begin ts c.args.address c.turns.last) (rest_added done made count hart inv.few)
-          (quiet_turns begin (done ++ replicate made hart) now hart c.args.address c.turns.last (count - made) (run_added start begin now done made hart inv.state from) below rests
+          (quiet_turns begin (done ++ replicate made hart) now hart c.args.address c.turns.last (count - made) (run_added start begin now done made hart
+          inv.state from) below rests
           (inv.blames begin done from place blames));
     }
 

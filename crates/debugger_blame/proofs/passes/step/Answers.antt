@@ -27,4 +27,5 @@ returns-clause-blames c = λ begin done from place blames.
     let writes : is_word_in c.args.address (written_next c.args.machine.now c.args.hart) ≡ true =
     stored_by c.args.machine.now c.args.hart c.args.address c.would_write.result there c.would_write.ensures (sym c.turn-2.ensures.outcome ∙ c.in-Stepped.is)
     ∙ c.if-not-would_write.false in
-    is_blamed begin done c.args.machine.now c.turn-2.new.self c.args.address _ from c.turn-2.ensures.state writes place c.pc-pc.ensures c.word_at-before.ensures c.word_at-after.ensures
+    is_blamed begin done c.args.machine.now c.turn-2.new.self c.args.address _ from c.turn-2.ensures.state writes place c.pc-pc.ensures c.word_at-before.ensures
+    c.word_at-after.ensures

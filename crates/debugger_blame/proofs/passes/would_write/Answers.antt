@@ -14,7 +14,8 @@ returns-in-Some c = λ insn means legal.
     let now = c.args.machine.now in
     let hart = hart_at now c.args.hart in
     let store : option_and_then store_in (fetched now.text hart.pc) ≡ Some c.in-Some.insn.now =
-    ap (λ pc. option_and_then store_in (fetched now.text pc)) (sym c.pc.ensures) ∙ sym (c.store_at.ensures now.text c.requires.meant) ∙ ap (λ o. option_copied o) c.in-Some.is in
+    ap (λ pc. option_and_then store_in (fetched now.text pc)) (sym c.pc.ensures) ∙ sym (c.store_at.ensures now.text c.requires.meant)
+    ∙ ap (λ o. option_copied o) c.in-Some.is in
     let same = store_is (fetched now.text hart.pc) insn c.in-Some.insn.now means store in
     (rw (c.hart.ensures) at c.stores_to.ensures) (sym (ap (λ one. illegal_fault one hart) same) ∙ legal)
     ∙ ap (λ one. is_word_in c.args.address (places_stored one hart)) (sym same)

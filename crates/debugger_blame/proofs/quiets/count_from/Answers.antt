@@ -12,5 +12,6 @@ returns-then-not-word_goes_on c = λ words place got rest.
 pub returns : goal.returns
 returns c = λ words place got rest.
     let least = c.min.ensures in
-    more_quiet words place c.args.word c.min.result got (none_stored c.args.word c.store_of.result c.store_of.ensures (sym c.is_some.ensures ∙ c.if-is_some.false))
+    more_quiet words place c.args.word c.min.result got (none_stored c.args.word c.store_of.result c.store_of.ensures (sym c.is_some.ensures
+    ∙ c.if-is_some.false))
     (sym c.word_goes_on.ensures ∙ c.if-not-word_goes_on.false) (fewer_quiet words _ c.args.next c.min.result (omega arith) rest)

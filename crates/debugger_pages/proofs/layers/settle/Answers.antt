@@ -13,7 +13,8 @@ loop-page-preserved c =
     let page = c.in-Some.page in
     let size = c.loop-page.invariant.as_many in record {
       as_many = c.settle_one.ensures.as_many ∙ size;
-      pages = λ n are all. c.settle_one.ensures.pages n (c.loop-page.invariant.pages n are (all_front (IsPage n) settled page all)) (all_last (IsPage n) settled page all);
+      pages = λ n are all. c.settle_one.ensures.pages n (c.loop-page.invariant.pages n are (all_front (IsPage n) settled page all)) (all_last (IsPage n) settled
+          page all);
       lowest_is = λ all f i.
           let there = all_last (λ (p : PageCopy). p.number < length first) settled page all in
           let before = all_front (λ (p : PageCopy). p.number < length first) settled page all in

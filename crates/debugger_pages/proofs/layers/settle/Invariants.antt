@@ -7,5 +7,6 @@ abbrev pub invariant-loop-page : goal.invariant-loop-page
 invariant-loop-page l = record {
   as_many : length l.below ≡ length l.fn.below;
   pages : (size : ℕ) → AreBelow size l.fn.below → All (IsPage size) l.yielded → AreBelow size l.below;
-  lowest_is : All (λ (page : PageCopy). page.number < length l.fn.below) l.yielded → (f : ℕ → ℕ) (i : ℕ) → lowest l.below f i ≡ over l.yielded (lowest l.fn.below f) i;
+  lowest_is : All (λ (page : PageCopy). page.number < length l.fn.below) l.yielded → (f : ℕ → ℕ) (i : ℕ)
+      → lowest l.below f i ≡ over l.yielded (lowest l.fn.below f) i;
 }

@@ -6,5 +6,6 @@ returns-in_default-clause-covers t c = none_covered c.args.written.now c.args.wi
 
 pub returns-in-len1-up-clause-covers : goal.returns-in-len1-up-clause-covers
 returns-in-len1-up-clause-covers t c =
-    numbers_covered c.args.width c.args.addresses.now c.mark_number.new.written c.mark_numbers.new.written c.in-len1-up.len_at_least c.mark_numbers.ensures.marked
+    numbers_covered c.args.width c.args.addresses.now c.mark_number.new.written c.mark_numbers.new.written c.in-len1-up.len_at_least
+    c.mark_numbers.ensures.marked
     c.mark_number.ensures.covers c.mark_numbers.ensures.covers

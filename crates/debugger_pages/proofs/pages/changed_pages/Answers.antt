@@ -13,7 +13,8 @@ loop-number-preserved c =
     let number = c.loop-number.number in
     elim c.if-flag.branch [
       | then-flag+in_ok-copy+in_ok-push w ↦
-          let more = copied_one memory written pages number w.in_ok-copy.copy c.loop-number.invariant w.in_ok-copy.ensures.number w.in_ok-copy.ensures.page w.in_ok-copy.ensures.bytes in
+          let more = copied_one memory written pages number w.in_ok-copy.copy c.loop-number.invariant w.in_ok-copy.ensures.number w.in_ok-copy.ensures.page
+          w.in_ok-copy.ensures.bytes in
           rw (w.pages-is, w.in_ok-push.ensures.items) more
       | else-flag w ↦
           let isnt : is_written written number ≡ false = search (rules, common_steps) in

@@ -11,5 +11,6 @@ returns-clause-marks c =
     let hart = c.args.hart in
     let means = rw (c.hart.ensures) at c.numbers_stored-stored.ensures in
     subst (λ (s : State). Marks now.memory s.memory c.args.written.now c.mark_stored.new.written) (sym c.turn.ensures.state)
-    (store_marks now hart c.args.insn.now c.numbers_stored-stored.result c.args.written.now c.mark_stored.new.written (there now hart c.requires.there) c.requires.stores means
+    (store_marks now hart c.args.insn.now c.numbers_stored-stored.result c.args.written.now c.mark_stored.new.written (there now hart c.requires.there)
+    c.requires.stores means
     c.mark_stored.ensures.marked c.mark_stored.ensures.covers)

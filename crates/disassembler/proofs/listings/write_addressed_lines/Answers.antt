@@ -7,7 +7,8 @@ loop-rest-init c = none_listed c.args.start c.args.words.now c.args.out.now.item
 
 pub loop-rest-preserved : goal.loop-rest-preserved
 loop-rest-preserved c =
-    first_listed c.args.start c.args.words.now c.loop-rest.rest.now c.loop-rest.address c.args.out.now.items c.loop-rest.out.items c.write_addressed_line.new.out.items _
+    first_listed c.args.start c.args.words.now c.loop-rest.rest.now c.loop-rest.address c.args.out.now.items c.loop-rest.out.items
+    c.write_addressed_line.new.out.items _
     c.in-len1-up.len_at_least c.loop-rest.invariant c.in_ok-write_addressed_line.ensures.appended
 
 pub overflow_add-address : goal.overflow_add-address
@@ -19,4 +20,5 @@ overflow_add-address c =
 
 pub returns : goal.returns
 returns c =
-    all_listed c.args.start c.args.words.now c.loop-rest.rest.now c.loop-rest.address c.args.out.now.items c.loop-rest.out.items c.loop-rest.invariant c.in_default.len_below
+    all_listed c.args.start c.args.words.now c.loop-rest.rest.now c.loop-rest.address c.args.out.now.items c.loop-rest.out.items c.loop-rest.invariant
+    c.in_default.len_below

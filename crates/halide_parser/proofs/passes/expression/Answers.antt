@@ -25,12 +25,15 @@ pub returns-in_default : goal.returns-in_default
 returns-in_default c =
     let alg = judging c.args.reader.now c.args.scope.now in
     let goes : is_over c.steps.state c.steps.rest.now ≡ false = sym c.is_over.ensures ∙ c.if-is_over.false in
-    let stuck : step alg c.steps.state c.steps.rest.now ≡ None = sym c.in_ok-after.ensures.moved ∙ ap (option_map (λ r. (c.step.new.state, r.now))) c.in_default.is in
+    let stuck : step alg c.steps.state c.steps.rest.now ≡ None = sym c.in_ok-after.ensures.moved
+    ∙ ap (option_map (λ r. (c.step.new.state, r.now))) c.in_default.is in
     sym (refuses alg c.args.tokens.now c.steps.state c.steps.rest.now goes stuck c.steps.invariant)
 
 pub steps-preserved : goal.steps-preserved
 steps-preserved c =
     let alg = judging c.args.reader.now c.args.scope.now in
     let goes : is_over c.steps.state c.steps.rest.now ≡ false = sym c.is_over.ensures ∙ c.if-is_over.false in
-    let moved : step alg c.steps.state c.steps.rest.now ≡ Some (c.step.new.state, c.in-Some.after.now) = sym c.in_ok-after.ensures.moved ∙ ap (option_map (λ r. (c.step.new.state, r.now))) c.in-Some.is in
-    goes_on alg c.args.tokens.now c.steps.state c.steps.rest.now _ _ goes moved (rw c.in-Some.is at c.in_ok-after.ensures.shorter) (rw c.in-Some.is at c.in_ok-after.ensures.few) c.steps.invariant
+    let moved : step alg c.steps.state c.steps.rest.now ≡ Some (c.step.new.state, c.in-Some.after.now) = sym c.in_ok-after.ensures.moved
+    ∙ ap (option_map (λ r. (c.step.new.state, r.now))) c.in-Some.is in
+    goes_on alg c.args.tokens.now c.steps.state c.steps.rest.now _ _ goes moved (rw c.in-Some.is at c.in_ok-after.ensures.shorter)
+    (rw c.in-Some.is at c.in_ok-after.ensures.few) c.steps.invariant

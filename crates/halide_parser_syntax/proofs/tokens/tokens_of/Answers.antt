@@ -16,9 +16,11 @@ pub returns-in_err-next : goal.returns-in_err-next
 returns-in_err-next c =
     let from = err_from_is_err_and c.from_residual.result c.from_residual.ensures.1 in
     let goes : ends (skip_blanks c.tokens.rest.now) ≡ false = rw (← c.skip_blanks-text.ensures.value) (sym c.ends.ensures ∙ c.if-ends.false) in
-    rw (from.1, from.2) (fails c.in_err-next.field-0.0 _ _ c.tokens.rest.now goes (rw c.skip_blanks-text.ensures.value at c.in_err-next.ensures.value) c.tokens.invariant)
+    rw (from.1, from.2) (fails c.in_err-next.field-0.0 _ _ c.tokens.rest.now goes (rw c.skip_blanks-text.ensures.value at c.in_err-next.ensures.value)
+    c.tokens.invariant)
 
 pub tokens-preserved : goal.tokens-preserved
 tokens-preserved c =
     let goes : ends (skip_blanks c.tokens.rest.now) ≡ false = rw (← c.skip_blanks-text.ensures.value) (sym c.ends.ensures ∙ c.if-ends.false) in
-    rw c.in_ok-push.ensures.items (goes_on _ _ c.tokens.rest.now _ _ goes (rw c.skip_blanks-text.ensures.value at c.in_ok-next.ensures.value) (omega (arith, c.in_ok-next.ensures.shorter)) c.tokens.invariant)
+    rw c.in_ok-push.ensures.items (goes_on _ _ c.tokens.rest.now _ _ goes (rw c.skip_blanks-text.ensures.value at c.in_ok-next.ensures.value)
+    (omega (arith, c.in_ok-next.ensures.shorter)) c.tokens.invariant)

@@ -9,7 +9,8 @@ abbrev pub invariant-loop-rest : goal.invariant-loop-rest
 invariant-loop-rest g l =
     let text = g.M.Bytes.text l.fn.memory in
     let memory = g.M.Bytes.memory l.fn.memory in record {
-      fault : first_fault (length text) (length memory) Reads (accesses_at l.fn.width l.rest) ≡ first_fault (length text) (length memory) Reads (accesses_at l.fn.width l.fn.addresses);
+      fault : first_fault (length text) (length memory) Reads (accesses_at l.fn.width l.rest) ≡ first_fault (length text) (length memory) Reads
+          (accesses_at l.fn.width l.fn.addresses);
       numbers : l.numbers ++ map (number_at text memory) (accesses_at l.fn.width l.rest) ≡ map (number_at text memory) (accesses_at l.fn.width l.fn.addresses);
       few : length l.numbers + length l.rest ≤ 64;
     }

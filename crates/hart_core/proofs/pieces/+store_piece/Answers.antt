@@ -15,6 +15,7 @@ store_piece-requires g t c κs within =
 
 pub returns-then-others-gt0-clause-put : goal.returns-then-others-gt0-clause-put
 returns-then-others-gt0-clause-put g t c =
-    stored-next c.args.group.now.width (element_from c.args.state.now (bits_of c.args.group.now.width) c.args.group.now.v) c.bytes_of.result c.args.address c.args.quad c.args.others
+    stored-next c.args.group.now.width (element_from c.args.state.now (bits_of c.args.group.now.width) c.args.group.now.v) c.bytes_of.result c.args.address
+    c.args.quad c.args.others
     (g.M.Bytes.memory c.args.memory.now) (g.M.Bytes.memory c.store_quad.new.memory) (g.M.Bytes.memory c.store_piece.new.memory)
     c.bytes_of.ensures (omega (arith, c.if-others-gt0.true)) c.store_quad.ensures.put c.store_piece.ensures.put

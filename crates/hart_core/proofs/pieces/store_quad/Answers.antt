@@ -14,8 +14,10 @@ store_one-requires-4-clause-covered g c =
     let q = 4 * c.args.quad in
     let n = element_from c.args.state.now (bits_of w) c.args.group.now.v in
     let one = length-stored memory (g.M.Bytes.memory c.store_one.new.memory) size c.args.address (n q) c.store_one.ensures.put in
-    let two = length-stored (g.M.Bytes.memory c.store_one.new.memory) (g.M.Bytes.memory c.store_one-2.new.memory) size (c.args.address + b) (n (q + 1)) c.store_one-2.ensures.put in
-    let three = length-stored (g.M.Bytes.memory c.store_one-2.new.memory) (g.M.Bytes.memory c.store_one-3.new.memory) size (c.args.address + b + b) (n (q + 2)) c.store_one-3.ensures.put in
+    let two = length-stored (g.M.Bytes.memory c.store_one.new.memory) (g.M.Bytes.memory c.store_one-2.new.memory) size (c.args.address + b) (n (q + 1))
+    c.store_one-2.ensures.put in
+    let three = length-stored (g.M.Bytes.memory c.store_one-2.new.memory) (g.M.Bytes.memory c.store_one-3.new.memory) size (c.args.address + b + b) (n (q + 2))
+    c.store_one-3.ensures.put in
     rw (three, two, one, c.bytes_of-bytes.ensures) (first-lies (length memory) w _ _ (fourth (length memory) w c.args.address 1 (omega arith) c.requires.lies))
 
 pub returns-clause-put : goal.returns-clause-put

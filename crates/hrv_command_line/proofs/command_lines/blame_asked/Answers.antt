@@ -22,4 +22,5 @@ returns c =
     (read_or_none found (codes "X") c.get_str-x.result c.get_str-x.ensures)
     (read_or_none found (codes "Y") c.get_str-y.result c.get_str-y.ensures)
     (read_or_none found (codes "address") c.get_str-address.result c.get_str-address.ensures)
-    (flag_read found (codes "turns") c.get_flag-with_turns.result c.get_flag-with_turns.ensures.none c.get_flag-with_turns.ensures.value c.get_flag-with_turns.ensures.other (blame_given (rows_of found) c.requires).2)
+    (flag_read found (codes "turns") c.get_flag-with_turns.result c.get_flag-with_turns.ensures.none c.get_flag-with_turns.ensures.value
+    c.get_flag-with_turns.ensures.other (blame_given (rows_of found) c.requires).2)

@@ -16,12 +16,14 @@ returns-in_err-matches-clause-memory c =
 
 pub asked_for-requires : goal.asked_for-requires
 asked_for-requires c =
-    let t = taken c.in_ok-program.field-0 (texts c.args.words.now) c.in_ok-matches.matches c.in_ok-program.ensures c.in_ok-matches.ensures.kinds c.in_ok-matches.ensures.matches in
+    let t = taken c.in_ok-program.field-0 (texts c.args.words.now) c.in_ok-matches.matches c.in_ok-program.ensures c.in_ok-matches.ensures.kinds
+    c.in_ok-matches.ensures.matches in
     ap is_some (asked_here _ _ t c.subcommand.result c.unwrap.result c.unwrap.ensures c.subcommand.ensures.name c.subcommand.ensures.rows)
 
 pub returns-then-not-is_known-clause-refused : goal.returns-then-not-is_known-clause-refused
 returns-then-not-is_known-clause-refused c =
-    let t = taken c.in_ok-program.field-0 (texts c.args.words.now) c.in_ok-matches.matches c.in_ok-program.ensures c.in_ok-matches.ensures.kinds c.in_ok-matches.ensures.matches in
+    let t = taken c.in_ok-program.field-0 (texts c.args.words.now) c.in_ok-matches.matches c.in_ok-program.ensures c.in_ok-matches.ensures.kinds
+    c.in_ok-matches.ensures.matches in
     let here = asked_here _ _ t c.subcommand.result c.unwrap.result c.unwrap.ensures c.subcommand.ensures.name c.subcommand.ensures.rows in
     unexplained (texts c.args.words.now) Unexplained _ refl (t.is_asked ∙ sym here ∙ c.in_ok-invocation.ensures) (c.is_known.ensures.no c.if-not-is_known.true)
 
@@ -30,18 +32,21 @@ returns-then-not-is_known-clause-memory c = λ some. memory_alone (texts c.args.
 
 pub returns-clause-named : goal.returns-clause-named
 returns-clause-named c =
-    let t = taken c.in_ok-program.field-0 (texts c.args.words.now) c.in_ok-matches.matches c.in_ok-program.ensures c.in_ok-matches.ensures.kinds c.in_ok-matches.ensures.matches in
+    let t = taken c.in_ok-program.field-0 (texts c.args.words.now) c.in_ok-matches.matches c.in_ok-program.ensures c.in_ok-matches.ensures.kinds
+    c.in_ok-matches.ensures.matches in
     let here = asked_here _ _ t c.subcommand.result c.unwrap.result c.unwrap.ensures c.subcommand.ensures.name c.subcommand.ensures.rows in
     known_named (texts c.args.words.now) _ (t.is_asked ∙ sym here ∙ c.in_ok-invocation.ensures) (c.is_known.ensures.yes c.if-not-is_known.false)
 
 pub returns-clause-spelled : goal.returns-clause-spelled
 returns-clause-spelled c =
-    let t = taken c.in_ok-program.field-0 (texts c.args.words.now) c.in_ok-matches.matches c.in_ok-program.ensures c.in_ok-matches.ensures.kinds c.in_ok-matches.ensures.matches in
+    let t = taken c.in_ok-program.field-0 (texts c.args.words.now) c.in_ok-matches.matches c.in_ok-program.ensures c.in_ok-matches.ensures.kinds
+    c.in_ok-matches.ensures.matches in
     let here = asked_here _ _ t c.subcommand.result c.unwrap.result c.unwrap.ensures c.subcommand.ensures.name c.subcommand.ensures.rows in
     spelled_as _ _ t _ (sym here ∙ c.in_ok-invocation.ensures)
 
 pub returns-clause-limits : goal.returns-clause-limits
 returns-clause-limits c =
-    let t = taken c.in_ok-program.field-0 (texts c.args.words.now) c.in_ok-matches.matches c.in_ok-program.ensures c.in_ok-matches.ensures.kinds c.in_ok-matches.ensures.matches in
+    let t = taken c.in_ok-program.field-0 (texts c.args.words.now) c.in_ok-matches.matches c.in_ok-program.ensures c.in_ok-matches.ensures.kinds
+    c.in_ok-matches.ensures.matches in
     let here = asked_here _ _ t c.subcommand.result c.unwrap.result c.unwrap.ensures c.subcommand.ensures.name c.subcommand.ensures.rows in
     limited_as _ _ t _ (sym here ∙ c.in_ok-invocation.ensures)

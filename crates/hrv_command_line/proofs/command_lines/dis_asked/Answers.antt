@@ -11,7 +11,8 @@ unwrap-image-requires c =
 pub returns : goal.returns
 returns c =
     let found = found_of c.args.given.now in
-    let flag = flag_read found (codes "addresses") c.get_flag.result c.get_flag.ensures.none c.get_flag.ensures.value c.get_flag.ensures.other (dis_given (rows_of found) c.requires).1 in
+    let flag = flag_read found (codes "addresses") c.get_flag.result c.get_flag.ensures.none c.get_flag.ensures.value c.get_flag.ensures.other
+    (dis_given (rows_of found) c.requires).1 in
     dis_read (rows_of found) c.unwrap-image.result.now c.get_flag.result
     (read found (codes "IMAGE") c.get_str.result c.unwrap-image.result c.get_str.ensures c.unwrap-image.ensures) flag
     ∙ ap (λ a. Some a) (sym c.listing_asked.ensures)

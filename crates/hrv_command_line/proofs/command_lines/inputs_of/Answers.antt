@@ -6,7 +6,8 @@ use Rattle.hrv_command_line.proofs.command_lines.inputs_of.Goals as goal
 
 pub returns-in-Some : goal.returns-in-Some
 returns-in-Some c =
-    some_kept (found_of c.args.given.now) (codes "INPUT") c.get_strs.result c.in-Some.inputs c.from_slice.result c.get_strs.ensures c.in-Some.is c.from_slice.ensures.items
+    some_kept (found_of c.args.given.now) (codes "INPUT") c.get_strs.result c.in-Some.inputs c.from_slice.result c.get_strs.ensures c.in-Some.is
+    c.from_slice.ensures.items
 
 pub returns-in-None : goal.returns-in-None
 returns-in-None c =

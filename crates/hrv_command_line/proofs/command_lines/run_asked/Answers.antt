@@ -25,7 +25,8 @@ returns-in-None c =
 pub returns-in-Some : goal.returns-in-Some
 returns-in-Some c =
     let found = found_of c.args.given.now in
-    run_read (rows_of found) (Some c.in-Some.old.now) c.unwrap-image.result.now c.unwrap-log.result.now c.number_asked-harts.result c.number_asked-turns.result c.requires
+    run_read (rows_of found) (Some c.in-Some.old.now) c.unwrap-image.result.now c.unwrap-log.result.now c.number_asked-harts.result c.number_asked-turns.result
+    c.requires
     (read found (codes "from") c.get_str-3.result c.in-Some.old c.get_str-3.ensures c.in-Some.is)
     (read found (codes "IMAGE") c.get_str.result c.unwrap-image.result c.get_str.ensures c.unwrap-image.ensures)
     (read found (codes "LOG") c.get_str-2.result c.unwrap-log.result c.get_str-2.ensures c.unwrap-log.ensures)

@@ -23,14 +23,17 @@ of_plan {own = own} {schedule = schedule} {its = its} {boxes = boxes} So first s
 
 pub generated-requires-clause-low : goal.generated-requires-clause-low
 generated-requires-clause-low c =
-    subst (λ (p : Places). LieLow p.frames) (sym c.in_ok-places.ensures) (lie_low c.args.plan.now.pipeline c.args.plan.now.schedule c.args.plan.now.boxes c.boxes.ensures.plan.boxes)
+    subst (λ (p : Places). LieLow p.frames) (sym c.in_ok-places.ensures) (lie_low c.args.plan.now.pipeline c.args.plan.now.schedule c.args.plan.now.boxes
+    c.boxes.ensures.plan.boxes)
 
 pub generated-requires-clause-registers : goal.generated-requires-clause-registers
 generated-requires-clause-registers c =
     subst (λ (l : List Phase). AllByRecursion (HasRegisters c.in_ok-places.places) l) (sym c.as_slice.ensures.value)
     (subst (λ (p : Places). AllByRecursion (HasRegisters p) c.in_ok-phases.phases.items) (sym c.in_ok-places.ensures)
-    (have_registers c.args.plan.now.pipeline c.args.plan.now.schedule c.args.plan.now.boxes c.boxes.ensures.plan.boxes c.requires.shallow c.in_ok-phases.phases.items
-    (of_plan (λ p s b. TakeFew p s c.in_ok-phases.phases.items) c.pipeline.ensures.value c.schedule.ensures.value c.boxes.ensures.value c.in_ok-phases.ensures.few)))
+    (have_registers c.args.plan.now.pipeline c.args.plan.now.schedule c.args.plan.now.boxes c.boxes.ensures.plan.boxes c.requires.shallow
+    c.in_ok-phases.phases.items
+    (of_plan (λ p s b. TakeFew p s c.in_ok-phases.phases.items) c.pipeline.ensures.value c.schedule.ensures.value c.boxes.ensures.value
+    c.in_ok-phases.ensures.few)))
 
 pub generated-requires-clause-tasks : goal.generated-requires-clause-tasks
 generated-requires-clause-tasks c =
@@ -41,7 +44,8 @@ pub generated-requires-clause-short : goal.generated-requires-clause-short
 generated-requires-clause-short c =
     subst (λ (l : List Phase). words_asked l ≤ most_words) (sym c.as_slice.ensures.value)
     (ask_for_few c.args.plan.now.pipeline c.args.plan.now.schedule c.requires.light c.in_ok-phases.phases.items
-    (of_plan (λ p s b. sizes.words_of c.in_ok-phases.phases.items ≤ 64 * weight p s) c.pipeline.ensures.value c.schedule.ensures.value c.boxes.ensures.value c.in_ok-phases.ensures.light))
+    (of_plan (λ p s b. sizes.words_of c.in_ok-phases.phases.items ≤ 64 * weight p s) c.pipeline.ensures.value c.schedule.ensures.value c.boxes.ensures.value
+    c.in_ok-phases.ensures.light))
 
 pub returns-clause-ok : goal.returns-clause-ok
 returns-clause-ok c =
@@ -52,7 +56,8 @@ returns-clause-ok c =
     (subst (λ (l : List Phase). IsProgramTo c.in_ok-places.places l words ends) c.as_slice.ensures.value c.in_ok-program.ensures.ok) in
     record {
       phases = c.in_ok-phases.phases.items;
-      are_lowered = of_plan (λ p s b. AreLowered p s b (length p.funcs) c.in_ok-phases.phases.items) c.pipeline.ensures.value c.schedule.ensures.value c.boxes.ensures.value c.in_ok-phases.ensures.phases;
+      are_lowered = of_plan (λ p s b. AreLowered p s b (length p.funcs) c.in_ok-phases.phases.items) c.pipeline.ensures.value c.schedule.ensures.value
+          c.boxes.ensures.value c.in_ok-phases.ensures.phases;
       is_program = made.program;
       ends_are = made.ends_are;
     }

@@ -14,7 +14,10 @@ returns-in_err-text g c =
     let given = given_by c.args.question in
     let first = c.in_ok-image_bytes in
     let second = c.in_ok-log_bytes in
-    unmeant (IsBlame given) (IsRefusedBlame given) (both image log) out c.from_residual-in_err-text.result c.in_err-text.field-0.0 (first.image_bytes.items, second.log_bytes.items)
+    unmeant (IsBlame given) (IsRefusedBlame given) (both image log) out c.from_residual-in_err-text.result c.in_err-text.field-0.0 (
+      first.image_bytes.items,
+      second.log_bytes.items,
+    )
     c.from_residual-in_err-text.ensures.1 refl (first.ensures.reads.0, second.ensures.0) (first.ensures.reads.1, second.ensures.1) c.in_err-text.ensures
 
 pub returns : goal.returns
@@ -25,6 +28,7 @@ returns g c =
     let given = given_by c.args.question in
     let first = c.in_ok-image_bytes in
     let second = c.in_ok-log_bytes in
-    written (IsBlame given) (IsRefusedBlame given) (both image log) out c.write_all.result (first.image_bytes.items, second.log_bytes.items) c.in_ok-text.text.items
+    written (IsBlame given) (IsRefusedBlame given) (both image log) out c.write_all.result (first.image_bytes.items, second.log_bytes.items)
+    c.in_ok-text.text.items
     (first.ensures.reads.0, second.ensures.0) (first.ensures.reads.1, second.ensures.1) c.in_ok-text.ensures
     (subst (λ bytes. Writes out bytes c.write_all.result) c.deref.ensures.value c.write_all.ensures.writes)

@@ -11,6 +11,7 @@ pub returns : goal.returns
 returns c =
     let begin = machine_of c.args.image.now c.args.log.now.harts in
     let marks = c.in_ok-marks.marks.items in
-    let are = subst (λ (s : State). AreMarks c.args.marking c.args.output.address s c.args.log.now.turns marks) (rw (c.harts.ensures.value) at c.in_ok-machine.ensures.opened) c.in_ok-marks.ensures.marks in
+    let are = subst (λ (s : State). AreMarks c.args.marking c.args.output.address s c.args.log.now.turns marks) (rw (c.harts.ensures.value) at
+    c.in_ok-machine.ensures.opened) c.in_ok-marks.ensures.marks in
     ap (λ (v : Vec ℕ Global). v.items) c.into_bytes.ensures.value ∙ (rw (c.deref.ensures.value) at c.in_ok-text.ensures)
     ∙ text_marks c.args.marking begin c.args.log.now.turns marks c.args.output c.requires (c.in_ok-marks.ensures.count ∙ c.words_to_the_last.ensures) are

@@ -9,4 +9,5 @@ returns-then-digits_len-digits c = no_number is_digit decimal_number c.args.digi
 pub returns : goal.returns
 returns c =
     (rw (c.saturating_sub.ensures, c.saturating_number-number.ensures) at c.with_digit.ensures)
-    ∙ decimal_last c.args.digits.now c.in_ok-last.front.now c.in_ok-last.last.now c.in_ok-last.ensures.cases.0 (rw c.digits_len.ensures.value at c.if-digits_len-digits.false)
+    ∙ decimal_last c.args.digits.now c.in_ok-last.front.now c.in_ok-last.last.now c.in_ok-last.ensures.cases.0 (rw c.digits_len.ensures.value at
+    c.if-digits_len-digits.false)

@@ -19,7 +19,8 @@ returns c =
 
 pub returns-in_err-image : goal.returns-in_err-image
 returns-in_err-image c =
-    wrong_inputs (λ bytes. bytes.items) c.args.alloc ((c.args.algorithm.now, c.args.schedule.now), map string_bytes c.args.inputs.now) c.in_ok-program.program c.in_ok-pictures.pictures.items c.from_residual-in_err-image.result
+    wrong_inputs (λ bytes. bytes.items) c.args.alloc ((c.args.algorithm.now, c.args.schedule.now), map string_bytes c.args.inputs.now) c.in_ok-program.program
+    c.in_ok-pictures.pictures.items c.from_residual-in_err-image.result
     c.in_err-image.field-0.0 c.from_residual-in_err-image.ensures.1 c.in_ok-program.ensures.passed c.in_ok-program.ensures.means c.in_ok-pictures.ensures.ok
     (rw (c.deref.ensures.value) at c.in_err-image.ensures.err)
 

@@ -16,7 +16,8 @@ returns-in_err-input_texts g c =
     let first = c.in_ok-algorithm_text in
     let second = c.in_ok-schedule_text in
     let fault = c.in_err-input_texts.field-0.0 in
-    unread (IsCompilation c.args.alloc) (IsRefusedCompilation c.args.alloc) (both (both algorithm schedule) inputs) out c.from_residual-in_err-input_texts.result fault
+    unread (IsCompilation c.args.alloc) (IsRefusedCompilation c.args.alloc) (both (both algorithm schedule) inputs) out
+    c.from_residual-in_err-input_texts.result fault
     c.from_residual-in_err-input_texts.ensures.1 refl
     (second_unread (both algorithm schedule) inputs (string_bytes first.algorithm_text, string_bytes second.schedule_text) fault
     (first.ensures.0, second.ensures.0) (first.ensures.1, second.ensures.1) c.in_err-input_texts.ensures)

@@ -27,4 +27,5 @@ returns g c =
     let second = c.in_ok-log_bytes in
     talk_held (both image log) lines (g.C.Source.ended c.hold_talk.new.lines) out c.hold_talk.result (first.image_bytes.items, second.log_bytes.items)
     c.in_ok-session.session.state (first.ensures.reads.0, second.ensures.0) (first.ensures.reads.1, second.ensures.1) c.in_ok-session.ensures.ok
-    (subst (λ (session : CountedSession). HoldsTalk session.state lines (g.C.Source.ended c.hold_talk.new.lines) out c.hold_talk.result) c.new.ensures.session c.hold_talk.ensures)
+    (subst (λ (session : CountedSession). HoldsTalk session.state lines (g.C.Source.ended c.hold_talk.new.lines) out c.hold_talk.result) c.new.ensures.session
+    c.hold_talk.ensures)

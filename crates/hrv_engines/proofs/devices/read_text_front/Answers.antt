@@ -20,5 +20,8 @@ returns-in-Some-clause-few g c =
 
 pub returns-in-None-clause-reads : goal.returns-in-None-clause-reads
 returns-in-None-clause-reads g c =
-    let read = c.in_ok-bytes.ensures.reads in
-    (c.in_ok-path.ensures.ok ∙ c.path.ensures, inr (none_given g.S.Source.gave g.S.Source.ended c.args.most c.args.source.now c.read_past.new.source c.in_ok-bytes.bytes.items read.0.0 read.0.1 c.in-None.ensures.none))
+    let read = c.in_ok-bytes.ensures.reads in (
+      c.in_ok-path.ensures.ok ∙ c.path.ensures,
+      inr (none_given g.S.Source.gave g.S.Source.ended c.args.most c.args.source.now c.read_past.new.source
+          c.in_ok-bytes.bytes.items read.0.0 read.0.1 c.in-None.ensures.none),
+    )

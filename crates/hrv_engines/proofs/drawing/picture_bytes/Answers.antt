@@ -15,7 +15,8 @@ returns-in_err-text g c =
     let first = c.in_ok-algorithm_text in
     let second = c.in_ok-input_texts in
     unmeant (IsDrawing c.args.alloc) (IsRefusedDrawing c.args.alloc) (both algorithm inputs) out c.from_residual-in_err-text.result c.in_err-text.field-0.0
-    (string_bytes first.algorithm_text, map string_bytes second.input_texts.items) c.from_residual-in_err-text.ensures.1 refl (first.ensures.0, second.ensures.0)
+    (string_bytes first.algorithm_text, map string_bytes second.input_texts.items) c.from_residual-in_err-text.ensures.1 refl
+    (first.ensures.0, second.ensures.0)
     (first.ensures.1, second.ensures.1) (rw (c.deref.ensures, ap (map string_bytes) c.deref-2.ensures.value) at c.in_err-text.ensures)
 
 pub returns : goal.returns

@@ -19,7 +19,8 @@ returns-in_err-text g c =
     let in_range : l.source-index < length l.sources = omega arith in
     let here = slice_get-get_or l.sources l.source-index c.source-item.result in_range in
     reads_no_texts g.S.Source.place g.S.Source.failed g.S.Source.gave g.S.Source.ended (λ texts. map string_bytes texts.items) c.from_residual.result
-    c.args.sources.now (map string_bytes l.texts.items) l.sources l.source-index item c.read_picture_text.new.source c.in_err-text.field-0.0 c.from_residual.ensures.1
+    c.args.sources.now (map string_bytes l.texts.items) l.sources l.source-index item c.read_picture_text.new.source c.in_err-text.field-0.0
+    c.from_residual.ensures.1
     l.invariant.gave l.invariant.well here c.in_err-text.ensures
 
 pub returns-in_err-push : goal.returns-in_err-push
@@ -41,12 +42,16 @@ loop-source-preserved g c =
     let text = c.in_ok-text.text in
     let items = ap (map string_bytes) c.in_ok-push.ensures.items ∙ map-append string_bytes l.texts.items (text ∷ []) in
     record {
-      gave = next_gave _ c.args.sources.now (map string_bytes l.texts.items) _ l.sources l.source-index item c.read_picture_text.new.source (string_bytes text) items
+      gave = next_gave _ c.args.sources.now (map string_bytes l.texts.items) _ l.sources l.source-index item c.read_picture_text.new.source (string_bytes text)
+          items
           l.invariant.gave here c.in_ok-text.ensures.0;
-      well = next_well g.S.Source.failed c.args.sources.now l.sources l.source-index item c.read_picture_text.new.source l.invariant.well here c.in_ok-text.ensures.1;
+      well = next_well g.S.Source.failed c.args.sources.now l.sources l.source-index item c.read_picture_text.new.source l.invariant.well here
+          c.in_ok-text.ensures.1;
     }
 
 pub returns : goal.returns
 returns g c =
-    let l = c.loop-source in
-    (all_gave _ c.args.sources.now (map string_bytes l.texts.items) l.sources l.source-index l.invariant.gave c.loop-source-test.false l.auto.source-index-end, l.invariant.well)
+    let l = c.loop-source in (
+      all_gave _ c.args.sources.now (map string_bytes l.texts.items) l.sources l.source-index l.invariant.gave c.loop-source-test.false l.auto.source-index-end,
+      l.invariant.well,
+    )

@@ -15,5 +15,6 @@ loop-hart-preserved c =
     let state = c.args.machine.now in
     let turns = c.args.log.now.turns in
     let n = c.loop-hart.hart in
-    joined (string_bytes c.args.text.now) (string_bytes c.loop-hart.text) (string_bytes c.push_hart.new.text) (hart_texts state turns n) _ _ c.loop-hart.invariant c.in_ok-push_hart.ensures
+    joined (string_bytes c.args.text.now) (string_bytes c.loop-hart.text) (string_bytes c.push_hart.new.text) (hart_texts state turns n)
+    _ _ c.loop-hart.invariant c.in_ok-push_hart.ensures
     (hart_texts-more state turns n ∙ ap (λ count. hart_texts state turns n ++ hart_text n (hart_at state n) count) (sym c.count_of.ensures))

@@ -11,7 +11,8 @@ pub loop-number-preserved : goal.loop-number-preserved
 loop-number-preserved c =
     let one = hart_at c.args.machine.now c.args.hart in
     let n = c.loop-number.number in
-    joined (string_bytes c.args.text.now) (string_bytes c.loop-number.text) (string_bytes c.push_vector.new.text) (vector_lines one n) _ _ c.loop-number.invariant c.in_ok-push_vector.ensures
+    joined (string_bytes c.args.text.now) (string_bytes c.loop-number.text) (string_bytes c.push_vector.new.text) (vector_lines one n)
+    _ _ c.loop-number.invariant c.in_ok-push_vector.ensures
     (vector_lines-more one n ∙ ap (λ v. vector_lines one n ++ vector_line n v) (sym (c.vector-bytes.ensures ∙ ap (vector one) c.vector_register.ensures)))
 
 pub loop-number-init : goal.loop-number-init

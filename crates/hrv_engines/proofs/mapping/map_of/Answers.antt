@@ -15,5 +15,6 @@ returns c = record {
 
 pub returns-in_err-text : goal.returns-in_err-text
 returns-in_err-text c =
-    no_memory (λ text. text.items) (IsMap c.args.alloc) (IsRefusedMap c.args.alloc) (c.args.algorithm.now, c.args.schedule.now) c.from_residual-in_err-text.result
+    no_memory (λ text. text.items) (IsMap c.args.alloc) (IsRefusedMap c.args.alloc) (c.args.algorithm.now, c.args.schedule.now)
+    c.from_residual-in_err-text.result
     c.from_residual-in_err-text.ensures.1

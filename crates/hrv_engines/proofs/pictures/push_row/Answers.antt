@@ -14,6 +14,7 @@ loop-x-init c = sym (append-nil (string_bytes c.args.text.now))
 pub loop-x-preserved : goal.loop-x-preserved
 loop-x-preserved c =
     let before = numbers c.args.machine.now c.args.output c.args.y c.loop-x.x in
-    joined (string_bytes c.args.text.now) (string_bytes c.loop-x.text) (string_bytes c.push_separated.new.text) before _ _ c.loop-x.invariant c.in_ok-push_separated.ensures
+    joined (string_bytes c.args.text.now) (string_bytes c.loop-x.text) (string_bytes c.push_separated.new.text) before _ _ c.loop-x.invariant
+    c.in_ok-push_separated.ensures
     (numbers-more c.args.machine.now c.args.output c.args.y c.loop-x.x
     ∙ ap (λ word. before ++ ((if c.loop-x.x == 0 then [] else codes " ") ++ number_text word)) (sym c.pixel_of.ensures))

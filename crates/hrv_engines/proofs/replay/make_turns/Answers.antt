@@ -11,7 +11,8 @@ use Rattle.hrv_engines.proofs.replay.make_turns.Goals as goal
 pub run_same-requires-clause-there : goal.run_same-requires-clause-there
 run_same-requires-clause-there c =
     let log = c.args.log.now in
-    let below = run_at-below log.harts log.turns c.loop-hart.place c.in-Some.hart c.in-Some.count (recursion_from_All (λ (turn : ℕ). turn < log.harts) log.turns c.requires.log.turns_below) (sym c.in-Some.ensures) in
+    let below = run_at-below log.harts log.turns c.loop-hart.place c.in-Some.hart c.in-Some.count (recursion_from_All (λ (turn : ℕ). turn < log.harts) log.turns
+    c.requires.log.turns_below) (sym c.in-Some.ensures) in
     omega (arith, below, c.requires.harts, c.loop-hart.invariant.shape.harts)
 
 pub run_same-requires-clause-some : goal.run_same-requires-clause-some
@@ -33,7 +34,8 @@ loop-hart-preserved c =
     let stand = run_at-stands turns place hart count (sym c.in-Some.ensures) in
     let left = drop (place + count) turns in
     record {
-      state = ap (λ (m : State). run m left) c.run_same.ensures.state ∙ sym (run-append machine (replicate count hart) left) ∙ ap (run machine) (sym stand.parts) ∙ c.loop-hart.invariant.state;
+      state = ap (λ (m : State). run m left) c.run_same.ensures.state ∙ sym (run-append machine (replicate count hart) left)
+          ∙ ap (run machine) (sym stand.parts) ∙ c.loop-hart.invariant.state;
       within = stand.within;
       shape = shape-then c.args.machine.now machine _ c.loop-hart.invariant.shape c.run_same.ensures.shape;
     }

@@ -13,7 +13,10 @@ returns-in_err-text g c =
     let out = sink_of g.O.Sink.place g.O.Sink.failed g.O.Sink.took c.args.out.now c.args.out.now in
     let first = c.in_ok-image_bytes in
     let second = c.in_ok-log_bytes in
-    unmeant IsReplay IsRefusedReplay (both image log) out c.from_residual-in_err-text.result c.in_err-text.field-0.0 (first.image_bytes.items, second.log_bytes.items)
+    unmeant IsReplay IsRefusedReplay (both image log) out c.from_residual-in_err-text.result c.in_err-text.field-0.0 (
+      first.image_bytes.items,
+      second.log_bytes.items,
+    )
     c.from_residual-in_err-text.ensures.1 refl (first.ensures.reads.0, second.ensures.0) (first.ensures.reads.1, second.ensures.1) c.in_err-text.ensures
 
 pub returns : goal.returns

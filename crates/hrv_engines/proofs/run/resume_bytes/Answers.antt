@@ -14,5 +14,6 @@ returns-in_err-log_bytes-clause-runs g c =
     let first = c.in_ok-image_bytes in
     let second = c.in_ok-old_bytes in
     unrun (IsResumedRun c.args.limit) IsRefusedReplay (both image old) log out c.from_residual-in_err-log_bytes.result c.in_err-log_bytes.field-0.0
-    (first.image_bytes.items, second.old_bytes.items) c.from_residual-in_err-log_bytes.ensures.1 (first.ensures.reads.0, second.ensures.0) (first.ensures.reads.1, second.ensures.1)
+    (first.image_bytes.items, second.old_bytes.items) c.from_residual-in_err-log_bytes.ensures.1 (first.ensures.reads.0, second.ensures.0)
+    (first.ensures.reads.1, second.ensures.1)
     refl refl c.in_err-log_bytes.ensures.err

@@ -11,6 +11,7 @@ dump-requires-clause-fits g c =
 
 pub returns-clause-ok : goal.returns-clause-ok
 returns-clause-ok g c =
-    run-is c.args.image c.args.old c.args.limit c.write.new.out.items (string_bytes c.in_ok-text.text) c.in_ok-machine.log c.in_ok-machine.machine c.output-output.result
+    run-is c.args.image c.args.old c.args.limit c.write.new.out.items (string_bytes c.in_ok-text.text) c.in_ok-machine.log c.in_ok-machine.machine
+    c.output-output.result
     c.in_ok-machine.ensures.machine c.in_ok-machine.ensures.log
     (c.in_ok-write.ensures.ok ∙ ap (λ bytes. bytes ++ spelled c.in_ok-machine.log) c.new-bytes.ensures.items) c.output-output.ensures.value c.in_ok-text.ensures

@@ -13,5 +13,6 @@ loop-hart-init c = sym (append-nil (string_bytes c.args.text.now))
 pub loop-hart-preserved : goal.loop-hart-preserved
 loop-hart-preserved c =
     let state = state_here c.args.session.now.state in
-    joined (string_bytes c.args.text.now) (string_bytes c.loop-hart.text) (string_bytes c.push_hart_line.new.text) (hart_lines state c.loop-hart.hart) _ _ c.loop-hart.invariant c.in_ok-push_hart_line.ensures
+    joined (string_bytes c.args.text.now) (string_bytes c.loop-hart.text) (string_bytes c.push_hart_line.new.text) (hart_lines state c.loop-hart.hart)
+    _ _ c.loop-hart.invariant c.in_ok-push_hart_line.ensures
     (hart_lines-more state c.loop-hart.hart)

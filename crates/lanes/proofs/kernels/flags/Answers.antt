@@ -8,8 +8,10 @@ pub loop-i-preserved : goal.loop-i-preserved
 loop-i-preserved g c = record {
   count = simp length-set c.loop-i.invariant.count;
   so_far = elim c.if-chosen-i.branch [
-    | then-chosen-i w ↦ rw add-one (flags_more_here _ _ c.loop-i.i c.loop-i.results c.args.chosen.now _ _ (omega arith) (omega arith) w.if-chosen-i.true w.results-is c.loop-i.invariant.so_far)
-    | else-chosen-i w ↦ rw add-one (flags_more_elsewhere _ _ c.loop-i.i c.loop-i.results c.args.chosen.now _ _ (omega arith) (omega arith) w.if-chosen-i.false w.results-is c.loop-i.invariant.so_far)
+    | then-chosen-i w ↦ rw add-one (flags_more_here _ _ c.loop-i.i c.loop-i.results c.args.chosen.now _ _ (omega arith) (omega arith) w.if-chosen-i.true
+        w.results-is c.loop-i.invariant.so_far)
+    | else-chosen-i w ↦ rw add-one (flags_more_elsewhere _ _ c.loop-i.i c.loop-i.results c.args.chosen.now _ _ (omega arith) (omega arith) w.if-chosen-i.false
+        w.results-is c.loop-i.invariant.so_far)
   ];
 }
 

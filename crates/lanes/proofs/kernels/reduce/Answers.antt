@@ -6,8 +6,10 @@ use Rattle.lanes.proofs.kernels.reduce.Goals.{then-active-i, else-active-i}
 pub loop-i-preserved : goal.loop-i-preserved
 loop-i-preserved g c =
     elim c.if-active-i.branch [
-      | then-active-i w ↦ rw (add-one, w.total-is) (reduce_active _ c.args.start c.loop-i.total _ c.loop-i.i c.args.active.now c.args.elements.now _ _ (omega arith) (omega arith) w.if-active-i.true w.operation-total.ensures c.loop-i.invariant)
-      | else-active-i w ↦ rw (add-one, w.total-is) (reduce_other _ c.args.start c.loop-i.total c.loop-i.i c.args.active.now c.args.elements.now _ (omega arith) (omega arith) w.if-active-i.false c.loop-i.invariant)
+      | then-active-i w ↦ rw (add-one, w.total-is) (reduce_active _ c.args.start c.loop-i.total _ c.loop-i.i c.args.active.now c.args.elements.now
+          _ _ (omega arith) (omega arith) w.if-active-i.true w.operation-total.ensures c.loop-i.invariant)
+      | else-active-i w ↦ rw (add-one, w.total-is) (reduce_other _ c.args.start c.loop-i.total c.loop-i.i c.args.active.now c.args.elements.now _ (omega arith)
+          (omega arith) w.if-active-i.false c.loop-i.invariant)
     ]
 
 pub returns : goal.returns

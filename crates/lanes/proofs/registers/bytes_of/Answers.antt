@@ -10,7 +10,8 @@ loop-index-preserved g c =
     let number = g.K.LaneKind.number in
     let size = g.K.LaneKind.width / 8 in
     let fill : g.row.N * size ≡ 16 = bytes_fill g.row.N g.K.LaneKind.width g.met.K.LaneKind.is_width c.requires in
-    let room : c.loop-index.index * size + size ≤ 16 = subst (λ n. c.loop-index.index * size + size ≤ n) fill (row_fits c.loop-index.index size g.row.N size c.loop-index-test.true (le_refl size)) in
+    let room : c.loop-index.index * size + size ≤ 16 = subst (λ n. c.loop-index.index * size + size ≤ n) fill (row_fits c.loop-index.index size g.row.N size
+    c.loop-index-test.true (le_refl size)) in
     let there : c.loop-index.index < length c.args.elements.now = omega arith in
     record {
       count = c.write.array_long;

@@ -7,7 +7,8 @@ use Rattle.line_text.proofs.line_readers.read_lines.Goals as goal
 pub returns-in-Err-clause-read : goal.returns-in-Err-clause-read
 returns-in-Err-clause-read g c =
     let some : c.lines.rest.now ≢ [] = search rules in
-    rw c.at_line.ensures (fails _ _ _ _ c.lines.rest.now _ c.take_line.new.self _ _ c.in-Err.error (c.first_line.ensures.lines some) c.in-Err.ensures c.lines.invariant)
+    rw c.at_line.ensures (fails _ _ _ _ c.lines.rest.now _ c.take_line.new.self _ _ c.in-Err.error (c.first_line.ensures.lines some) c.in-Err.ensures
+    c.lines.invariant)
 
 pub lines-preserved : goal.lines-preserved
 lines-preserved g c =

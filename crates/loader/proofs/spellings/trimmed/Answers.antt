@@ -7,14 +7,16 @@ use Rattle.loader.proofs.spellings.trimmed.Goals.{then-loop-count-test+else-byte
 pub loop-count-preserved : goal.loop-count-preserved
 loop-count-preserved c = record {
   within = omega (arith, c.loop-count.invariant.within);
-  same = zero_before c.args.bytes.now c.loop-count.count (omega (arith, c.loop-count-test.true)) c.loop-count.invariant.within (search rules) ∙ c.loop-count.invariant.same;
+  same = zero_before c.args.bytes.now c.loop-count.count (omega (arith, c.loop-count-test.true)) c.loop-count.invariant.within (search rules)
+      ∙ c.loop-count.invariant.same;
 }
 
 pub returns-clause-value : goal.returns-clause-value
 returns-clause-value c =
     elim c.loop-count-test.branch [
       | then-loop-count-test+else-bytes-count-eq0 w ↦
-          sym (other_before c.args.bytes.now c.loop-count.count (omega (arith, w.loop-count-test.true)) c.loop-count.invariant.within (λ is. w.if-bytes-count-eq0.false (search rules))) ∙ c.loop-count.invariant.same
+          sym (other_before c.args.bytes.now c.loop-count.count (omega (arith, w.loop-count-test.true)) c.loop-count.invariant.within
+          (λ is. w.if-bytes-count-eq0.false (search rules))) ∙ c.loop-count.invariant.same
       | else-loop-count-test w ↦
           let none : c.loop-count.count ≡ 0 = omega (arith, w.loop-count-test.false) in
           let e : trimmed (take 0 c.args.bytes.now) ≡ trimmed c.args.bytes.now = rw none at c.loop-count.invariant.same in

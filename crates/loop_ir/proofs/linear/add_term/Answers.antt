@@ -14,4 +14,5 @@ returns-in-Some-clause-sum c = λ values.
 
 pub returns-in_ok-push-in-None-clause-sum : goal.returns-in_ok-push-in-None-clause-sum
 returns-in_ok-push-in-None-clause-sum c = λ values.
-    ap (λ (ts : List Term). sum_of values ts % 2 ^ 32) c.in_ok-push-in-None.ensures.ok ∙ ap (λ (k : ℕ). k % 2 ^ 32) (sum_push values c.args.terms.now c.args.term)
+    ap (λ (ts : List Term). sum_of values ts % 2 ^ 32) c.in_ok-push-in-None.ensures.ok
+    ∙ ap (λ (k : ℕ). k % 2 ^ 32) (sum_push values c.args.terms.now c.args.term)

@@ -20,9 +20,11 @@ pub returns-in-Sequence-clause-after : goal.returns-in-Sequence-clause-after
 returns-in-Sequence-clause-after t c =
     both_made c.args.stmt.now c.in-Sequence.first c.in-Sequence.second (points_of c.args.funcs.now) (points_of c.execute.new.funcs) (planes c.args.inputs.now)
     (values_of c.args.bindings.now) (planes c.args.funcs.now) (planes c.execute.new.funcs) _ c.in-Sequence.is c.execute.ensures.points
-    (c.execute.ensures.after ∙ ap (λ own. run (points_of c.args.funcs.now) (planes c.args.inputs.now) own (values_of c.args.bindings.now) (planes c.args.funcs.now)) c.get.ensures)
+    (c.execute.ensures.after ∙ ap (λ own. run (points_of c.args.funcs.now) (planes c.args.inputs.now) own (values_of c.args.bindings.now)
+    (planes c.args.funcs.now)) c.get.ensures)
     (c.execute-in-Sequence.ensures.after
-    ∙ ap (λ own. run (points_of c.execute.new.funcs) (planes c.args.inputs.now) own (values_of c.args.bindings.now) (planes c.execute.new.funcs)) c.get-in-Sequence.ensures)
+    ∙ ap (λ own. run (points_of c.execute.new.funcs) (planes c.args.inputs.now) own (values_of c.args.bindings.now) (planes c.execute.new.funcs))
+    c.get-in-Sequence.ensures)
 
 pub returns-after-loop-turn-clause-points : goal.returns-after-loop-turn-clause-points
 returns-after-loop-turn-clause-points t c = c.loop-turn.invariant.points

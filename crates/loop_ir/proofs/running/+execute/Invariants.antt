@@ -10,5 +10,6 @@ decreases-execute l = goal.size-execute l
 abbrev pub invariant-loop-turn : goal.invariant-loop-turn
 invariant-loop-turn l = record {
   points : points_of l.funcs ≡ points_of l.fn.funcs;
-  after : planes l.funcs ≡ turns l.turn (λ turn. run (points_of l.fn.funcs) (planes l.inputs) l.body (with l.counter turn (values_of l.bindings))) (planes l.fn.funcs);
+  after : planes l.funcs ≡ turns l.turn (λ turn. run (points_of l.fn.funcs) (planes l.inputs) l.body (with l.counter turn (values_of l.bindings)))
+      (planes l.fn.funcs);
 }

@@ -9,5 +9,6 @@ loop-task-init c = record { points = refl; after = turns_none _ _ }
 pub loop-task-preserved : goal.loop-task-preserved
 loop-task-preserved c = record {
   points = c.run_task.ensures.points ∙ c.loop-task.invariant.points;
-  after = task_made _ _ _ c.args.phase.now c.loop-task.task _ (planes c.loop-task.funcs) _ c.loop-task.invariant.points c.loop-task.invariant.after c.run_task.ensures.after;
+  after = task_made _ _ _ c.args.phase.now c.loop-task.task _ (planes c.loop-task.funcs) _ c.loop-task.invariant.points c.loop-task.invariant.after
+      c.run_task.ensures.after;
 }

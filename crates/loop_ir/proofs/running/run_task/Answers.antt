@@ -9,7 +9,8 @@ use Rattle.loop_ir.proofs.running.run_task.Goals as goal
 pub returns-in-Some-clause-after : goal.returns-in-Some-clause-after
 returns-in-Some-clause-after c =
     task_done (points_of c.args.funcs.now) (planes c.args.inputs.now) c.args.phase.now c.args.task _ _ _
-    (one_bound _ _ _ ∙ (ap (λ values. with c.in-Some.counter c.args.task values) none_bound ∙ ap (λ counter. task_values counter c.args.task) (sym c.in-Some.is))) c.execute.ensures.after
+    (one_bound _ _ _ ∙ (ap (λ values. with c.in-Some.counter c.args.task values) none_bound
+    ∙ ap (λ counter. task_values counter c.args.task) (sym c.in-Some.is))) c.execute.ensures.after
 
 pub returns-in-None-clause-after : goal.returns-in-None-clause-after
 returns-in-None-clause-after c =

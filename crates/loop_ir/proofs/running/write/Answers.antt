@@ -7,7 +7,8 @@ returns-then-place-buffers-clause-points c =
 
 pub returns-then-place-buffers-clause-after : goal.returns-then-place-buffers-clause-after
 returns-then-place-buffers-clause-after c =
-    put_one c.args.buffers.now c.args.place c.args.x c.args.y c.args.pixel c.set.new.self c.index-buffers-place.result c.if-place-buffers.true c.set.ensures.pixels
+    put_one c.args.buffers.now c.args.place c.args.x c.args.y c.args.pixel c.set.new.self c.index-buffers-place.result c.if-place-buffers.true
+    c.set.ensures.pixels
 
 pub returns-else-place-buffers-clause-after : goal.returns-else-place-buffers-clause-after
 returns-else-place-buffers-clause-after c = put_none c.args.buffers.now c.args.place c.args.x c.args.y c.args.pixel c.if-place-buffers.false

@@ -22,9 +22,12 @@ returns c = record {
   need_is = c.in_ok-leaf.ensures.needs;
   size_is = c.in_ok-leaf.ensures.sizes ∙ ap (λ (l : List Split). 25 * length l + whole_size c.args.store) c.as_slice-splits.ensures;
   leaf_is = c.in_ok-leaf.ensures.leaf;
-  looped = subst (λ (l : List Split). HasLoops c.args.plan.now.pipeline c.args.plan.now.schedule c.args.plan.now.boxes c.args.consumer (counts c.args.extents l) c.in_ok-leaf.leaf (inside_of (parallel c.args.stage.now) c.args.stage.now.loops) c.in_ok-inner.inner) c.as_slice-splits.ensures
-      (subst (λ (ls : List Loop). HasLoops c.args.plan.now.pipeline c.args.plan.now.schedule c.args.plan.now.boxes c.args.consumer (counts c.args.extents c.as_slice-splits.result.now) c.in_ok-leaf.leaf ls c.in_ok-inner.inner) c.inside_parallel-inside.ensures
-      (subst (λ (s : SizedLoops). HasLoops c.args.plan.now.pipeline c.args.plan.now.schedule c.args.plan.now.boxes c.args.consumer (counts s.extents s.splits) c.in_ok-leaf.leaf c.inside_parallel-inside.result.now c.in_ok-inner.inner) c.in_ok-sizes.ensures
+  looped = subst (λ (l : List Split). HasLoops c.args.plan.now.pipeline c.args.plan.now.schedule c.args.plan.now.boxes c.args.consumer (counts c.args.extents l)
+      c.in_ok-leaf.leaf (inside_of (parallel c.args.stage.now) c.args.stage.now.loops) c.in_ok-inner.inner) c.as_slice-splits.ensures
+      (subst (λ (ls : List Loop). HasLoops c.args.plan.now.pipeline c.args.plan.now.schedule c.args.plan.now.boxes c.args.consumer
+      (counts c.args.extents c.as_slice-splits.result.now) c.in_ok-leaf.leaf ls c.in_ok-inner.inner) c.inside_parallel-inside.ensures
+      (subst (λ (s : SizedLoops). HasLoops c.args.plan.now.pipeline c.args.plan.now.schedule c.args.plan.now.boxes c.args.consumer (counts s.extents s.splits)
+      c.in_ok-leaf.leaf c.inside_parallel-inside.result.now c.in_ok-inner.inner) c.in_ok-sizes.ensures
       c.in_ok-inner.ensures));
   begun = c.in_ok-made.ensures;
 }

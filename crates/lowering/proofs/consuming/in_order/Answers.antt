@@ -32,16 +32,20 @@ some_there found e f = cc
 
 pub returns-in-None : goal.returns-in-None
 returns-in-None c = record {
-  runs = λ points inputs values funcs. ap (λ (o : Option Stmt). run points inputs c.args.rest values (run_first points inputs o values funcs)) (sym c.in-None.is);
-  traces = λ points inputs place x y values so_far. ap (λ (o : Option Stmt). trace points inputs place x y c.args.rest values (trace_first points inputs place x y o values so_far)) (sym c.in-None.is);
-  sound = λ reads written loaded values. ap (λ (o : Option Stmt). is_sound_first reads written loaded o values && is_sound reads written loaded c.args.rest values) (sym c.in-None.is);
+  runs = λ points inputs values funcs. ap (λ (o : Option Stmt). run points inputs c.args.rest values (run_first points inputs o values funcs))
+      (sym c.in-None.is);
+  traces = λ points inputs place x y values so_far. ap (λ (o : Option Stmt). trace points inputs place x y c.args.rest values (trace_first points inputs place x
+      y o values so_far)) (sym c.in-None.is);
+  sound = λ reads written loaded values. ap (λ (o : Option Stmt). is_sound_first reads written loaded o values && is_sound reads written loaded c.args.rest
+      values) (sym c.in-None.is);
   depth_is = without (depth c.args.rest) ∙ ap (λ (o : Option Stmt). max (depth_first o) (depth c.args.rest)) (sym c.in-None.is);
   need_is = without (greatest_need c.args.rest) ∙ ap (λ (o : Option Stmt). max (need_first o) (greatest_need c.args.rest)) (sym c.in-None.is);
   size_is = none_more (whole_size c.args.rest) ∙ ap (λ (o : Option Stmt). size_first o + whole_size c.args.rest) (sym c.in-None.is);
   at_once = λ reads values. ap (λ (o : Option Stmt). at_once_first reads o values && may_be_at_once reads c.args.rest values) (sym c.in-None.is);
   alone_is = λ e. refl;
   about = λ place. ap (λ (o : Option Stmt). about_first place o && is_about place c.args.rest) (sym c.in-None.is);
-  in_runs = λ reads func x y expected values. ap (λ (o : Option Stmt). in_runs_first reads func x y expected o values && stores_in_runs reads func x y expected c.args.rest values) (sym c.in-None.is);
+  in_runs = λ reads func x y expected values. ap (λ (o : Option Stmt). in_runs_first reads func x y expected o values && stores_in_runs reads func x y expected
+      c.args.rest values) (sym c.in-None.is);
 }
 
 -- src/consuming.rt:161:1
@@ -54,12 +58,14 @@ returns-in_ok-rest-in-Some c = record {
       ∙ ap (λ (o : Option Stmt). run points inputs c.args.rest values (run_first points inputs o values funcs)) (sym c.in-Some.is);
   traces = λ points inputs place x y values so_far.
       trace_sequence points inputs place x y c.in_ok-first-in-Some.first c.in_ok-rest-in-Some.rest values so_far
-      ∙ ap (λ (s : Stmt). trace points inputs place x y s values (trace points inputs place x y c.in_ok-first-in-Some.first values so_far)) c.in_ok-rest-in-Some.ensures
+      ∙ ap (λ (s : Stmt). trace points inputs place x y s values (trace points inputs place x y c.in_ok-first-in-Some.first values so_far))
+      c.in_ok-rest-in-Some.ensures
       ∙ ap (λ (s : Stmt). trace points inputs place x y c.args.rest values (trace points inputs place x y s values so_far)) c.in_ok-first-in-Some.ensures
       ∙ ap (λ (o : Option Stmt). trace points inputs place x y c.args.rest values (trace_first points inputs place x y o values so_far)) (sym c.in-Some.is);
   sound = λ reads written loaded values.
       sound_sequence reads written loaded c.in_ok-first-in-Some.first c.in_ok-rest-in-Some.rest values
-      ∙ ap (λ (s : Stmt). is_sound reads written loaded c.in_ok-first-in-Some.first values && is_sound reads written loaded s values) c.in_ok-rest-in-Some.ensures
+      ∙ ap (λ (s : Stmt). is_sound reads written loaded c.in_ok-first-in-Some.first values && is_sound reads written loaded s values)
+      c.in_ok-rest-in-Some.ensures
       ∙ ap (λ (s : Stmt). is_sound reads written loaded s values && is_sound reads written loaded c.args.rest values) c.in_ok-first-in-Some.ensures
       ∙ ap (λ (o : Option Stmt). is_sound_first reads written loaded o values && is_sound reads written loaded c.args.rest values) (sym c.in-Some.is);
   depth_is = depth_sequence c.in_ok-first-in-Some.first c.in_ok-rest-in-Some.rest
@@ -87,7 +93,10 @@ returns-in_ok-rest-in-Some c = record {
       ∙ ap (λ (o : Option Stmt). about_first place o && is_about place c.args.rest) (sym c.in-Some.is);
   in_runs = λ reads func x y expected values.
       ap (λ (own : Runs). own.are_runs values) (runs_sequence reads func x y expected c.in_ok-first-in-Some.first c.in_ok-rest-in-Some.rest)
-      ∙ ap (λ (s : Stmt). stores_in_runs reads func x y expected c.in_ok-first-in-Some.first values && stores_in_runs reads func x y expected s values) c.in_ok-rest-in-Some.ensures
-      ∙ ap (λ (s : Stmt). stores_in_runs reads func x y expected s values && stores_in_runs reads func x y expected c.args.rest values) c.in_ok-first-in-Some.ensures
-      ∙ ap (λ (o : Option Stmt). in_runs_first reads func x y expected o values && stores_in_runs reads func x y expected c.args.rest values) (sym c.in-Some.is);
+      ∙ ap (λ (s : Stmt). stores_in_runs reads func x y expected c.in_ok-first-in-Some.first values && stores_in_runs reads func x y expected s values)
+      c.in_ok-rest-in-Some.ensures
+      ∙ ap (λ (s : Stmt). stores_in_runs reads func x y expected s values && stores_in_runs reads func x y expected c.args.rest values)
+      c.in_ok-first-in-Some.ensures
+      ∙ ap (λ (o : Option Stmt). in_runs_first reads func x y expected o values && stores_in_runs reads func x y expected c.args.rest values)
+      (sym c.in-Some.is);
 }

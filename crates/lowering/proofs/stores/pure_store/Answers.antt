@@ -12,7 +12,8 @@ use Rattle.lowering.proofs.stores.pure_store.Goals as goal
 -- src/stores.rt:56:1
 pub returns-clause-stores : goal.returns-clause-stores
 returns-clause-stores c =
-    stores_pure c.args.reader.now.corners.now (flagged c.args.reader.now.flags.now) c.args.reader.now.funcs.now c.args.reader.now.place c.args.corner.now c.args.pure.now c.in_ok-x.x c.in_ok-y.y c.in_ok-value.value c.in_ok-arguments.arguments
+    stores_pure c.args.reader.now.corners.now (flagged c.args.reader.now.flags.now) c.args.reader.now.funcs.now c.args.reader.now.place c.args.corner.now
+    c.args.pure.now c.in_ok-x.x c.in_ok-y.y c.in_ok-value.value c.in_ok-arguments.arguments
     c.in_ok-arguments.ensures.values c.in_ok-x.ensures.value c.in_ok-y.ensures.value c.in_ok-value.ensures.value
 
 pub returns-clause-hits : goal.returns-clause-hits
@@ -21,7 +22,8 @@ returns-clause-hits c = hits_pure c.args.reader.now.place c.in_ok-x.x c.in_ok-y.
 -- src/stores.rt:56:1
 pub returns-clause-sound : goal.returns-clause-sound
 returns-clause-sound c =
-    sound_pure c.args.reader.now.corners.now (flagged c.args.reader.now.flags.now) c.args.reader.now.funcs.now c.args.reader.now.place c.args.corner.now c.args.pure.now c.in_ok-x.x c.in_ok-y.y c.in_ok-value.value c.in_ok-arguments.arguments
+    sound_pure c.args.reader.now.corners.now (flagged c.args.reader.now.flags.now) c.args.reader.now.funcs.now c.args.reader.now.place c.args.corner.now
+    c.args.pure.now c.in_ok-x.x c.in_ok-y.y c.in_ok-value.value c.in_ok-arguments.arguments
     c.in_ok-arguments.ensures.values c.in_ok-x.ensures.value c.in_ok-y.ensures.value c.in_ok-value.ensures.loads
 
 pub returns-clause-depth : goal.returns-clause-depth
@@ -41,4 +43,5 @@ returns-clause-about c = about_store c.args.reader.now.place _ ∙ eq-eqb c.args
 
 pub returns-clause-sizes : goal.returns-clause-sizes
 returns-clause-sizes c = λ short few.
-    pure-size c.args.reader.now.place c.in_ok-x.x c.in_ok-y.y c.in_ok-value.value _ c.in_ok-x.ensures.one c.in_ok-y.ensures.one (c.in_ok-value.ensures.sizes short (c.in_ok-arguments.ensures.short few))
+    pure-size c.args.reader.now.place c.in_ok-x.x c.in_ok-y.y c.in_ok-value.value _ c.in_ok-x.ensures.one c.in_ok-y.ensures.one (c.in_ok-value.ensures.sizes
+    short (c.in_ok-arguments.ensures.short few))

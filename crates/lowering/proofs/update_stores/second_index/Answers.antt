@@ -20,7 +20,8 @@ pub returns-in-None-clause-value : goal.returns-in-None-clause-value
 returns-in-None-clause-value c = λ reads values.
     number_value reads values 0
     ∙ sym
-    (ap (spec.index_of (inlined (valuing (placed c.args.reader.now.corners.now values reads)) (flagged c.args.reader.now.flags.now) c.args.reader.now.funcs.now c.args.reader.now.place (variable_in (environment values c.args.arguments.now)))) c.in-None.is)
+    (ap (spec.index_of (inlined (valuing (placed c.args.reader.now.corners.now values reads)) (flagged c.args.reader.now.flags.now) c.args.reader.now.funcs.now
+    c.args.reader.now.place (variable_in (environment values c.args.arguments.now)))) c.in-None.is)
 
 pub returns-in-None-clause-loads : goal.returns-in-None-clause-loads
 returns-in-None-clause-loads c = λ reads values test h. subst (Hold test) (sym (number_loads reads values 0)) tt
@@ -35,7 +36,8 @@ pub returns-in_ok-made-in-Some-clause-loads : goal.returns-in_ok-made-in-Some-cl
 returns-in_ok-made-in-Some-clause-loads c = λ reads values test h.
     c.in_ok-made-in-Some.ensures.loads reads values test
     (subst (λ (o : Option Expr). Hold (λ point. test (place_in c.args.reader.now.corners.now values point))
-    (spec.points_of_index (λ e. (inlined (seeing (placed c.args.reader.now.corners.now values reads)) (flagged c.args.reader.now.flags.now) c.args.reader.now.funcs.now c.args.reader.now.place (seen_variable (environment values c.args.arguments.now)) e).points) o)) c.in-Some.is h)
+    (spec.points_of_index (λ e. (inlined (seeing (placed c.args.reader.now.corners.now values reads)) (flagged c.args.reader.now.flags.now)
+    c.args.reader.now.funcs.now c.args.reader.now.place (seen_variable (environment values c.args.arguments.now)) e).points) o)) c.in-Some.is h)
 
 pub returns-in-None-clause-sizes : goal.returns-in-None-clause-sizes
 returns-in-None-clause-sizes c = λ short few.
@@ -44,4 +46,5 @@ returns-in-None-clause-sizes c = λ short few.
 
 pub returns-in_ok-made-in-Some-clause-sizes : goal.returns-in_ok-made-in-Some-clause-sizes
 returns-in_ok-made-in-Some-clause-sizes c = λ short few.
-    subst (λ (o : Option Expr). IsGivenIndex c.args.reader.now.flags.now c.args.reader.now.funcs.now c.args.reader.now.place o c.in_ok-made-in-Some.made) (sym c.in-Some.is) (c.in_ok-made-in-Some.ensures.sizes short few)
+    subst (λ (o : Option Expr). IsGivenIndex c.args.reader.now.flags.now c.args.reader.now.funcs.now c.args.reader.now.place o c.in_ok-made-in-Some.made)
+    (sym c.in-Some.is) (c.in_ok-made-in-Some.ensures.sizes short few)

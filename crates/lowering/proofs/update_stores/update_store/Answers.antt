@@ -13,20 +13,26 @@ use Rattle.lowering.proofs.update_stores.update_store.Goals as goal
 pub returns-clause-stores : goal.returns-clause-stores
 returns-clause-stores c =
     let more : c.args.reader.now.place + 1 ≡ suc c.args.reader.now.place = omega arith in
-    stores_update c.args.reader.now.corners.now (flagged c.args.reader.now.flags.now) c.args.reader.now.funcs.now c.args.reader.now.place c.args.corner.now c.args.update.now c.in_ok-column.column c.in_ok-row.row c.in_ok-x.x c.in_ok-y.y c.in_ok-value.value
-    c.in_ok-arguments.arguments (c.args.reader.now.place + 1) more c.in_ok-arguments.ensures.values c.in_ok-column.ensures.value c.in_ok-row.ensures.value c.in_ok-value.ensures.value c.in_ok-x.ensures.value c.in_ok-y.ensures.value
+    stores_update c.args.reader.now.corners.now (flagged c.args.reader.now.flags.now) c.args.reader.now.funcs.now c.args.reader.now.place c.args.corner.now
+    c.args.update.now c.in_ok-column.column c.in_ok-row.row c.in_ok-x.x c.in_ok-y.y c.in_ok-value.value
+    c.in_ok-arguments.arguments (c.args.reader.now.place + 1) more c.in_ok-arguments.ensures.values c.in_ok-column.ensures.value c.in_ok-row.ensures.value
+    c.in_ok-value.ensures.value c.in_ok-x.ensures.value c.in_ok-y.ensures.value
 
 pub returns-clause-hits : goal.returns-clause-hits
 returns-clause-hits c =
-    hits_update c.args.reader.now.corners.now (flagged c.args.reader.now.flags.now) c.args.reader.now.funcs.now c.args.reader.now.place c.args.corner.now c.args.update.now c.in_ok-column.column c.in_ok-row.row c.in_ok-x.x c.in_ok-y.y c.in_ok-value.value
-    c.in_ok-arguments.arguments c.in_ok-arguments.ensures.values c.in_ok-column.ensures.value c.in_ok-row.ensures.value c.in_ok-x.ensures.value c.in_ok-y.ensures.value
+    hits_update c.args.reader.now.corners.now (flagged c.args.reader.now.flags.now) c.args.reader.now.funcs.now c.args.reader.now.place c.args.corner.now
+    c.args.update.now c.in_ok-column.column c.in_ok-row.row c.in_ok-x.x c.in_ok-y.y c.in_ok-value.value
+    c.in_ok-arguments.arguments c.in_ok-arguments.ensures.values c.in_ok-column.ensures.value c.in_ok-row.ensures.value c.in_ok-x.ensures.value
+    c.in_ok-y.ensures.value
 
 -- src/update_stores.rt:101:1
 pub returns-clause-sound : goal.returns-clause-sound
 returns-clause-sound c =
     let more : c.args.reader.now.place + 1 ≡ suc c.args.reader.now.place = omega arith in
-    sound_update c.args.reader.now.corners.now (flagged c.args.reader.now.flags.now) c.args.reader.now.funcs.now c.args.reader.now.place c.args.corner.now c.args.update.now c.in_ok-column.column c.in_ok-row.row c.in_ok-x.x c.in_ok-y.y c.in_ok-value.value
-    c.in_ok-arguments.arguments (c.args.reader.now.place + 1) more c.in_ok-arguments.ensures.values c.in_ok-column.ensures.value c.in_ok-row.ensures.value c.in_ok-x.ensures.value c.in_ok-y.ensures.value
+    sound_update c.args.reader.now.corners.now (flagged c.args.reader.now.flags.now) c.args.reader.now.funcs.now c.args.reader.now.place c.args.corner.now
+    c.args.update.now c.in_ok-column.column c.in_ok-row.row c.in_ok-x.x c.in_ok-y.y c.in_ok-value.value
+    c.in_ok-arguments.arguments (c.args.reader.now.place + 1) more c.in_ok-arguments.ensures.values c.in_ok-column.ensures.value c.in_ok-row.ensures.value
+    c.in_ok-x.ensures.value c.in_ok-y.ensures.value
     c.in_ok-column.ensures.loads c.in_ok-row.ensures.loads c.in_ok-value.ensures.loads c.in_ok-x.ensures.loads c.in_ok-y.ensures.loads
 
 pub returns-clause-depth : goal.returns-clause-depth
@@ -36,7 +42,8 @@ pub returns-clause-needs : goal.returns-clause-needs
 returns-clause-needs c =
     let x = c.in_ok-x.ensures.needs in let column = c.in_ok-column.ensures.needs in
     let y = c.in_ok-y.ensures.needs in let row = c.in_ok-row.ensures.needs in
-    store-need (record { func = c.args.reader.now.place; x = c.in_ok-x.x; y = c.in_ok-y.y; value = c.in_ok-value.value }) _ _ _ (omega (arith, x, column)) (omega (arith, y, row)) c.in_ok-value.ensures.needs
+    store-need (record { func = c.args.reader.now.place; x = c.in_ok-x.x; y = c.in_ok-y.y; value = c.in_ok-value.value }) _ _ _ (omega (arith, x, column))
+    (omega (arith, y, row)) c.in_ok-value.ensures.needs
 
 pub returns-clause-leaf : goal.returns-clause-leaf
 returns-clause-leaf c = store_leaf _
@@ -47,5 +54,12 @@ returns-clause-about c = about_store c.args.reader.now.place _ ∙ eq-eqb c.args
 pub returns-clause-sizes : goal.returns-clause-sizes
 returns-clause-sizes c = λ short few.
     let own = c.in_ok-arguments.ensures.short few in
-    update-size c.args.reader.now.flags.now c.args.reader.now.funcs.now c.args.reader.now.place c.args.update.now (record { func = c.args.reader.now.place; x = c.in_ok-x.x; y = c.in_ok-y.y; value = c.in_ok-value.value }) c.in_ok-column.column c.in_ok-row.row
-    (c.in_ok-column.ensures.sizes short own) (c.in_ok-x.ensures.sizes few.0) (c.in_ok-row.ensures.sizes short own) (c.in_ok-y.ensures.sizes few.1) (c.in_ok-y.ensures.numbers few.1) (c.in_ok-value.ensures.sizes short own)
+    update-size c.args.reader.now.flags.now c.args.reader.now.funcs.now c.args.reader.now.place c.args.update.now (record {
+      func = c.args.reader.now.place;
+      x =
+          c.in_ok-x.x;
+      y = c.in_ok-y.y;
+      value = c.in_ok-value.value;
+    }) c.in_ok-column.column c.in_ok-row.row
+    (c.in_ok-column.ensures.sizes short own) (c.in_ok-x.ensures.sizes few.0) (c.in_ok-row.ensures.sizes short own) (c.in_ok-y.ensures.sizes few.1)
+    (c.in_ok-y.ensures.numbers few.1) (c.in_ok-value.ensures.sizes short own)

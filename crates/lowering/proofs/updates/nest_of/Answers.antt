@@ -9,9 +9,11 @@ use Rattle.lowering.proofs.updates.nest_of.Goals as goal
 
 pub returns-clause-rounds : goal.returns-clause-rounds
 returns-clause-rounds c =
-    subst (λ (l : List Split). (outside : List Loop) → IsLeaf c.args.store → MayBeUnder c.args.place c.args.extents l c.args.stage.now.loops outside c.args.store
+    subst (λ (l : List Split). (outside : List Loop) → IsLeaf c.args.store → MayBeUnder c.args.place c.args.extents l c.args.stage.now.loops outside
+    c.args.store
     → MayBeAtOnce c.args.place (counts c.args.extents l) outside c.in_ok-made.made) c.as_slice.ensures
-    (subst (λ (ls : List Loop). (outside : List Loop) → IsLeaf c.args.store → MayBeUnder c.args.place c.args.extents c.as_slice.result.now ls outside c.args.store
+    (subst (λ (ls : List Loop). (outside : List Loop) → IsLeaf c.args.store → MayBeUnder c.args.place c.args.extents c.as_slice.result.now ls outside
+    c.args.store
     → MayBeAtOnce c.args.place (counts c.args.extents c.as_slice.result.now) outside c.in_ok-made.made) c.as_slice-2.ensures c.in_ok-made.ensures.rounds)
 
 pub returns-clause-sizes : goal.returns-clause-sizes

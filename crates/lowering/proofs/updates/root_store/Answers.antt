@@ -15,16 +15,23 @@ use Rattle.lowering.proofs.updates.root_store.Goals as goal
 pub returns-clause-stores : goal.returns-clause-stores
 returns-clause-stores c = record {
   corners = c.in_ok-corners.corners.items;
-  are_corners = same_corners c.args.plan.now.schedule.funcs c.as_slice-plans.result.now c.args.plan.now.boxes.funcs c.as_slice.result.now c.args.plan.now.schedule.standings c.as_slice-standings.result.now c.in_ok-corners.corners.items
-      (c.as_slice-plans.ensures ∙ ap (λ (s : Schedule). s.funcs) c.schedule-schedule.ensures.value) (c.as_slice.ensures.value ∙ ap (λ (b : Boxes). b.funcs) c.boxes.ensures.value) (c.as_slice-standings.ensures ∙ ap (λ (s : Schedule). s.standings) c.schedule-schedule.ensures.value) c.in_ok-corners.ensures.are;
+  are_corners = same_corners c.args.plan.now.schedule.funcs c.as_slice-plans.result.now c.args.plan.now.boxes.funcs c.as_slice.result.now
+      c.args.plan.now.schedule.standings c.as_slice-standings.result.now c.in_ok-corners.corners.items
+      (c.as_slice-plans.ensures ∙ ap (λ (s : Schedule). s.funcs) c.schedule-schedule.ensures.value) (c.as_slice.ensures.value
+      ∙ ap (λ (b : Boxes). b.funcs) c.boxes.ensures.value) (c.as_slice-standings.ensures
+      ∙ ap (λ (s : Schedule). s.standings) c.schedule-schedule.ensures.value) c.in_ok-corners.ensures.are;
   corner = c.in_ok-corner.corner;
-  is_corner = subst (λ (l : List FuncPlan). IsCorner l places.Root c.args.of.now.computed.own.now c.in_ok-corner.corner) (c.as_slice-plans.ensures ∙ ap (λ (s : Schedule). s.funcs) c.schedule-schedule.ensures.value)
+  is_corner = subst (λ (l : List FuncPlan). IsCorner l places.Root c.args.of.now.computed.own.now c.in_ok-corner.corner) (c.as_slice-plans.ensures
+      ∙ ap (λ (s : Schedule). s.funcs) c.schedule-schedule.ensures.value)
       c.in_ok-corner.ensures.is;
-  stores = subst (λ (l : List Corner). spec.StoresUpdate l (flagged (flags_of c.args.plan.now.schedule.standings)) c.args.plan.now.pipeline.funcs c.args.of.now.computed.place c.in_ok-corner.corner c.args.of.now.update.now c.in_ok-made.made)
+  stores = subst (λ (l : List Corner). spec.StoresUpdate l (flagged (flags_of c.args.plan.now.schedule.standings)) c.args.plan.now.pipeline.funcs
+      c.args.of.now.computed.place c.in_ok-corner.corner c.args.of.now.update.now c.in_ok-made.made)
       c.as_slice-2.ensures.value c.in_ok-made.ensures.stores;
-  hits = subst (λ (l : List Corner). spec.HitsUpdate l (flagged (flags_of c.args.plan.now.schedule.standings)) c.args.plan.now.pipeline.funcs c.args.of.now.computed.place c.in_ok-corner.corner c.args.of.now.update.now c.in_ok-made.made)
+  hits = subst (λ (l : List Corner). spec.HitsUpdate l (flagged (flags_of c.args.plan.now.schedule.standings)) c.args.plan.now.pipeline.funcs
+      c.args.of.now.computed.place c.in_ok-corner.corner c.args.of.now.update.now c.in_ok-made.made)
       c.as_slice-2.ensures.value c.in_ok-made.ensures.hits;
-  sound = subst (λ (l : List Corner). spec.IsSoundUpdate l (flagged (flags_of c.args.plan.now.schedule.standings)) c.args.plan.now.pipeline.funcs c.args.of.now.computed.place c.in_ok-corner.corner c.args.of.now.update.now c.in_ok-made.made)
+  sound = subst (λ (l : List Corner). spec.IsSoundUpdate l (flagged (flags_of c.args.plan.now.schedule.standings)) c.args.plan.now.pipeline.funcs
+      c.args.of.now.computed.place c.in_ok-corner.corner c.args.of.now.update.now c.in_ok-made.made)
       c.as_slice-2.ensures.value c.in_ok-made.ensures.sound;
 }
 

@@ -11,25 +11,36 @@ use Rattle.lowering.proofs.updates.store_at.Goals as goal
 
 pub returns-clause-hits : goal.returns-clause-hits
 returns-clause-hits c =
-    subst (λ (l : List Func). spec.HitsUpdate c.args.corners.now (flagged (flags_of c.args.plan.now.schedule.standings)) l c.args.of.now.computed.place c.args.corner.now c.args.of.now.update.now c.in_ok-made.made) (c.funcs.ensures.value ∙ ap (λ (p : Pipeline). p.funcs) c.pipeline.ensures.value)
-    (subst (λ (f : List Bool). spec.HitsUpdate c.args.corners.now (flagged f) c.funcs.result.now c.args.of.now.computed.place c.args.corner.now c.args.of.now.update.now c.in_ok-made.made)
-    (c.as_slice-2.ensures.value ∙ (c.in_ok-flags.ensures ∙ ap flags_of (c.as_slice.ensures ∙ ap (λ (s : Schedule). s.standings) c.schedule.ensures.value))) c.in_ok-made.ensures.hits)
+    subst (λ (l : List Func). spec.HitsUpdate c.args.corners.now (flagged (flags_of c.args.plan.now.schedule.standings)) l c.args.of.now.computed.place
+    c.args.corner.now c.args.of.now.update.now c.in_ok-made.made) (c.funcs.ensures.value ∙ ap (λ (p : Pipeline). p.funcs) c.pipeline.ensures.value)
+    (subst (λ (f : List Bool). spec.HitsUpdate c.args.corners.now (flagged f) c.funcs.result.now c.args.of.now.computed.place c.args.corner.now
+    c.args.of.now.update.now c.in_ok-made.made)
+    (c.as_slice-2.ensures.value ∙ (c.in_ok-flags.ensures ∙ ap flags_of (c.as_slice.ensures ∙ ap (λ (s : Schedule). s.standings) c.schedule.ensures.value)))
+    c.in_ok-made.ensures.hits)
 
 pub returns-clause-sound : goal.returns-clause-sound
 returns-clause-sound c =
-    subst (λ (l : List Func). spec.IsSoundUpdate c.args.corners.now (flagged (flags_of c.args.plan.now.schedule.standings)) l c.args.of.now.computed.place c.args.corner.now c.args.of.now.update.now c.in_ok-made.made) (c.funcs.ensures.value ∙ ap (λ (p : Pipeline). p.funcs) c.pipeline.ensures.value)
-    (subst (λ (f : List Bool). spec.IsSoundUpdate c.args.corners.now (flagged f) c.funcs.result.now c.args.of.now.computed.place c.args.corner.now c.args.of.now.update.now c.in_ok-made.made)
-    (c.as_slice-2.ensures.value ∙ (c.in_ok-flags.ensures ∙ ap flags_of (c.as_slice.ensures ∙ ap (λ (s : Schedule). s.standings) c.schedule.ensures.value))) c.in_ok-made.ensures.sound)
+    subst (λ (l : List Func). spec.IsSoundUpdate c.args.corners.now (flagged (flags_of c.args.plan.now.schedule.standings)) l c.args.of.now.computed.place
+    c.args.corner.now c.args.of.now.update.now c.in_ok-made.made) (c.funcs.ensures.value ∙ ap (λ (p : Pipeline). p.funcs) c.pipeline.ensures.value)
+    (subst (λ (f : List Bool). spec.IsSoundUpdate c.args.corners.now (flagged f) c.funcs.result.now c.args.of.now.computed.place c.args.corner.now
+    c.args.of.now.update.now c.in_ok-made.made)
+    (c.as_slice-2.ensures.value ∙ (c.in_ok-flags.ensures ∙ ap flags_of (c.as_slice.ensures ∙ ap (λ (s : Schedule). s.standings) c.schedule.ensures.value)))
+    c.in_ok-made.ensures.sound)
 
 pub returns-clause-stores : goal.returns-clause-stores
 returns-clause-stores c =
-    subst (λ (l : List Func). spec.StoresUpdate c.args.corners.now (flagged (flags_of c.args.plan.now.schedule.standings)) l c.args.of.now.computed.place c.args.corner.now c.args.of.now.update.now c.in_ok-made.made) (c.funcs.ensures.value ∙ ap (λ (p : Pipeline). p.funcs) c.pipeline.ensures.value)
-    (subst (λ (f : List Bool). spec.StoresUpdate c.args.corners.now (flagged f) c.funcs.result.now c.args.of.now.computed.place c.args.corner.now c.args.of.now.update.now c.in_ok-made.made)
-    (c.as_slice-2.ensures.value ∙ (c.in_ok-flags.ensures ∙ ap flags_of (c.as_slice.ensures ∙ ap (λ (s : Schedule). s.standings) c.schedule.ensures.value))) c.in_ok-made.ensures.stores)
+    subst (λ (l : List Func). spec.StoresUpdate c.args.corners.now (flagged (flags_of c.args.plan.now.schedule.standings)) l c.args.of.now.computed.place
+    c.args.corner.now c.args.of.now.update.now c.in_ok-made.made) (c.funcs.ensures.value ∙ ap (λ (p : Pipeline). p.funcs) c.pipeline.ensures.value)
+    (subst (λ (f : List Bool). spec.StoresUpdate c.args.corners.now (flagged f) c.funcs.result.now c.args.of.now.computed.place c.args.corner.now
+    c.args.of.now.update.now c.in_ok-made.made)
+    (c.as_slice-2.ensures.value ∙ (c.in_ok-flags.ensures ∙ ap flags_of (c.as_slice.ensures ∙ ap (λ (s : Schedule). s.standings) c.schedule.ensures.value)))
+    c.in_ok-made.ensures.stores)
 
 pub returns-clause-sizes : goal.returns-clause-sizes
 returns-clause-sizes c = λ short few.
-    subst (λ (l : List Func). whole_size c.in_ok-made.made + 12 ≤ 64 * update_counted (flags_of c.args.plan.now.schedule.standings) l c.args.of.now.computed.place c.args.of.now.update.now) (c.funcs.ensures.value ∙ ap (λ (p : Pipeline). p.funcs) c.pipeline.ensures.value)
+    subst (λ (l : List Func). whole_size c.in_ok-made.made + 12 ≤ 64 * update_counted (flags_of c.args.plan.now.schedule.standings) l
+    c.args.of.now.computed.place c.args.of.now.update.now) (c.funcs.ensures.value ∙ ap (λ (p : Pipeline). p.funcs) c.pipeline.ensures.value)
     (subst (λ (f : List Bool). whole_size c.in_ok-made.made + 12 ≤ 64 * update_counted f c.funcs.result.now c.args.of.now.computed.place
     c.args.of.now.update.now)
-    (c.as_slice-2.ensures.value ∙ (c.in_ok-flags.ensures ∙ ap flags_of (c.as_slice.ensures ∙ ap (λ (s : Schedule). s.standings) c.schedule.ensures.value))) (c.in_ok-made.ensures.sizes short few))
+    (c.as_slice-2.ensures.value ∙ (c.in_ok-flags.ensures ∙ ap flags_of (c.as_slice.ensures ∙ ap (λ (s : Schedule). s.standings) c.schedule.ensures.value)))
+    (c.in_ok-made.ensures.sizes short few))

@@ -22,47 +22,67 @@ use Rattle.lowering.proofs.updates.update_nest.Goals as goal
 
 pub store_at-requires : goal.store_at-requires
 store_at-requires c =
-    place_small c.args.plan.now.pipeline (subst IsWellFormed c.pipeline.ensures.value c.funcs-funcs.ensures.rules) c.args.of.now.computed.place c.args.of.now.computed.func.now
+    place_small c.args.plan.now.pipeline (subst IsWellFormed c.pipeline.ensures.value c.funcs-funcs.ensures.rules) c.args.of.now.computed.place
+    c.args.of.now.computed.func.now
     c.requires.computed.func_is
 
 pub update_extents-extents-requires : goal.update_extents-extents-requires
 update_extents-extents-requires c =
-    is_box c.args.plan.now.pipeline c.args.plan.now.schedule c.args.plan.now.boxes (subst IsWellFormed c.pipeline.ensures.value c.funcs-funcs.ensures.rules) c.pipeline.ensures.plan.accepted c.pipeline.ensures.plan.boxes c.args.of.now.computed.place c.args.of.now.computed.func.now c.args.of.now.computed.own.now c.requires.computed.func_is c.requires.computed.box_is
+    is_box c.args.plan.now.pipeline c.args.plan.now.schedule c.args.plan.now.boxes (subst IsWellFormed c.pipeline.ensures.value c.funcs-funcs.ensures.rules)
+    c.pipeline.ensures.plan.accepted c.pipeline.ensures.plan.boxes c.args.of.now.computed.place c.args.of.now.computed.func.now
+    c.args.of.now.computed.own.now c.requires.computed.func_is c.requires.computed.box_is
     c.args.of.now.at c.args.of.now.update.now c.requires.at.update_is c.requires.computed.standing c.requires.computed.there c.requires.computed.computed
 
 pub nest_of-requires-clause-splits : goal.nest_of-requires-clause-splits
 nest_of-requires-clause-splits c =
-    splits c.args.plan.now.pipeline c.args.plan.now.schedule c.pipeline.ensures.plan.accepted c.args.of.now.computed.place c.args.of.now.computed.func.now c.args.of.now.computed.plan.now c.requires.computed.standing c.requires.computed.func_is c.requires.computed.there
+    splits c.args.plan.now.pipeline c.args.plan.now.schedule c.pipeline.ensures.plan.accepted c.args.of.now.computed.place c.args.of.now.computed.func.now
+    c.args.of.now.computed.plan.now c.requires.computed.standing c.requires.computed.func_is c.requires.computed.there
     c.args.of.now.at c.args.of.now.update.now c.args.of.now.stage.now c.requires.at
 
 pub nest_of-requires-clause-few : goal.nest_of-requires-clause-few
 nest_of-requires-clause-few c =
     subst AreFew (sym c.update_extents-extents.ensures)
-    (few c.args.plan.now.pipeline c.args.plan.now.schedule c.args.plan.now.boxes (subst IsWellFormed c.pipeline.ensures.value c.funcs-funcs.ensures.rules) c.pipeline.ensures.plan.accepted c.pipeline.ensures.plan.boxes c.args.of.now.computed.place c.args.of.now.computed.func.now c.args.of.now.computed.own.now c.requires.computed.func_is c.requires.computed.box_is
+    (few c.args.plan.now.pipeline c.args.plan.now.schedule c.args.plan.now.boxes (subst IsWellFormed c.pipeline.ensures.value c.funcs-funcs.ensures.rules)
+    c.pipeline.ensures.plan.accepted c.pipeline.ensures.plan.boxes c.args.of.now.computed.place c.args.of.now.computed.func.now
+    c.args.of.now.computed.own.now c.requires.computed.func_is c.requires.computed.box_is
     c.args.of.now.at c.args.of.now.update.now c.requires.at.update_is c.requires.computed.standing c.requires.computed.there c.requires.computed.computed)
 
 pub returns-clause-does : goal.returns-clause-does
 returns-clause-does c =
-    does_nest c.args.plan.now.pipeline c.args.plan.now.schedule c.args.plan.now.boxes (subst IsWellFormed c.pipeline.ensures.value c.funcs-funcs.ensures.rules) c.pipeline.ensures.plan.accepted c.pipeline.ensures.plan.boxes c.args.corners.now c.args.of.now.computed.place c.args.of.now.computed.func.now c.args.of.now.computed.plan.now c.args.of.now.computed.own.now
-    c.requires.computed c.args.of.now.at c.args.of.now.update.now c.args.of.now.stage.now c.requires.at c.args.corner.now c.requires.corner c.in_ok-store.store c.in_ok-store.ensures.stores c.in_ok-made.made
-    (subst (λ (e : Extents). Repeats c.args.of.now.computed.place c.in_ok-made.made c.in_ok-store.store (wholes e c.args.of.now.stage.now.splits c.args.of.now.stage.now.loops)) c.update_extents-extents.ensures c.in_ok-made.ensures.repeats)
+    does_nest c.args.plan.now.pipeline c.args.plan.now.schedule c.args.plan.now.boxes (subst IsWellFormed c.pipeline.ensures.value c.funcs-funcs.ensures.rules)
+    c.pipeline.ensures.plan.accepted c.pipeline.ensures.plan.boxes c.args.corners.now c.args.of.now.computed.place c.args.of.now.computed.func.now
+    c.args.of.now.computed.plan.now c.args.of.now.computed.own.now
+    c.requires.computed c.args.of.now.at c.args.of.now.update.now c.args.of.now.stage.now c.requires.at c.args.corner.now c.requires.corner c.in_ok-store.store
+    c.in_ok-store.ensures.stores c.in_ok-made.made
+    (subst (λ (e : Extents). Repeats c.args.of.now.computed.place c.in_ok-made.made c.in_ok-store.store (wholes e c.args.of.now.stage.now.splits
+    c.args.of.now.stage.now.loops)) c.update_extents-extents.ensures c.in_ok-made.ensures.repeats)
 
 pub returns-clause-alone : goal.returns-clause-alone
 returns-clause-alone c =
-    nest_alone c.args.of.now.computed.place c.in_ok-made.made c.in_ok-store.store (wholes c.update_extents-extents.result c.args.of.now.stage.now.splits c.args.of.now.stage.now.loops) c.in_ok-made.ensures.repeats
-    (update_alone c.args.corners.now (flagged (flags_of c.args.plan.now.schedule.standings)) c.args.plan.now.pipeline.funcs c.args.of.now.computed.place c.args.corner.now c.args.of.now.update.now c.in_ok-store.store c.in_ok-store.ensures.hits)
+    nest_alone c.args.of.now.computed.place c.in_ok-made.made c.in_ok-store.store (wholes c.update_extents-extents.result c.args.of.now.stage.now.splits
+    c.args.of.now.stage.now.loops) c.in_ok-made.ensures.repeats
+    (update_alone c.args.corners.now (flagged (flags_of c.args.plan.now.schedule.standings)) c.args.plan.now.pipeline.funcs c.args.of.now.computed.place
+    c.args.corner.now c.args.of.now.update.now c.in_ok-store.store c.in_ok-store.ensures.hits)
 
 pub returns-clause-sound : goal.returns-clause-sound
 returns-clause-sound c =
-    sound_nest c.args.plan.now.pipeline c.args.plan.now.schedule c.args.plan.now.boxes (subst IsWellFormed c.pipeline.ensures.value c.funcs-funcs.ensures.rules) c.pipeline.ensures.plan.accepted c.pipeline.ensures.plan.boxes c.args.corners.now c.args.of.now.computed.place c.args.of.now.computed.func.now c.args.of.now.computed.plan.now c.args.of.now.computed.own.now
-    c.requires.computed c.args.of.now.at c.args.of.now.update.now c.args.of.now.stage.now c.requires.at c.args.corner.now c.requires.corner c.in_ok-store.store c.in_ok-store.ensures.stores c.in_ok-made.made
-    (subst (λ (e : Extents). Repeats c.args.of.now.computed.place c.in_ok-made.made c.in_ok-store.store (wholes e c.args.of.now.stage.now.splits c.args.of.now.stage.now.loops)) c.update_extents-extents.ensures c.in_ok-made.ensures.repeats)
+    sound_nest c.args.plan.now.pipeline c.args.plan.now.schedule c.args.plan.now.boxes (subst IsWellFormed c.pipeline.ensures.value c.funcs-funcs.ensures.rules)
+    c.pipeline.ensures.plan.accepted c.pipeline.ensures.plan.boxes c.args.corners.now c.args.of.now.computed.place c.args.of.now.computed.func.now
+    c.args.of.now.computed.plan.now c.args.of.now.computed.own.now
+    c.requires.computed c.args.of.now.at c.args.of.now.update.now c.args.of.now.stage.now c.requires.at c.args.corner.now c.requires.corner c.in_ok-store.store
+    c.in_ok-store.ensures.stores c.in_ok-made.made
+    (subst (λ (e : Extents). Repeats c.args.of.now.computed.place c.in_ok-made.made c.in_ok-store.store (wholes e c.args.of.now.stage.now.splits
+    c.args.of.now.stage.now.loops)) c.update_extents-extents.ensures c.in_ok-made.ensures.repeats)
     c.in_ok-store.ensures.sound
 
 pub returns-clause-few : goal.returns-clause-few
 returns-clause-few c =
-    let l = few_loops c.args.plan.now.pipeline c.args.plan.now.schedule c.pipeline.ensures.plan.accepted c.args.of.now.computed.place c.args.of.now.computed.func.now c.args.of.now.computed.plan.now c.requires.computed.standing c.requires.computed.func_is c.requires.computed.there c.args.of.now.at c.args.of.now.update.now c.args.of.now.stage.now c.requires.at in
-    let s = (splits c.args.plan.now.pipeline c.args.plan.now.schedule c.pipeline.ensures.plan.accepted c.args.of.now.computed.place c.args.of.now.computed.func.now c.args.of.now.computed.plan.now c.requires.computed.standing c.requires.computed.func_is c.requires.computed.there c.args.of.now.at c.args.of.now.update.now c.args.of.now.stage.now c.requires.at).few in
+    let l = few_loops c.args.plan.now.pipeline c.args.plan.now.schedule c.pipeline.ensures.plan.accepted c.args.of.now.computed.place
+    c.args.of.now.computed.func.now c.args.of.now.computed.plan.now c.requires.computed.standing c.requires.computed.func_is c.requires.computed.there
+    c.args.of.now.at c.args.of.now.update.now c.args.of.now.stage.now c.requires.at in
+    let s = (splits c.args.plan.now.pipeline c.args.plan.now.schedule c.pipeline.ensures.plan.accepted c.args.of.now.computed.place
+    c.args.of.now.computed.func.now c.args.of.now.computed.plan.now c.requires.computed.standing c.requires.computed.func_is c.requires.computed.there
+    c.args.of.now.at c.args.of.now.update.now c.args.of.now.stage.now c.requires.at).few in
     let d = c.in_ok-made.ensures.depth in
     let z = c.in_ok-store.ensures.depth in
     omega (arith, l, s, d, z)
@@ -71,16 +91,25 @@ pub returns-clause-needs : goal.returns-clause-needs
 returns-clause-needs c =
     let same = c.in_ok-made.ensures.needs in
     let few = c.in_ok-store.ensures.needs in
-    update-most c.args.plan.now.pipeline c.args.plan.now.schedule (subst IsWellFormed c.pipeline.ensures.value c.funcs-funcs.ensures.rules) c.args.of.now.computed.place c.args.of.now.computed.func.now c.args.of.now.computed.plan.now c.requires.computed.standing c.requires.computed.func_is c.requires.computed.plan_is c.requires.computed.there c.requires.computed.computed
+    update-most c.args.plan.now.pipeline c.args.plan.now.schedule (subst IsWellFormed c.pipeline.ensures.value c.funcs-funcs.ensures.rules)
+    c.args.of.now.computed.place c.args.of.now.computed.func.now c.args.of.now.computed.plan.now c.requires.computed.standing c.requires.computed.func_is
+    c.requires.computed.plan_is c.requires.computed.there c.requires.computed.computed
     c.args.of.now.at c.args.of.now.update.now c.args.of.now.stage.now c.requires.at _ (omega (arith, same, few))
 
 pub returns-clause-at_once : goal.returns-clause-at_once
 returns-clause-at_once c = λ reads values small.
-    let facts = staged c.args.plan.now.pipeline c.args.plan.now.schedule c.pipeline.ensures.plan.accepted c.args.of.now.computed.place c.args.of.now.computed.func.now c.args.of.now.computed.plan.now c.requires.computed.standing c.requires.computed.func_is c.requires.computed.there c.args.of.now.at c.args.of.now.update.now c.args.of.now.stage.now c.requires.at in
+    let facts = staged c.args.plan.now.pipeline c.args.plan.now.schedule c.pipeline.ensures.plan.accepted c.args.of.now.computed.place
+    c.args.of.now.computed.func.now c.args.of.now.computed.plan.now c.requires.computed.standing c.requires.computed.func_is c.requires.computed.there
+    c.args.of.now.at c.args.of.now.update.now c.args.of.now.stage.now c.requires.at in
     c.in_ok-made.ensures.rounds [] c.in_ok-store.ensures.leaf
-    (subst (λ (e : Extents). MayBeUnder c.args.of.now.computed.place e c.args.of.now.stage.now.splits c.args.of.now.stage.now.loops [] c.in_ok-store.store) (sym c.update_extents-extents.ensures)
-    (update_under c.args.plan.now.pipeline c.args.plan.now.schedule (subst IsWellFormed c.pipeline.ensures.value c.funcs-funcs.ensures.rules) c.args.of.now.computed.place c.args.of.now.computed.func.now c.requires.computed.func_is c.args.of.now.at c.args.of.now.update.now c.requires.at.update_is c.args.of.now.computed.own.now
-    (few c.args.plan.now.pipeline c.args.plan.now.schedule c.args.plan.now.boxes (subst IsWellFormed c.pipeline.ensures.value c.funcs-funcs.ensures.rules) c.pipeline.ensures.plan.accepted c.pipeline.ensures.plan.boxes c.args.of.now.computed.place c.args.of.now.computed.func.now c.args.of.now.computed.own.now c.requires.computed.func_is c.requires.computed.box_is
+    (subst (λ (e : Extents). MayBeUnder c.args.of.now.computed.place e c.args.of.now.stage.now.splits c.args.of.now.stage.now.loops [] c.in_ok-store.store)
+    (sym c.update_extents-extents.ensures)
+    (update_under c.args.plan.now.pipeline c.args.plan.now.schedule (subst IsWellFormed c.pipeline.ensures.value c.funcs-funcs.ensures.rules)
+    c.args.of.now.computed.place c.args.of.now.computed.func.now c.requires.computed.func_is c.args.of.now.at c.args.of.now.update.now
+    c.requires.at.update_is c.args.of.now.computed.own.now
+    (few c.args.plan.now.pipeline c.args.plan.now.schedule c.args.plan.now.boxes (subst IsWellFormed c.pipeline.ensures.value c.funcs-funcs.ensures.rules)
+    c.pipeline.ensures.plan.accepted c.pipeline.ensures.plan.boxes c.args.of.now.computed.place c.args.of.now.computed.func.now
+    c.args.of.now.computed.own.now c.requires.computed.func_is c.requires.computed.box_is
     c.args.of.now.at c.args.of.now.update.now c.requires.at.update_is c.requires.computed.standing c.requires.computed.there c.requires.computed.computed)
     c.args.of.now.stage.now facts.0 c.args.corners.now c.args.corner.now (λ now a b. rw c.requires.corner refl) c.in_ok-store.store c.in_ok-store.ensures.sound
     facts.1 c.args.of.now.stage.now.loops [] (sym (append-nil c.args.of.now.stage.now.loops))))
@@ -88,10 +117,16 @@ returns-clause-at_once c = λ reads values small.
 
 pub returns-clause-sizes : goal.returns-clause-sizes
 returns-clause-sizes c = λ short.
-    let facts = staged c.args.plan.now.pipeline c.args.plan.now.schedule c.pipeline.ensures.plan.accepted c.args.of.now.computed.place c.args.of.now.computed.func.now c.args.of.now.computed.plan.now c.requires.computed.standing c.requires.computed.func_is c.requires.computed.there c.args.of.now.at c.args.of.now.update.now c.args.of.now.stage.now c.requires.at in
+    let facts = staged c.args.plan.now.pipeline c.args.plan.now.schedule c.pipeline.ensures.plan.accepted c.args.of.now.computed.place
+    c.args.of.now.computed.func.now c.args.of.now.computed.plan.now c.requires.computed.standing c.requires.computed.func_is c.requires.computed.there
+    c.args.of.now.at c.args.of.now.update.now c.args.of.now.stage.now c.requires.at in
     let more = more-loops c.args.of.now.computed.func.now (Some c.args.of.now.update.now) c.args.of.now.stage.now facts.0 in
     let given = c.in_ok-store.ensures.sizes short (short_of c.args.corners.now (sources.Func c.args.of.now.computed.place) c.args.corner.now short
     (sym c.requires.corner)) in
-    let counts = update-counted c.args.plan.now.pipeline (subst IsWellFormed c.pipeline.ensures.value c.funcs-funcs.ensures.rules) (flags_of c.args.plan.now.schedule.standings) c.args.of.now.computed.place c.args.of.now.at c.args.of.now.computed.func.now c.args.of.now.update.now c.requires.computed.func_is c.requires.at.update_is in
-    nest-light c.args.of.now.computed.func.now (Some c.args.of.now.update.now) c.update_extents-extents.result c.args.of.now.stage.now facts.0 (whole_size c.in_ok-store.store)
-    (update_nodes (flags_of c.args.plan.now.schedule.standings) c.args.plan.now.pipeline.funcs c.args.of.now.update.now) more (omega (arith, given, counts)) (whole_size c.in_ok-made.made) c.in_ok-made.ensures.sizes
+    let counts = update-counted c.args.plan.now.pipeline (subst IsWellFormed c.pipeline.ensures.value c.funcs-funcs.ensures.rules)
+    (flags_of c.args.plan.now.schedule.standings) c.args.of.now.computed.place c.args.of.now.at c.args.of.now.computed.func.now c.args.of.now.update.now
+    c.requires.computed.func_is c.requires.at.update_is in
+    nest-light c.args.of.now.computed.func.now (Some c.args.of.now.update.now) c.update_extents-extents.result c.args.of.now.stage.now facts.0
+    (whole_size c.in_ok-store.store)
+    (update_nodes (flags_of c.args.plan.now.schedule.standings) c.args.plan.now.pipeline.funcs c.args.of.now.update.now) more (omega (arith, given, counts))
+    (whole_size c.in_ok-made.made) c.in_ok-made.ensures.sizes

@@ -21,7 +21,8 @@ returns-in_ok-made-in-Number-clause-loads c = λ reads values test h. linear_pas
 pub returns-in_ok-made-in-Linear-clause-value : goal.returns-in_ok-made-in-Linear-clause-value
 returns-in_ok-made-in-Linear-clause-value c = λ reads values.
     linear_is reads values c.in_ok-made-in-Linear.made ∙ c.in_ok-made-in-Linear.ensures.value values
-    ∙ ap (λ (n : ℕ). word.subtract n (linear_value values c.args.corner.now)) (ap (linear_value values) c.in_ok-sum-in-Linear.ensures ∙ sym (linear_is reads values c.in-Linear.own) ∙ sym (ap (value reads values) c.in-Linear.is))
+    ∙ ap (λ (n : ℕ). word.subtract n (linear_value values c.args.corner.now)) (ap (linear_value values) c.in_ok-sum-in-Linear.ensures
+    ∙ sym (linear_is reads values c.in-Linear.own) ∙ sym (ap (value reads values) c.in-Linear.is))
 
 pub returns-in_ok-made-in-Linear-clause-loads : goal.returns-in_ok-made-in-Linear-clause-loads
 returns-in_ok-made-in-Linear-clause-loads c = λ reads values test h. linear_passes reads values c.in_ok-made-in-Linear.made test
@@ -29,14 +30,18 @@ returns-in_ok-made-in-Linear-clause-loads c = λ reads values test h. linear_pas
 pub returns-in_ok-made-in_default : goal.returns-in_ok-made-in_default
 returns-in_ok-made-in_default c =
     let begin = c.in_ok-begin-in_default.begin in
-    let begin_few : length c.args.corner.now.terms ≤ 5 → length begin.terms ≤ 5 = (λ few. subst (λ (own : Linear). length own.terms ≤ 5) (sym c.in_ok-begin-in_default.ensures) few) in
+    let begin_few : length c.args.corner.now.terms ≤ 5
+    → length begin.terms ≤ 5 = (λ few. subst (λ (own : Linear). length own.terms ≤ 5) (sym c.in_ok-begin-in_default.ensures) few) in
     record {
       value = λ reads values.
           ap (value reads values) c.in_ok-made-in_default.ensures ∙ binary_value reads values operations.Subtract c.args.coordinate (e.Linear begin)
-          ∙ ap (word.subtract (value reads values c.args.coordinate)) (linear_is reads values begin ∙ ap (linear_value values) c.in_ok-begin-in_default.ensures);
+          ∙ ap (word.subtract (value reads values c.args.coordinate)) (linear_is reads values begin
+          ∙ ap (linear_value values) c.in_ok-begin-in_default.ensures);
       loads = λ reads values test h.
-          left_passes reads values operations.Subtract c.in_ok-made-in_default.made c.args.coordinate (e.Linear begin) c.in_ok-made-in_default.ensures (linear_loads reads values begin) test h;
-      needs = beside_leaf operations.Subtract c.in_ok-made-in_default.made c.args.coordinate (e.Linear begin) c.in_ok-made-in_default.ensures (linear_leaf (e.Linear begin) begin refl);
+          left_passes reads values operations.Subtract c.in_ok-made-in_default.made c.args.coordinate (e.Linear begin) c.in_ok-made-in_default.ensures
+          (linear_loads reads values begin) test h;
+      needs = beside_leaf operations.Subtract c.in_ok-made-in_default.made c.args.coordinate (e.Linear begin) c.in_ok-made-in_default.ensures
+          (linear_leaf (e.Linear begin) begin refl);
       leaf = λ n is. absurd (c.in_default.not-Number n is);
       sizes = λ few. beside_sum operations.Subtract c.in_ok-made-in_default.made c.args.coordinate begin c.in_ok-made-in_default.ensures (begin_few few);
       numbers = λ few n is. absurd (c.in_default.not-Number n is);
@@ -44,14 +49,16 @@ returns-in_ok-made-in_default c =
 
 pub returns-in_ok-made-in-Number-clause-needs : goal.returns-in_ok-made-in-Number-clause-needs
 returns-in_ok-made-in-Number-clause-needs c =
-    leaf_need (e.Linear c.in_ok-made-in-Number.made) (linear_leaf (e.Linear c.in_ok-made-in-Number.made) c.in_ok-made-in-Number.made refl) ∙ sym (number_need c.args.coordinate c.in-Number.number c.in-Number.is)
+    leaf_need (e.Linear c.in_ok-made-in-Number.made) (linear_leaf (e.Linear c.in_ok-made-in-Number.made) c.in_ok-made-in-Number.made refl)
+    ∙ sym (number_need c.args.coordinate c.in-Number.number c.in-Number.is)
 
 pub returns-in_ok-made-in-Number-clause-leaf : goal.returns-in_ok-made-in-Number-clause-leaf
 returns-in_ok-made-in-Number-clause-leaf c = λ n is. linear_leaf (e.Linear c.in_ok-made-in-Number.made) c.in_ok-made-in-Number.made refl
 
 pub returns-in_ok-made-in-Linear-clause-needs : goal.returns-in_ok-made-in-Linear-clause-needs
 returns-in_ok-made-in-Linear-clause-needs c =
-    leaf_need (e.Linear c.in_ok-made-in-Linear.made) (linear_leaf (e.Linear c.in_ok-made-in-Linear.made) c.in_ok-made-in-Linear.made refl) ∙ sym (leaf_need c.args.coordinate (linear_leaf c.args.coordinate c.in-Linear.own c.in-Linear.is))
+    leaf_need (e.Linear c.in_ok-made-in-Linear.made) (linear_leaf (e.Linear c.in_ok-made-in-Linear.made) c.in_ok-made-in-Linear.made refl)
+    ∙ sym (leaf_need c.args.coordinate (linear_leaf c.args.coordinate c.in-Linear.own c.in-Linear.is))
 
 pub returns-in_ok-made-in-Linear-clause-leaf : goal.returns-in_ok-made-in-Linear-clause-leaf
 returns-in_ok-made-in-Linear-clause-leaf c = λ n is. linear_leaf (e.Linear c.in_ok-made-in-Linear.made) c.in_ok-made-in-Linear.made refl

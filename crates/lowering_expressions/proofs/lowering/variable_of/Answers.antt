@@ -4,20 +4,24 @@ use Rattle.lowering_expressions.proofs.lowering.variable_of.Goals as goal
 
 pub returns-in_ok-made-in-FirstArgument-clause-follows : goal.returns-in_ok-made-in-FirstArgument-clause-follows
 returns-in_ok-made-in-FirstArgument-clause-follows c = λ corners values reads.
-    variable_follows corners values reads c.args.variables.now.first_argument.now c.args.variables.now.second_argument.now c.args.variables.now.first_reduction.now c.args.variables.now.second_reduction.now
+    variable_follows corners values reads c.args.variables.now.first_argument.now c.args.variables.now.second_argument.now
+    c.args.variables.now.first_reduction.now c.args.variables.now.second_reduction.now
     c.args.variable variables.FirstArgument c.in_ok-made-in-FirstArgument.made c.in-FirstArgument.is c.in_ok-made-in-FirstArgument.ensures
 
 pub returns-in_ok-made-in-SecondArgument-clause-follows : goal.returns-in_ok-made-in-SecondArgument-clause-follows
 returns-in_ok-made-in-SecondArgument-clause-follows c = λ corners values reads.
-    variable_follows corners values reads c.args.variables.now.first_argument.now c.args.variables.now.second_argument.now c.args.variables.now.first_reduction.now c.args.variables.now.second_reduction.now
+    variable_follows corners values reads c.args.variables.now.first_argument.now c.args.variables.now.second_argument.now
+    c.args.variables.now.first_reduction.now c.args.variables.now.second_reduction.now
     c.args.variable variables.SecondArgument c.in_ok-made-in-SecondArgument.made c.in-SecondArgument.is c.in_ok-made-in-SecondArgument.ensures
 
 pub returns-in_ok-made-in-FirstReduction-clause-follows : goal.returns-in_ok-made-in-FirstReduction-clause-follows
 returns-in_ok-made-in-FirstReduction-clause-follows c = λ corners values reads.
-    variable_follows corners values reads c.args.variables.now.first_argument.now c.args.variables.now.second_argument.now c.args.variables.now.first_reduction.now c.args.variables.now.second_reduction.now
+    variable_follows corners values reads c.args.variables.now.first_argument.now c.args.variables.now.second_argument.now
+    c.args.variables.now.first_reduction.now c.args.variables.now.second_reduction.now
     c.args.variable variables.FirstReduction c.in_ok-made-in-FirstReduction.made c.in-FirstReduction.is c.in_ok-made-in-FirstReduction.ensures
 
 pub returns-in_ok-made-in-SecondReduction-clause-follows : goal.returns-in_ok-made-in-SecondReduction-clause-follows
 returns-in_ok-made-in-SecondReduction-clause-follows c = λ corners values reads.
-    variable_follows corners values reads c.args.variables.now.first_argument.now c.args.variables.now.second_argument.now c.args.variables.now.first_reduction.now c.args.variables.now.second_reduction.now
+    variable_follows corners values reads c.args.variables.now.first_argument.now c.args.variables.now.second_argument.now
+    c.args.variables.now.first_reduction.now c.args.variables.now.second_reduction.now
     c.args.variable variables.SecondReduction c.in_ok-made-in-SecondReduction.made c.in-SecondReduction.is c.in_ok-made-in-SecondReduction.ensures

@@ -10,7 +10,8 @@ use Rattle.lowering_expressions.proofs.parts.divide.Goals as goal
 
 pub returns-clause-follows : goal.returns-clause-follows
 returns-clause-follows c = λ corners values reads given own fa.
-    divide_follows corners values reads given c.in_ok-own.own c.args.divisor own (subst (λ (m : Expr). Follows corners values reads given m own) (sym c.in_ok-own.ensures) fa)
+    divide_follows corners values reads given c.in_ok-own.own c.args.divisor own (subst (λ (m : Expr). Follows corners values reads given m own)
+    (sym c.in_ok-own.ensures) fa)
 
 pub returns-clause-needs : goal.returns-clause-needs
 returns-clause-needs c =

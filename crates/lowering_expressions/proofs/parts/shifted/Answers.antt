@@ -13,7 +13,8 @@ use Rattle.lowering_expressions.proofs.parts.shifted.Goals as goal
 pub returns-in_ok-sum-in-Linear-clause-value : goal.returns-in_ok-sum-in-Linear-clause-value
 returns-in_ok-sum-in-Linear-clause-value c = λ reads values.
     linear_is reads values c.plus_number.result ∙ c.plus_number.ensures.value values
-    ∙ ap (λ (n : ℕ). word.add n c.args.number) (ap (linear_value values) c.in_ok-sum-in-Linear.ensures ∙ sym (linear_is reads values c.in-Linear.linear) ∙ sym (ap (value reads values) c.in-Linear.is))
+    ∙ ap (λ (n : ℕ). word.add n c.args.number) (ap (linear_value values) c.in_ok-sum-in-Linear.ensures ∙ sym (linear_is reads values c.in-Linear.linear)
+    ∙ sym (ap (value reads values) c.in-Linear.is))
 
 pub returns-in_ok-sum-in-Linear-clause-loads : goal.returns-in_ok-sum-in-Linear-clause-loads
 returns-in_ok-sum-in-Linear-clause-loads c = λ reads values test h. linear_passes reads values c.plus_number.result test
@@ -24,8 +25,10 @@ returns-in_ok-made-in_default c = record {
       ap (value reads values) c.in_ok-made-in_default.ensures ∙ binary_value reads values operations.Add c.args.own (e.Number c.args.number)
       ∙ ap (word.add (value reads values c.args.own)) (number_value reads values c.args.number);
   loads = λ reads values test h.
-      left_passes reads values operations.Add c.in_ok-made-in_default.made c.args.own (e.Number c.args.number) c.in_ok-made-in_default.ensures (number_loads reads values c.args.number) test h;
-  needs = let n = beside_leaf operations.Add c.in_ok-made-in_default.made c.args.own (e.Number c.args.number) c.in_ok-made-in_default.ensures (need_number c.args.number) in omega (arith, n);
+      left_passes reads values operations.Add c.in_ok-made-in_default.made c.args.own (e.Number c.args.number) c.in_ok-made-in_default.ensures
+      (number_loads reads values c.args.number) test h;
+  needs = let n = beside_leaf operations.Add c.in_ok-made-in_default.made c.args.own (e.Number c.args.number) c.in_ok-made-in_default.ensures
+      (need_number c.args.number) in omega (arith, n);
   sizes = beside_number operations.Add c.in_ok-made-in_default.made c.args.own c.args.number c.in_ok-made-in_default.ensures;
 }
 

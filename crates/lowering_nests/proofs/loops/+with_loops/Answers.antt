@@ -7,15 +7,18 @@ use Rattle.lowering_nests.proofs.loops.+with_loops.Goals as goal
 
 pub returns-in_ok-made-in-len1-up-clause-repeats : goal.returns-in_ok-made-in-len1-up-clause-repeats
 returns-in_ok-made-in-len1-up-clause-repeats t c =
-    nested_repeats c.args.func c.args.sizes.now.extents c.args.sizes.now.splits c.args.loops.now c.own-item.result c.in_ok-made-in-len1-up.made c.in_ok-inner-in-len1-up.inner c.args.body
+    nested_repeats c.args.func c.args.sizes.now.extents c.args.sizes.now.splits c.args.loops.now c.own-item.result c.in_ok-made-in-len1-up.made
+    c.in_ok-inner-in-len1-up.inner c.args.body
     c.in-len1-up.len_at_least c.own-item.is c.in_ok-inner-in-len1-up.ensures.repeats c.in_ok-made-in-len1-up.ensures.repeats
 
 pub returns-in_ok-made-in-len1-up-clause-rounds : goal.returns-in_ok-made-in-len1-up-clause-rounds
 returns-in_ok-made-in-len1-up-clause-rounds t c =
-    goes_around_more c.args.func (loops.counts c.args.sizes.now.extents c.args.sizes.now.splits) c.args.loops.now c.own-item.result c.in_ok-made-in-len1-up.made c.in_ok-inner-in-len1-up.inner c.args.body
+    goes_around_more c.args.func (loops.counts c.args.sizes.now.extents c.args.sizes.now.splits) c.args.loops.now c.own-item.result c.in_ok-made-in-len1-up.made
+    c.in_ok-inner-in-len1-up.inner c.args.body
     c.in-len1-up.len_at_least c.own-item.is c.in_ok-inner-in-len1-up.ensures.rounds c.in_ok-made-in-len1-up.ensures.rounds
 
 pub returns-in_ok-made-in-len1-up-clause-sizes : goal.returns-in_ok-made-in-len1-up-clause-sizes
 returns-in_ok-made-in-len1-up-clause-sizes t c =
-    nested_size (loops.counts c.args.sizes.now.extents c.args.sizes.now.splits) c.args.loops.now c.own-item.result (whole_size c.in_ok-made-in-len1-up.made) (whole_size c.in_ok-inner-in-len1-up.inner)
+    nested_size (loops.counts c.args.sizes.now.extents c.args.sizes.now.splits) c.args.loops.now c.own-item.result (whole_size c.in_ok-made-in-len1-up.made)
+    (whole_size c.in_ok-inner-in-len1-up.inner)
     (whole_size c.args.body) c.in-len1-up.len_at_least c.own-item.is c.in_ok-inner-in-len1-up.ensures.sizes c.in_ok-made-in-len1-up.ensures.sizes

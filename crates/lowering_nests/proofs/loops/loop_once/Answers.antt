@@ -11,25 +11,31 @@ use Rattle.lowering_nests.proofs.loops.loop_once.Goals as goal
 
 pub returns-clause-repeats : goal.returns-clause-repeats
 returns-clause-repeats c = λ leaf list repeats.
-    subst (λ (n : ℕ). Repeats c.args.func c.in_ok-made.made leaf (λ (outer : loops.Values). upto n (λ (turn : ℕ). list (loops.with c.args.own.now.id turn outer)))) c.extent_of-count.ensures.is
-    (loop_repeats c.args.func c.in_ok-made.made c.args.body c.args.own.now.id c.extent_of-count.result c.extent_of-count.ensures.few c.in_ok-made.ensures.runs c.in_ok-made.ensures.traces c.in_ok-made.ensures.sound leaf list repeats)
+    subst (λ (n : ℕ). Repeats c.args.func c.in_ok-made.made leaf (λ (outer : loops.Values). upto n (λ (turn : ℕ). list (loops.with c.args.own.now.id turn
+    outer)))) c.extent_of-count.ensures.is
+    (loop_repeats c.args.func c.in_ok-made.made c.args.body c.args.own.now.id c.extent_of-count.result c.extent_of-count.ensures.few c.in_ok-made.ensures.runs
+    c.in_ok-made.ensures.traces c.in_ok-made.ensures.sound leaf list repeats)
 
 pub returns-clause-rounds : goal.returns-clause-rounds
 returns-clause-rounds c =
-    goes_around c.args.func (loops.counts c.args.sizes.now.extents c.args.sizes.now.splits) c.args.own.now c.args.body c.in_ok-made.made c.kind_of-kind.result c.kind_of-kind.ensures.vectorized
+    goes_around c.args.func (loops.counts c.args.sizes.now.extents c.args.sizes.now.splits) c.args.own.now c.args.body c.in_ok-made.made c.kind_of-kind.result
+    c.kind_of-kind.ensures.vectorized
     c.extent_of-count.result c.extent_of-count.ensures.is c.extent_of-count.ensures.few c.in_ok-made.ensures.rounds
 
 pub returns-clause-about : goal.returns-clause-about
 returns-clause-about c =
-    loop_about c.args.func (loops.counts c.args.sizes.now.extents c.args.sizes.now.splits) c.args.own.now c.args.body c.in_ok-made.made c.kind_of-kind.result c.kind_of-kind.ensures.vectorized
+    loop_about c.args.func (loops.counts c.args.sizes.now.extents c.args.sizes.now.splits) c.args.own.now c.args.body c.in_ok-made.made c.kind_of-kind.result
+    c.kind_of-kind.ensures.vectorized
     c.extent_of-count.result c.extent_of-count.ensures.is c.in_ok-made.ensures.about
 
 pub returns-clause-in_runs : goal.returns-clause-in_runs
 returns-clause-in_runs c =
-    loop_runs c.args.func (loops.counts c.args.sizes.now.extents c.args.sizes.now.splits) c.args.own.now c.args.body c.in_ok-made.made c.kind_of-kind.result c.kind_of-kind.ensures.vectorized
+    loop_runs c.args.func (loops.counts c.args.sizes.now.extents c.args.sizes.now.splits) c.args.own.now c.args.body c.in_ok-made.made c.kind_of-kind.result
+    c.kind_of-kind.ensures.vectorized
     c.extent_of-count.result c.extent_of-count.ensures.is c.in_ok-made.ensures.in_runs
 
 pub returns-clause-sizes : goal.returns-clause-sizes
 returns-clause-sizes c =
-    once_size (loops.counts c.args.sizes.now.extents c.args.sizes.now.splits) c.args.own.now c.kind_of-kind.result c.kind_of-kind.ensures.unrolled c.extent_of-count.result c.extent_of-count.ensures.is
+    once_size (loops.counts c.args.sizes.now.extents c.args.sizes.now.splits) c.args.own.now c.kind_of-kind.result c.kind_of-kind.ensures.unrolled
+    c.extent_of-count.result c.extent_of-count.ensures.is
     (whole_size c.in_ok-made.made) (whole_size c.args.body) c.in_ok-made.ensures.sizes

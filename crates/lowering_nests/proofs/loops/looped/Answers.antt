@@ -54,7 +54,9 @@ returns-clause-about c = λ place.
 pub returns-clause-in_runs : goal.returns-clause-in_runs
 returns-clause-in_runs c = λ reads place x y expected.
     runs_for reads place x y expected c.args.counter c.args.count c.args.kind c.in_ok-body.body
-    ∙ ap (λ (own : Stmt). runs_at reads place x y expected (layer.For c.args.counter c.args.count c.args.kind (runs reads place x y expected own))) c.in_ok-body.ensures
+    ∙ ap (λ (own : Stmt). runs_at reads place x y expected (layer.For c.args.counter c.args.count c.args.kind (runs reads place x y expected own)))
+    c.in_ok-body.ensures
 
 pub returns-clause-sizes : goal.returns-clause-sizes
-returns-clause-sizes c = whole_for c.args.counter c.args.count c.args.kind c.in_ok-body.body ∙ ap (λ (own : Stmt). loop_room (is_laid_out c.args.kind) c.args.count (whole_size own)) c.in_ok-body.ensures
+returns-clause-sizes c = whole_for c.args.counter c.args.count c.args.kind c.in_ok-body.body
+    ∙ ap (λ (own : Stmt). loop_room (is_laid_out c.args.kind) c.args.count (whole_size own)) c.in_ok-body.ensures

@@ -16,7 +16,8 @@ returns-in_default c =
     let made = c.loop-made.made in
     let one : made - 1 + 1 ≡ made = omega (arith, i.some) in
     record {
-      state = c.step_meant-last.ensures.state ∙ ap (λ s. turn s 0) i.state ∙ sym (run-same-more start 0 (made - 1)) ∙ ap (λ (n : ℕ). run start (replicate n 0)) one;
+      state = c.step_meant-last.ensures.state ∙ ap (λ s. turn s 0) i.state ∙ sym (run-same-more start 0 (made - 1))
+          ∙ ap (λ (n : ℕ). run start (replicate n 0)) one;
       text = c.step_meant-last.ensures.text ∙ i.text;
       stretch = record {
         some = i.some;
@@ -58,8 +59,10 @@ loop-made-preserved c =
     record {
       some = omega arith;
       few = omega (arith, i.few, c.if-made-most.false);
-      state = c.step_meant-last.ensures.state ∙ ap (λ s. turn s 0) i.state ∙ sym (run-same-more start 0 (made - 1)) ∙ ap (λ (n : ℕ). run start (replicate n 0)) one;
+      state = c.step_meant-last.ensures.state ∙ ap (λ s. turn s 0) i.state ∙ sym (run-same-more start 0 (made - 1))
+          ∙ ap (λ (n : ℕ). run start (replicate n 0)) one;
       text = c.step_meant-last.ensures.text ∙ i.text;
       runs = subst (λ s. (hart_at s 0).status ≡ Running) (sym c.step_meant-last.ensures.state) (runs-after state 0 (omega arith) i.runs stepped);
-      steps = λ k below. dite (ℕ_discrete k (made - 1)) (λ e. ap (λ (n : ℕ). outcome (run start (replicate n 0)) 0) e ∙ here) (λ n. i.steps k (omega (arith, below, n)));
+      steps = λ k below. dite (ℕ_discrete k (made - 1)) (λ e. ap (λ (n : ℕ). outcome (run start (replicate n 0)) 0) e
+          ∙ here) (λ n. i.steps k (omega (arith, below, n)));
     }

@@ -23,7 +23,8 @@ returns g c =
     let scene = c.args.scene.now in
     let plane = stage_in scene.funcs.now scene.pictures.now c.args.pass.own (c.args.pass.updates + 1) in
     let R : ℕ → Table → Type 0 = λ at table. IsTable plane table in
-    let zip = subst (λ (f : Scene × Pass × Along × Bounds). AllZip (λ at r. IfOk r (λ table. IsTable (stage_in f.0.funcs.now f.0.pictures.now f.1.own (f.1.updates + 1)) table)) chain.0 c.in_ok-boxes.ensures.0) c.map.ensures.f chain.2 in
+    let zip = subst (λ (f : Scene × Pass × Along × Bounds). AllZip (λ at r. IfOk r (λ table. IsTable (stage_in f.0.funcs.now f.0.pictures.now f.1.own
+    (f.1.updates + 1)) table)) chain.0 c.in_ok-boxes.ensures.0) c.map.ensures.f chain.2 in
     boxes_collected plane chain.0 c.in_ok-boxes.boxes (collected R chain.0 c.in_ok-boxes.ensures.0 c.in_ok-boxes.boxes c.in_ok-boxes.ensures.2 zip)
 
 pub map-requires-send-F : goal.map-requires-send-F

@@ -20,8 +20,10 @@ returns g c =
     let chain = c.in_ok-slices.ensures.1 in
     let scene = c.args.scene.now in
     let R : ℕ → Slice → Type 0 = λ at slice. IsSliceOf scene.funcs.now scene.pictures.now c.args.pass.own c.args.pass.updates slice in
-    let zip = subst (λ (f : Scene × Pass × Slices). AllZip (λ at r. IfOk r (λ slice. IsSliceOf f.0.funcs.now f.0.pictures.now f.1.own f.1.updates slice)) chain.0 c.in_ok-slices.ensures.0) c.map.ensures.f chain.2 in
-    slices_collected scene.funcs.now scene.pictures.now c.args.pass.own c.args.pass.updates chain.0 c.in_ok-slices.slices (collected R chain.0 c.in_ok-slices.ensures.0 c.in_ok-slices.slices c.in_ok-slices.ensures.2 zip)
+    let zip = subst (λ (f : Scene × Pass × Slices). AllZip (λ at r. IfOk r (λ slice. IsSliceOf f.0.funcs.now f.0.pictures.now f.1.own f.1.updates slice))
+    chain.0 c.in_ok-slices.ensures.0) c.map.ensures.f chain.2 in
+    slices_collected scene.funcs.now scene.pictures.now c.args.pass.own c.args.pass.updates chain.0 c.in_ok-slices.slices
+    (collected R chain.0 c.in_ok-slices.ensures.0 c.in_ok-slices.slices c.in_ok-slices.ensures.2 zip)
 
 pub map-requires-send-F : goal.map-requires-send-F
 map-requires-send-F g c κs within = search (shares, area.the_send, crosses, sendable) depth 20

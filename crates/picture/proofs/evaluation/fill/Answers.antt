@@ -21,10 +21,14 @@ returns g c =
     let whole : bounds.height - 0 ≡ bounds.height = omega arith in
     let ends = c.into_par_iter.ensures in
     let chain = c.in_ok-rows.ensures.1 in
-    let R : ℕ → Vec ℕ Global → Type 0 = λ number row. IsNumberedRow (plane_of c.args.scene.now c.args.place) bounds.left bounds.top bounds.width number row.items in
-    let zip = subst (λ (f : Scene × ℕ × Bounds). AllZip (λ number r. IfOk r (λ row. IsNumberedRow (plane_of f.0 f.1) f.2.left f.2.top f.2.width number row.items)) chain.0 c.in_ok-rows.ensures.0) c.map.ensures.f chain.2 in
-    let places : chain.0 ≡ range_with_len 0 bounds.height = chain.1 ∙ (λ i. nat_range (c.map.ensures.base i).start (c.map.ensures.base i).end) ∙ (λ i. nat_range (ends.0 i) (ends.1 i)) ∙ ap (range_with_len 0) whole in
-    subst (λ places. IfOk c.in_ok-rows.rows (λ v. AllZip R places v.items)) places (collected R chain.0 c.in_ok-rows.ensures.0 c.in_ok-rows.rows c.in_ok-rows.ensures.2 zip)
+    let R : ℕ → Vec ℕ Global → Type 0 = λ number row. IsNumberedRow (plane_of c.args.scene.now c.args.place) bounds.left bounds.top bounds.width number
+    row.items in
+    let zip = subst (λ (f : Scene × ℕ × Bounds). AllZip (λ number r. IfOk r (λ row. IsNumberedRow (plane_of f.0 f.1) f.2.left f.2.top f.2.width number
+    row.items)) chain.0 c.in_ok-rows.ensures.0) c.map.ensures.f chain.2 in
+    let places : chain.0 ≡ range_with_len 0 bounds.height = chain.1 ∙ (λ i. nat_range (c.map.ensures.base i).start (c.map.ensures.base i).end)
+    ∙ (λ i. nat_range (ends.0 i) (ends.1 i)) ∙ ap (range_with_len 0) whole in
+    subst (λ places. IfOk c.in_ok-rows.rows (λ v. AllZip R places v.items)) places (collected R chain.0 c.in_ok-rows.ensures.0 c.in_ok-rows.rows
+    c.in_ok-rows.ensures.2 zip)
 
 pub collect-requires-send-Self : goal.collect-requires-send-Self
 collect-requires-send-Self g c κs within = search (shares, area.the_send, maps.the_send, ranges.the_send, crosses, sendable) depth 20

@@ -9,6 +9,7 @@ pub returns-clause-table : goal.returns-clause-table
 returns-clause-table g c =
     let plane = plane_of c.args.scene.now c.args.place in
     let own = c.args.bounds in
-    let zip = subst (λ (rows : List (Vec ℕ Global)). AllZip (λ number row. IsNumberedRow plane own.left own.top own.width number row.items) (range_with_len 0 own.height) rows) (sym c.deref.ensures.value) c.in_ok-rows.ensures in
+    let zip = subst (λ (rows : List (Vec ℕ Global)). AllZip (λ number row. IsNumberedRow plane own.left own.top own.width number row.items)
+    (range_with_len 0 own.height) rows) (sym c.deref.ensures.value) c.in_ok-rows.ensures in
     let all = are-numbered plane own.left own.top own.width own.height c.deref.result.now zip in
     table-of plane own.height c.deref.result.now _ zip refl (c.in_ok-pixels.ensures plane own.left own.top own.width all)

@@ -8,7 +8,8 @@ loop-own-preserved g c =
     let here : c.len-place.result ≡ length c.loop-own.tables.items = omega (arith, c.len-place.ensures, c.loop-own.tables.ok) in
     let table = subst (λ (place : ℕ). IsTable (plane_in c.args.funcs.now c.args.pictures.now place) c.in_ok-table.table) here c.in_ok-table.ensures.table in
     record {
-      tables = one_more_table c.args.funcs.now c.args.pictures.now c.loop-own.tables.items c.push.new.self.items c.in_ok-table.table c.loop-own.invariant.tables table c.in_ok-push.ensures.items;
+      tables = one_more_table c.args.funcs.now c.args.pictures.now c.loop-own.tables.items c.push.new.self.items c.in_ok-table.table c.loop-own.invariant.tables
+          table c.in_ok-push.ensures.items;
       known = c.in_ok-table.ensures.known;
       memo = c.in_ok-table.ensures.memo;
     }

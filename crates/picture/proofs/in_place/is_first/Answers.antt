@@ -7,4 +7,5 @@ use Rattle.picture.proofs.in_place.is_first.Goals as goal
 
 pub returns-in-Variable : goal.returns-in-Variable
 returns-in-Variable c = λ alone reads point.
-    variable-alone reads point c.args.expr.now variables.FirstArgument (c.in-Variable.is ∙ ap (λ (v : Variable). exprs.Variable v) (c.is_first_argument.ensures alone))
+    variable-alone reads point c.args.expr.now variables.FirstArgument (c.in-Variable.is
+    ∙ ap (λ (v : Variable). exprs.Variable v) (c.is_first_argument.ensures alone))

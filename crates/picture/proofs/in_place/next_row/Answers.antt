@@ -12,5 +12,6 @@ returns-clause-values c = λ plane are.
     record {
       len = c.in_ok-pixels.ensures.len;
       each = λ at less. c.in_ok-pixels.ensures.each at less ∙ shared.each plane fits at less
-          ∙ ap (λ (start : Environment). value (reads_with c.args.scene.now c.args.own plane) (pixel_point start at) c.args.update.now.right) c.at_reduction.ensures;
+          ∙ ap (λ (start : Environment). value (reads_with c.args.scene.now c.args.own plane) (pixel_point start at) c.args.update.now.right)
+          c.at_reduction.ensures;
     }

@@ -29,5 +29,6 @@ returns c = λ plane is.
     let all = c.loop-number-test.false in
     let within = c.loop-number.auto.number-end in
     let so_many : c.loop-number.number ≡ c.points-number-end.result = omega (arith, all, within) in
-    subst (λ (n : ℕ). IsRowOf (after c.args.own c.args.update.now (inputs_of c.args.scene.now) (earlier_of c.args.scene.now c.args.own) plane n) c.args.stretch c.loop-number.pixels.items)
+    subst (λ (n : ℕ). IsRowOf (after c.args.own c.args.update.now (inputs_of c.args.scene.now) (earlier_of c.args.scene.now c.args.own) plane n) c.args.stretch
+    c.loop-number.pixels.items)
     (so_many ∙ c.points-number-end.ensures.value) (c.loop-number.invariant.run plane is)

@@ -8,5 +8,6 @@ use Rattle.picture.proofs.in_place.over_pixels.Given as goal
 abbrev pub invariant-loop-number : goal.invariant-loop-number
 invariant-loop-number l = record {
   long : length l.pixels.items ≡ l.fn.stretch.width;
-  run : (plane : Plane) → IsRowOf plane l.fn.stretch l.fn.before.items → IsRowOf (after l.fn.own l.fn.update (inputs_of l.fn.scene) (earlier_of l.fn.scene l.fn.own) plane l.number) l.fn.stretch l.pixels.items;
+  run : (plane : Plane) → IsRowOf plane l.fn.stretch l.fn.before.items
+      → IsRowOf (after l.fn.own l.fn.update (inputs_of l.fn.scene) (earlier_of l.fn.scene l.fn.own) plane l.number) l.fn.stretch l.pixels.items;
 }

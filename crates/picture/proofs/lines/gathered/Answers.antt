@@ -8,12 +8,15 @@ pub loop-at-preserved : goal.loop-at-preserved
 loop-at-preserved c = λ plane is.
     let so_far = c.loop-at.invariant plane is in
     let within : c.loop-at.at < length c.loop-at.values.items = omega (arith, so_far.len, c.in_ok-values.ensures.len, c.in_ok-values.values.ok) in
-    one-more-place c.loop-at.at c.in-Some.pixel c.in_ok-values.values.items c.loop-at.values.items _ (λ k. plane (value_at c.args.x.now k) (value_at c.args.y.now k)) so_far
-    (c.in-Some.ensures plane is ∙ ap (λ (n : ℕ). plane n c.value_at-in-loop-at.result) c.value_at.ensures ∙ ap (plane (value_at c.args.x.now c.loop-at.at)) c.value_at-in-loop-at.ensures)
+    one-more-place c.loop-at.at c.in-Some.pixel c.in_ok-values.values.items c.loop-at.values.items _ (λ k. plane (value_at c.args.x.now k)
+    (value_at c.args.y.now k)) so_far
+    (c.in-Some.ensures plane is ∙ ap (λ (n : ℕ). plane n c.value_at-in-loop-at.result) c.value_at.ensures
+    ∙ ap (plane (value_at c.args.x.now c.loop-at.at)) c.value_at-in-loop-at.ensures)
     (length-set c.loop-at.values.items c.loop-at.at c.in-Some.pixel) (get_or-set_same c.loop-at.values.items c.loop-at.at c.in-Some.pixel 0 within)
     (λ k other. get_or-set_other c.loop-at.values.items c.loop-at.at k c.in-Some.pixel 0 other)
 
 pub returns : goal.returns
 returns c = λ plane is.
     let long : length c.in_ok-values.values.items ≡ c.args.width = omega (arith, c.in_ok-values.ensures.len, c.in_ok-values.values.ok) in
-    whole-row c.loop-at.at c.args.width c.in_ok-values.values.items c.loop-at.values (λ k. plane (value_at c.args.x.now k) (value_at c.args.y.now k)) (c.loop-at.invariant plane is) long (omega arith)
+    whole-row c.loop-at.at c.args.width c.in_ok-values.values.items c.loop-at.values (λ k. plane (value_at c.args.x.now k) (value_at c.args.y.now k))
+    (c.loop-at.invariant plane is) long (omega arith)

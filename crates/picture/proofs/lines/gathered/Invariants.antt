@@ -5,4 +5,5 @@ use Rattle.picture_rows.proofs.InPlace.{Changed}
 use Rattle.picture.proofs.lines.gathered.Given as goal
 
 abbrev pub invariant-loop-at : goal.invariant-loop-at
-invariant-loop-at l = (plane : Plane) → IsTable plane l.own_box → Changed l.at l.initial.values.items l.values.items (λ k. plane (value_at l.x k) (value_at l.y k))
+invariant-loop-at l = (plane : Plane) → IsTable plane l.own_box
+    → Changed l.at l.initial.values.items l.values.items (λ k. plane (value_at l.x k) (value_at l.y k))

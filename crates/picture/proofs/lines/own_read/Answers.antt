@@ -17,9 +17,11 @@ returns-in_ok-row-in-Pixels c =
     let same : length before ≡ line.width = subst (λ (own : Own). IsLong line.width own) c.in-Pixels.is c.requires.line in
     let long : IfSome row (HasLength line.width) = subst (λ (n : ℕ). IfSome row (HasLength n)) same c.in_ok-row-in-Pixels.ensures.len in
     let is : (plane : Plane) → Fits line plane → IfSome row (IsRow line.width (says plane)) = λ plane fits.
-    let known : AreValues line.width (λ at. plane (word.add line.start.first_argument at) line.start.second_argument) before = subst (λ (own : Own). Knows line.width line.start own plane) c.in-Pixels.is fits in
+    let known : AreValues line.width (λ at. plane (word.add line.start.first_argument at) line.start.second_argument) before =
+    subst (λ (own : Own). Knows line.width line.start own plane) c.in-Pixels.is fits in
     subst (λ (n : ℕ). IfSome row (IsRow n (says plane))) same
-    (c.in_ok-row-in-Pixels.ensures.values plane (subst (λ (n : ℕ). AreValues n (λ at. plane (word.add line.start.first_argument at) line.start.second_argument) before) (sym same) known)) in
+    (c.in_ok-row-in-Pixels.ensures.values plane (subst (λ (n : ℕ). AreValues n (λ at. plane (word.add line.start.first_argument at) line.start.second_argument)
+    before) (sym same) known)) in
     shared-known line says row long is
 
 pub returns-in_ok-row-in-Box : goal.returns-in_ok-row-in-Box

@@ -23,9 +23,11 @@ loop-done-preserved c =
     let read : pixel_then (separator c.args.width left) c.loop-done.rest.now ≡ Ok (c.in_ok-pixel.pixel, c.in_ok-pixel.after.now) =
     ap (λ word. pixel_then word c.loop-done.rest.now) (sym c.separator-word.ensures.value) ∙ c.in_ok-pixel.ensures in
     record {
-      left = rw n (goes_on c.args.width c.args.count c.args.text.now c.loop-done.pixels.items left c.loop-done.rest.now c.in_ok-pixel.pixel c.in_ok-pixel.after.now c.push.new.self.items l read c.in_ok-push.ensures.items);
+      left = rw n (goes_on c.args.width c.args.count c.args.text.now c.loop-done.pixels.items left c.loop-done.rest.now c.in_ok-pixel.pixel
+          c.in_ok-pixel.after.now c.push.new.self.items l read c.in_ok-push.ensures.items);
       len = omega (arith, c.in_ok-push.ensures.len);
     }
 
 pub returns-clause-value : goal.returns-clause-value
-returns-clause-value c = is_done c.args.width c.args.count c.args.text.now c.loop-done.pixels.items (c.args.count - c.loop-done.done) c.loop-done.rest.now c.loop-done.invariant.left (omega arith)
+returns-clause-value c = is_done c.args.width c.args.count c.args.text.now c.loop-done.pixels.items (c.args.count - c.loop-done.done) c.loop-done.rest.now
+    c.loop-done.invariant.left (omega arith)

@@ -7,5 +7,6 @@ returns-then-row-table c plane is = c.nothing.ensures _
 
 pub returns : goal.returns
 returns c plane is =
-    table-row plane c.args.table.now c.args.y c.subtract-row.result c.product-from.result _ is (omega arith) (omega arith) (omega arith) (omega arith) c.subtract-row.ensures
+    table-row plane c.args.table.now c.args.y c.subtract-row.result c.product-from.result _ is (omega arith) (omega arith) (omega arith) (omega arith)
+    c.subtract-row.ensures
     (omega arith) c.product-from.ensures.value refl (search rules)

@@ -13,7 +13,8 @@ loop-at-init c = record {
 pub loop-at-preserved : goal.loop-at-preserved
 loop-at-preserved c = record {
   table = λ plane is.
-      store-more c.args.row.now c.loop-at.at c.value_at-x.result c.value_at-y.result c.value_at.result plane _ c.value_at-x.ensures c.value_at-y.ensures c.value_at.ensures
+      store-more c.args.row.now c.loop-at.at c.value_at-x.result c.value_at-y.result c.value_at.result plane _ c.value_at-x.ensures c.value_at-y.ensures
+      c.value_at.ensures
       (c.put.ensures.table (with_stores c.args.row.now c.loop-at.at plane) (c.loop-at.invariant.table plane is));
   bounds = record {
     left_is = c.put.ensures.bounds.left_is ∙ c.loop-at.invariant.bounds.left_is;

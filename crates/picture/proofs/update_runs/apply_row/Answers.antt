@@ -37,7 +37,8 @@ loop-at-preserved c =
     record {
       of = still-of c.args.pass.update.now c.loop-at.slice c.put.new.slice c.loop-at.invariant.of c.in_ok-put.ensures.place;
       run = subst (λ (n : ℕ). IsForward c.args.scene.now c.args.pass.own c.args.pass.updates n c.put.new.slice) on
-          (one-store-more c.args.scene.now c.args.pass.own c.args.pass.func.now c.args.pass.update.now c.args.pass.updates number c.loop-at.slice c.put.new.slice c.in_ok-store.store
+          (one-store-more c.args.scene.now c.args.pass.own c.args.pass.func.now c.args.pass.update.now c.args.pass.updates number c.loop-at.slice
+          c.put.new.slice c.in_ok-store.store
           c.requires.pass.is c.requires.pass.next c.requires.forward c.loop-at.invariant.of c.in_ok-store.ensures c.in_ok-put.ensures run);
       x = c.in_ok-put.ensures.place.x ∙ c.loop-at.invariant.x;
       y = c.in_ok-put.ensures.place.y ∙ c.loop-at.invariant.y;

@@ -17,5 +17,6 @@ returns c =
     let last : c.loop-row.row ≡ c.rows-row-end.result = omega arith in
     let whole : c.loop-row.row * c.args.pass.update.now.first.extent ≡ points c.args.pass.update.now =
     ap (λ (n : ℕ). n * c.args.pass.update.now.first.extent) (last ∙ c.rows-row-end.ensures) ∙ omega arith in
-    slice_from_run c.args.scene.now c.args.pass.own c.args.pass.func.now c.args.pass.update.now c.args.pass.updates c.loop-row.slice c.requires.pass.is c.requires.pass.next
+    slice_from_run c.args.scene.now c.args.pass.own c.args.pass.func.now c.args.pass.update.now c.args.pass.updates c.loop-row.slice c.requires.pass.is
+    c.requires.pass.next
     (subst (λ (n : ℕ). IsForward c.args.scene.now c.args.pass.own c.args.pass.updates n c.loop-row.slice) whole c.loop-row.invariant.run)

@@ -6,7 +6,8 @@ use Rattle.schedule.proofs.schedules.read_lines.Goals as goal
 pub returns-in-Err : goal.returns-in-Err
 returns-in-Err c =
     let some : c.lines.rest.now ≢ [] = search rules in
-    rw c.at_line.ensures (fails _ _ _ _ c.lines.rest.now _ c.take_line.new.reader _ _ c.in-Err.error (c.first_line.ensures.lines some) c.in-Err.ensures c.lines.invariant)
+    rw c.at_line.ensures (fails _ _ _ _ c.lines.rest.now _ c.take_line.new.reader _ _ c.in-Err.error (c.first_line.ensures.lines some) c.in-Err.ensures
+    c.lines.invariant)
 
 pub lines-preserved : goal.lines-preserved
 lines-preserved c =

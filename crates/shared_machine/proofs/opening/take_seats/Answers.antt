@@ -28,9 +28,12 @@ loop-one-init g c =
       enough = c.requires.enough;
       glances = c.requires.glances;
       all = omega (arith, none);
-      numbers = counted-none (numbers_of c.args.books.now) (length shares) (count_of log.turns) (λ hart beyond. (no-turns start log hart c.requires.log (omega (arith, beyond, c.requires.harts, c.requires.all))).0) c.requires.numbers;
-      sums = counted-none (tallies_of c.args.books.now) (length shares) (tally g.O.Origin.image g.O.Origin.harts log.turns) (λ hart beyond. (no-turns start log hart c.requires.log (omega (arith, beyond, c.requires.harts, c.requires.all))).1) c.requires.sums;
-      seats = subst (λ seats. AreSeatsAt (name_of c.args.board.now) (count_of log.turns) (tally g.O.Origin.image g.O.Origin.harts log.turns) (length shares) (reverse seats)) (sym c.new-seats.ensures.items) tt;
+      numbers = counted-none (numbers_of c.args.books.now) (length shares) (count_of log.turns) (λ hart beyond. (no-turns start log hart c.requires.log
+          (omega (arith, beyond, c.requires.harts, c.requires.all))).0) c.requires.numbers;
+      sums = counted-none (tallies_of c.args.books.now) (length shares) (tally g.O.Origin.image g.O.Origin.harts log.turns)
+          (λ hart beyond. (no-turns start log hart c.requires.log (omega (arith, beyond, c.requires.harts, c.requires.all))).1) c.requires.sums;
+      seats = subst (λ seats. AreSeatsAt (name_of c.args.board.now) (count_of log.turns) (tally g.O.Origin.image g.O.Origin.harts log.turns) (length shares)
+          (reverse seats)) (sym c.new-seats.ensures.items) tt;
     }
 
 pub bounds-tallies-hart : goal.bounds-tallies-hart
@@ -43,11 +46,13 @@ bounds-tallies-hart g c =
 
 pub add-requires-clause-of : goal.add-requires-clause-of
 add-requires-clause-of g c =
-    (places-last (name_of c.args.board.now) 0 c.loop-one.places.items c.pop-in-Some.new.self.items c.in-Some-pop.place c.in-Some-pop.ensures.items c.loop-one.invariant.places).1.of
+    (places-last (name_of c.args.board.now) 0 c.loop-one.places.items c.pop-in-Some.new.self.items c.in-Some-pop.place c.in-Some-pop.ensures.items
+    c.loop-one.invariant.places).1.of
 
 pub add-requires-clause-room : goal.add-requires-clause-room
 add-requires-clause-room g c =
-    let p = places-last (name_of c.args.board.now) 0 c.loop-one.places.items c.pop-in-Some.new.self.items c.in-Some-pop.place c.in-Some-pop.ensures.items c.loop-one.invariant.places in
+    let p = places-last (name_of c.args.board.now) 0 c.loop-one.places.items c.pop-in-Some.new.self.items c.in-Some-pop.place c.in-Some-pop.ensures.items
+    c.loop-one.invariant.places in
     let none = p.1.number in
     let few = c.requires.log.few_turns c.hart-hart.result in
     omega (arith, none, few, c.count_of-number.ensures)
@@ -56,10 +61,12 @@ pub new-requires-clause-hart : goal.new-requires-clause-hart
 new-requires-clause-hart g c =
     let i = c.loop-one.invariant in
     let s = shares-last (λ hart. 0) (λ hart. 0) 0 c.loop-one.shares.items c.pop.new.self.items c.in-Some.one c.in-Some.ensures.items i.shares in
-    let p = places-last (name_of c.args.board.now) 0 c.loop-one.places.items c.pop-in-Some.new.self.items c.in-Some-pop.place c.in-Some-pop.ensures.items i.places in
+    let p = places-last (name_of c.args.board.now) 0 c.loop-one.places.items c.pop-in-Some.new.self.items c.in-Some-pop.place c.in-Some-pop.ensures.items
+    i.places in
     let m = shorter c.loop-one.shares.items c.pop.new.self.items c.in-Some.one c.in-Some.ensures.items in
     let n = shorter c.loop-one.places.items c.pop-in-Some.new.self.items c.in-Some-pop.place c.in-Some-pop.ensures.items in
-    c.add.ensures.hart ∙ p.1.hart ∙ (let e : 0 + length c.pop-in-Some.new.self.items ≡ 0 + length c.pop.new.self.items = omega (arith, m, n, i.as_many) in e) ∙ sym s.is ∙ sym c.count.ensures.shares.0
+    c.add.ensures.hart ∙ p.1.hart ∙ (let e : 0 + length c.pop-in-Some.new.self.items ≡ 0 + length c.pop.new.self.items = omega (arith, m, n, i.as_many) in e)
+    ∙ sym s.is ∙ sym c.count.ensures.shares.0
 
 pub new-requires-clause-below : goal.new-requires-clause-below
 new-requires-clause-below g c =
@@ -73,7 +80,8 @@ pub new-requires-clause-number : goal.new-requires-clause-number
 new-requires-clause-number g c =
     let i = c.loop-one.invariant in
     let s = shares-last (λ hart. 0) (λ hart. 0) 0 c.loop-one.shares.items c.pop.new.self.items c.in-Some.one c.in-Some.ensures.items i.shares in
-    let p = places-last (name_of c.args.board.now) 0 c.loop-one.places.items c.pop-in-Some.new.self.items c.in-Some-pop.place c.in-Some-pop.ensures.items i.places in
+    let p = places-last (name_of c.args.board.now) 0 c.loop-one.places.items c.pop-in-Some.new.self.items c.in-Some-pop.place c.in-Some-pop.ensures.items
+    i.places in
     let a = p.1.number in let b = s.number in let d = c.count.ensures.shares.1 in
     omega (arith, a, b, d, c.add.ensures.number)
 
@@ -89,15 +97,18 @@ loop-one-preserved g c =
     let m = shorter c.loop-one.shares.items c.pop.new.self.items c.in-Some.one c.in-Some.ensures.items in
     let n = shorter c.loop-one.places.items c.pop-in-Some.new.self.items c.in-Some-pop.place c.in-Some-pop.ensures.items in
     let h = shorter c.loop-one.glances.items c.pop-in-Some-2.new.self.items c.in-Some-pop-2.glance c.in-Some-pop-2.ensures.items in
-    let t = All-pop (IsGlanceOf board) c.loop-one.glances.items c.pop-in-Some-2.new.self.items (Some c.in-Some-pop-2.glance) c.in-Some-pop-2.ensures.items i.glances in
+    let t = All-pop (IsGlanceOf board) c.loop-one.glances.items c.pop-in-Some-2.new.self.items (Some c.in-Some-pop-2.glance) c.in-Some-pop-2.ensures.items
+    i.glances in
     let made = c.new.ensures in
-    let longer : length c.push.new.self.items ≡ length c.loop-one.seats.items + 1 = shorter c.push.new.self.items c.loop-one.seats.items c.new.result c.in_ok-push.ensures.items in
+    let longer : length c.push.new.self.items ≡ length c.loop-one.seats.items + 1 = shorter c.push.new.self.items c.loop-one.seats.items c.new.result
+    c.in_ok-push.ensures.items in
     let next : length c.loop-one.shares.items ≡ suc left = omega (arith, m) in
     let which : hart_of c.in-Some.one ≡ left = (let e = s.is in omega (arith, e)) in
     let few : left < 8 = (let f = c.requires.log.few_harts in omega (arith, m, i.below, c.requires.all, c.requires.harts, f)) in
     let here : c.hart-hart.result ≡ left = c.hart-hart.ensures ∙ which in
     let number : c.count_of-number.result ≡ counts left = c.count_of-number.ensures ∙ ap counts here in
-    let sum : slice_index c.args.tallies.now c.hart-hart.result ≡ sums left = ap (λ xs. slice_index xs c.hart-hart.result) c.requires.tallies ∙ ap (λ n. slice_index (each sums) n) here ∙ each-index sums left few in
+    let sum : slice_index c.args.tallies.now c.hart-hart.result ≡ sums left = ap (λ xs. slice_index xs c.hart-hart.result) c.requires.tallies
+    ∙ ap (λ n. slice_index (each sums) n) here ∙ each-index sums left few in
     record {
       shares = s.front;
       places = p.0;
@@ -106,16 +117,19 @@ loop-one-preserved g c =
       enough = omega (arith, m, h, i.enough);
       glances = t.0;
       all = omega (arith, m, longer, i.all);
-      numbers = counted-more (numbers_of c.loop-one.books) (numbers_of c.count.new.self) (length c.loop-one.shares.items) left (hart_of c.in-Some.one) counts _ next which few number i.numbers c.count.ensures.numbers;
-      sums = counted-more (tallies_of c.loop-one.books) (tallies_of c.count.new.self) (length c.loop-one.shares.items) left (hart_of c.in-Some.one) sums _ next which few sum i.sums c.count.ensures.tallies;
-      seats = subst (AreSeatsAt board counts sums left) (sym (ap reverse c.in_ok-push.ensures.items ∙ reverse-append c.loop-one.seats.items (c.new.result ∷ []))) (
-        record {
-          of = (subst (λ x. on_board.IsSeatOf board x) (sym made.1) c.add.ensures.of, subst (λ x. on_board.IsGlanceOf board x) (sym made.2) t.1);
-          is = ap hart_of made.0 ∙ c.count.ensures.shares.0 ∙ which;
-          made = ap number_in made.0 ∙ (let a = s.number in let b = c.count.ensures.shares.1 in omega (arith, a, b, number));
-          tallied = ap tally_in made.0 ∙ (let a = s.tally in let b = c.count.ensures.shares.2 in omega (arith, a, b, sum));
-          fresh = made.3;
-        },
-        subst (λ k. AreSeatsAt board counts sums k (reverse c.loop-one.seats.items)) next i.seats,
-      );
+      numbers = counted-more (numbers_of c.loop-one.books) (numbers_of c.count.new.self) (length c.loop-one.shares.items) left (hart_of c.in-Some.one) counts
+          _ next which few number i.numbers c.count.ensures.numbers;
+      sums = counted-more (tallies_of c.loop-one.books) (tallies_of c.count.new.self) (length c.loop-one.shares.items) left (hart_of c.in-Some.one) sums _ next
+          which few sum i.sums c.count.ensures.tallies;
+      seats = subst (AreSeatsAt board counts sums left) (sym (ap reverse c.in_ok-push.ensures.items
+          ∙ reverse-append c.loop-one.seats.items (c.new.result ∷ []))) (
+            record {
+              of = (subst (λ x. on_board.IsSeatOf board x) (sym made.1) c.add.ensures.of, subst (λ x. on_board.IsGlanceOf board x) (sym made.2) t.1);
+              is = ap hart_of made.0 ∙ c.count.ensures.shares.0 ∙ which;
+              made = ap number_in made.0 ∙ (let a = s.number in let b = c.count.ensures.shares.1 in omega (arith, a, b, number));
+              tallied = ap tally_in made.0 ∙ (let a = s.tally in let b = c.count.ensures.shares.2 in omega (arith, a, b, sum));
+              fresh = made.3;
+            },
+            subst (λ k. AreSeatsAt board counts sums k (reverse c.loop-one.seats.items)) next i.seats,
+          );
     }

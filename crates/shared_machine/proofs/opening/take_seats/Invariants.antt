@@ -19,7 +19,8 @@ invariant-loop-one g l = record {
   all : length l.seats.items + length l.shares.items ≡ length l.fn.parts.shares.items;
   numbers : numbers_of l.books ≡ each (counted (length l.shares.items) (count_of l.log.turns));
   sums : tallies_of l.books ≡ each (counted (length l.shares.items) (tally g.O.Origin.image g.O.Origin.harts l.log.turns));
-  seats : AreSeatsAt (name_of l.board) (count_of l.log.turns) (tally g.O.Origin.image g.O.Origin.harts l.log.turns) (length l.shares.items) (reverse l.seats.items);
+  seats : AreSeatsAt (name_of l.board) (count_of l.log.turns) (tally g.O.Origin.image g.O.Origin.harts l.log.turns) (length l.shares.items)
+      (reverse l.seats.items);
 }
 
 abbrev pub decreases-loop-one : goal.decreases-loop-one

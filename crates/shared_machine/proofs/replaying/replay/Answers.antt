@@ -47,7 +47,8 @@ overflow_add-tallies c =
     let below : hart < 8 = (let b = next.1 in let f = c.requires.log.few_harts in omega (arith, b, f)) in
     let within = next.0.within in
     let all = few_turns_all c.args.log.now c.requires.log in
-    let now : slice_index c.loop-hart.tallies hart ≡ tally_from old (take place turns) hart = ap (λ xs. slice_index xs hart) c.loop-hart.invariant.tallies ∙ each-index (tally_from old (take place turns)) hart below in
+    let now : slice_index c.loop-hart.tallies hart ≡ tally_from old (take place turns) hart = ap (λ xs. slice_index xs hart) c.loop-hart.invariant.tallies
+    ∙ each-index (tally_from old (take place turns)) hart below in
     let few = tally-few old (take place turns) hart in
     let long = length-take place turns in
     let sum = c.replay_run.ensures.sum in
@@ -77,17 +78,21 @@ loop-hart-preserved c =
     record {
       within = next.0.within;
       state =
-          c.replay_run.ensures.machine ∙ ap (λ s. run s (replicate count hart)) i.state ∙ sym (run-append old (take place turns) (replicate count hart)) ∙ ap (run old) (sym (take-run turns place hart count next.0));
+          c.replay_run.ensures.machine ∙ ap (λ s. run s (replicate count hart)) i.state ∙ sym (run-append old (take place turns) (replicate count hart))
+          ∙ ap (run old) (sym (take-run turns place hart count next.0));
       shape = shape-then old c.loop-hart.machine _ i.shape c.replay_run.ensures.shape;
-      tallies = tallies-more old c.loop-hart.machine turns c.loop-hart.tallies _ place hart count c.replay_run.result next.0 below i.state i.tallies c.replay_run.ensures.sum refl;
+      tallies = tallies-more old c.loop-hart.machine turns c.loop-hart.tallies _ place hart count c.replay_run.result next.0 below i.state i.tallies
+          c.replay_run.ensures.sum refl;
     }
 
 pub returns-clause-machine : goal.returns-clause-machine
 returns-clause-machine c =
     let turns = c.args.log.now.turns in
-    c.loop-hart.invariant.state ∙ ap (run c.args.machine.now) (take_all c.loop-hart.place turns (run_at-none turns c.loop-hart.place (sym c.in_default.ensures)))
+    c.loop-hart.invariant.state ∙ ap (run c.args.machine.now) (take_all c.loop-hart.place turns (run_at-none turns c.loop-hart.place
+    (sym c.in_default.ensures)))
 
 pub returns-clause-tallies : goal.returns-clause-tallies
 returns-clause-tallies c =
     let turns = c.args.log.now.turns in
-    c.loop-hart.invariant.tallies ∙ ap (λ ts. each (tally_from c.args.machine.now ts)) (take_all c.loop-hart.place turns (run_at-none turns c.loop-hart.place (sym c.in_default.ensures)))
+    c.loop-hart.invariant.tallies ∙ ap (λ ts. each (tally_from c.args.machine.now ts)) (take_all c.loop-hart.place turns (run_at-none turns c.loop-hart.place
+    (sym c.in_default.ensures)))

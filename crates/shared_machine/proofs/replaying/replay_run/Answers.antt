@@ -13,7 +13,8 @@ returns-in_default c =
     let w = c.args.hart in
     let i = c.loop-made.invariant in
     let made = c.loop-made._made in
-    let rests : (hart_at (after_turns old w made) w).status ≢ Running = λ is. c.in_default.not-Running (c.status.ensures ∙ ap (λ s. (hart_at s w).status) i.state ∙ is) in
+    let rests : (hart_at (after_turns old w made) w).status ≢ Running = λ is. c.in_default.not-Running (c.status.ensures
+    ∙ ap (λ s. (hart_at s w).status) i.state ∙ is) in
     let all = ap (λ s. length s.harts) i.state in
     let below : w < length (after_turns old w made).harts = omega (arith, all, i.shape.harts, c.requires.below) in
     let same = tally-resting old w made c.args.turns (omega (arith)) below rests in record {
@@ -34,9 +35,11 @@ loop-made-preserved c =
     let w = c.args.hart in
     let i = c.loop-made.invariant in
     let made = c.loop-made._made in
-    let code : c.code-sum.result ≡ code_of (outcome (after_turns old w made) w) = c.code-sum.ensures ∙ ap code_of (c.turn-outcome.ensures.outcome ∙ ap (λ s. outcome s w) i.state) in
+    let code : c.code-sum.result ≡ code_of (outcome (after_turns old w made) w) = c.code-sum.ensures ∙ ap code_of (c.turn-outcome.ensures.outcome
+    ∙ ap (λ s. outcome s w) i.state) in
     let more = tally-one-more old w made in record {
       state = c.turn-outcome.ensures.state ∙ ap (λ s. turn s w) i.state ∙ sym (run-same-more old w made);
-      shape = shape-then old c.loop-made.machine _ i.shape (subst (λ s. KeepsShape c.loop-made.machine s) (sym c.turn-outcome.ensures.state) (shape-turn c.loop-made.machine w));
+      shape = shape-then old c.loop-made.machine _ i.shape (subst (λ s. KeepsShape c.loop-made.machine s) (sym c.turn-outcome.ensures.state)
+          (shape-turn c.loop-made.machine w));
       sum = omega (arith, more, code, i.sum);
     }

@@ -11,4 +11,5 @@ run_out-requires-clause-at g c κs within =
     let seats = c.in_ok-shared.seats.items in
     subst (λ turns. AreSeatsAt board (count_of turns) (tally g.O.Origin.image g.O.Origin.harts turns) 0 seats) c.requires.resumed
     (subst (λ harts. AreSeatsAt board (count_of c.args.log.turns) (tally g.O.Origin.image harts c.args.log.turns) 0 seats) c.requires.harts
-    (subst (λ image. AreSeatsAt board (count_of c.args.log.turns) (tally image c.args.log.harts c.args.log.turns) 0 seats) c.requires.image c.in_ok-shared.ensures.seats))
+    (subst (λ image. AreSeatsAt board (count_of c.args.log.turns) (tally image c.args.log.harts c.args.log.turns) 0 seats) c.requires.image
+    c.in_ok-shared.ensures.seats))

@@ -18,21 +18,26 @@ by_other_variables-returns-in_ok-made-in-Binary t c =
 
 pub by_other_variables-returns-in_ok-first-in-Divide : goal.by_other_variables-returns-in_ok-first-in-Divide
 by_other_variables-returns-in_ok-first-in-Divide t c =
-    alike-divide (AreKnown c.args.known.now) c.args.e.now c.in-Divide.a c.get-in-Divide.result.now c.in_ok-first-in-Divide.first c.in-Divide.divisor c.in-Divide.is c.get-in-Divide.ensures
+    alike-divide (AreKnown c.args.known.now) c.args.e.now c.in-Divide.a c.get-in-Divide.result.now c.in_ok-first-in-Divide.first c.in-Divide.divisor
+    c.in-Divide.is c.get-in-Divide.ensures
     c.in_ok-first-in-Divide.ensures
 
 pub by_other_variables-returns-in_ok-first-in-Remainder : goal.by_other_variables-returns-in_ok-first-in-Remainder
 by_other_variables-returns-in_ok-first-in-Remainder t c =
-    alike-remainder (AreKnown c.args.known.now) c.args.e.now c.in-Remainder.a c.get-in-Remainder.result.now c.in_ok-first-in-Remainder.first c.in-Remainder.divisor c.in-Remainder.is
+    alike-remainder (AreKnown c.args.known.now) c.args.e.now c.in-Remainder.a c.get-in-Remainder.result.now c.in_ok-first-in-Remainder.first
+    c.in-Remainder.divisor c.in-Remainder.is
     c.get-in-Remainder.ensures c.in_ok-first-in-Remainder.ensures
 
 pub by_other_variables-returns-in_ok-second-in-Select : goal.by_other_variables-returns-in_ok-second-in-Select
 by_other_variables-returns-in_ok-second-in-Select t c =
-    alike-select (AreKnown c.args.known.now) c.args.e.now c.in-Select.c c.in-Select.a c.in-Select.b c.get-in-Select.result.now c.get-in-Select-2.result.now c.get-in-Select-3.result.now
-    c.in_ok-condition-in-Select.condition c.in_ok-first-in-Select.first c.in_ok-second-in-Select.second c.in-Select.is c.get-in-Select.ensures c.get-in-Select-2.ensures
+    alike-select (AreKnown c.args.known.now) c.args.e.now c.in-Select.c c.in-Select.a c.in-Select.b c.get-in-Select.result.now c.get-in-Select-2.result.now
+    c.get-in-Select-3.result.now
+    c.in_ok-condition-in-Select.condition c.in_ok-first-in-Select.first c.in_ok-second-in-Select.second c.in-Select.is c.get-in-Select.ensures
+    c.get-in-Select-2.ensures
     c.get-in-Select-3.ensures c.in_ok-condition-in-Select.ensures c.in_ok-first-in-Select.ensures c.in_ok-second-in-Select.ensures
 
 pub by_other_variables-returns-in_ok-row-in-Load : goal.by_other_variables-returns-in_ok-row-in-Load
 by_other_variables-returns-in_ok-row-in-Load t c =
-    alike-load (AreKnown c.args.known.now) c.args.e.now c.in-Load.source c.in-Load.x c.in-Load.y c.get-in-Load.result.now c.get-in-Load-2.result.now c.in_ok-column-in-Load.column
+    alike-load (AreKnown c.args.known.now) c.args.e.now c.in-Load.source c.in-Load.x c.in-Load.y c.get-in-Load.result.now c.get-in-Load-2.result.now
+    c.in_ok-column-in-Load.column
     c.in_ok-row-in-Load.row c.in-Load.is c.get-in-Load.ensures c.get-in-Load-2.ensures c.in_ok-column-in-Load.ensures c.in_ok-row-in-Load.ensures

@@ -7,5 +7,6 @@ returns-in-None c = none-begins c.args.counter c.args.tasks c.new.result.items c
 
 pub returns-in_ok-context-in-Some : goal.returns-in_ok-context-in-Some
 returns-in_ok-context-in-Some c =
-    drawn-begins c.args.counter c.args.tasks c.in-Some.counter c.in_ok-scope-in-Some.scope.items c.nothing_known-outside.result c.in_ok-context-in-Some.context c.in-Some.is
+    drawn-begins c.args.counter c.args.tasks c.in-Some.counter c.in_ok-scope-in-Some.scope.items c.nothing_known-outside.result c.in_ok-context-in-Some.context
+    c.in-Some.is
     c.in_ok-scope-in-Some.ensures (omega arith) c.nothing_known-outside.ensures c.in_ok-context-in-Some.ensures

@@ -16,7 +16,8 @@ returns-in_ok-add_test-in-Bind t c =
     let enters = c.in_ok-entered-in-Bind.ensures in
     let lacks = c.guarded_lacks.ensures c.if-not-guarded_lacks.false in
     split-tested c.args.context.now entered.inner c.in-Bind.counter c.in-Bind.whole c.in-Bind.extent c.args.body.now c.in-Bind.inside c.get-in-Bind.result.now
-    entered.form.sum c.in_ok-made-in-Bind-2.made c.in-Bind.is c.get-in-Bind.ensures enters.value_is enters.meets c.in_ok-made-in-Bind-2.ensures lacks.store lacks.guards _
+    entered.form.sum c.in_ok-made-in-Bind-2.made c.in-Bind.is c.get-in-Bind.ensures enters.value_is enters.meets c.in_ok-made-in-Bind-2.ensures lacks.store
+    lacks.guards _
     refl
     (subst (λ (f : Form). TestToo c.args.context.now.bounds.items c.in_ok-made-in-Bind-2.made.guards.items (record { sum = f.sum; extent = c.in-Bind.extent })
     c.add_test.new.guards.items) c.into_form-form.ensures

@@ -27,6 +27,7 @@ returns c =
     let found = run_at-found c.requires.0 c.args.k c.place_of-place.result c.args.runs.now c.requires.1 c.place_of-place.ensures in
     let lookup = c.in_ok-run.ensures.lookup in
     let within = ltb-true _ _ (sym lookup.0) in
-    let is : slice_get c.args.runs.now c.place_of-place.result ≡ Some c.in_ok-run.run'.now = slice_get-get_or c.args.runs.now c.place_of-place.result c.in_ok-run.run'.now within ∙ ap (λ (r : Stretch). Some r) (sym lookup.1) in
+    let is : slice_get c.args.runs.now c.place_of-place.result ≡ Some c.in_ok-run.run'.now = slice_get-get_or c.args.runs.now c.place_of-place.result
+    c.in_ok-run.run'.now within ∙ ap (λ (r : Stretch). Some r) (sym lookup.1) in
     ap (λ (hart : ℕ). Some (hart, c.end.result - c.args.k)) c.hart.ensures ∙ ap (λ (end : ℕ). Some (c.in_ok-run.run'.now.hart, end - c.args.k)) c.end.ensures
     ∙ sym (found ∙ ap (from c.args.k) is)

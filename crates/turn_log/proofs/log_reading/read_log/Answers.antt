@@ -30,7 +30,8 @@ returns-in_default-clause-err c =
     let bytes = c.args.bytes.now in
     let harts = c.in_ok-harts.harts in
     let count = c.in_ok-harts.count in
-    let short = ends_short harts count c.loop.counter c.loop.invariant.0 c.loop.rest.now (front_runs harts count [] (drop 16 bytes)) c.loop-test.true c.in_default.ensures.long c.loop.invariant.3 in
+    let short = ends_short harts count c.loop.counter c.loop.invariant.0 c.loop.rest.now (front_runs harts count [] (drop 16 bytes)) c.loop-test.true
+    c.in_default.ensures.long c.loop.invariant.3 in
     runs_refused bytes harts count Truncated (sym c.in_ok-harts.ensures.value) short
 
 pub returns-in_err-judge-clause-err : goal.returns-in_err-judge-clause-err
@@ -42,7 +43,8 @@ returns-in_err-judge-clause-err c =
     let run = c.in-Some.run' in
     let fault = c.in_err-judge.field-0.0 in
     let bad = subst (λ (h : ℕ). judged h before run ≡ Err fault) c.loop.invariant.2 (c.in_err-judge.ensures before c.loop.invariant.1) in
-    let ended = ends_judged harts count c.loop.counter before c.loop.rest.now run fault (front_runs harts count [] (drop 16 bytes)) c.loop-test.true c.in-Some.ensures.long c.in-Some.ensures.parts.0 bad c.loop.invariant.3 in
+    let ended = ends_judged harts count c.loop.counter before c.loop.rest.now run fault (front_runs harts count [] (drop 16 bytes)) c.loop-test.true
+    c.in-Some.ensures.long c.in-Some.ensures.parts.0 bad c.loop.invariant.3 in
     let p = err_from_is_err_and c.from_residual-in_err-judge.result c.from_residual-in_err-judge.ensures.1 in
     rw (p.1, p.2) (refused fault (log_of bytes) (runs_refused bytes harts count fault (sym c.in_ok-harts.ensures.value) ended))
 
@@ -83,7 +85,8 @@ loop-preserved c =
       },
       ap (λ (l : LogState). l.harts) c.in_ok-push_run.ensures.ok ∙ c.loop.invariant.2,
       rw c.in-Some.ensures.parts.1
-          (goes_on harts count c.loop.counter before c.loop.rest.now run (front_runs harts count [] (drop 16 bytes)) c.loop-test.true c.in-Some.ensures.long c.in-Some.ensures.parts.0 good c.loop.invariant.3),
+          (goes_on harts count c.loop.counter before c.loop.rest.now run (front_runs harts count [] (drop 16 bytes)) c.loop-test.true c.in-Some.ensures.long
+          c.in-Some.ensures.parts.0 good c.loop.invariant.3),
     )
 
 pub returns-then-not-is_empty-clause-err : goal.returns-then-not-is_empty-clause-err
@@ -93,7 +96,8 @@ returns-then-not-is_empty-clause-err c =
     let count = c.in_ok-harts.count in
     let before = c.loop.invariant.0 in
     let good = is_done harts count c.loop.counter before c.loop.rest.now (front_runs harts count [] (drop 16 bytes)) c.loop-test.false c.loop.invariant.3 in
-    trailing_refused bytes harts count (behind before []) c.loop.rest.now (sym c.in_ok-harts.ensures.value) good (sym c.is_empty.ensures ∙ c.if-not-is_empty.true)
+    trailing_refused bytes harts count (behind before []) c.loop.rest.now (sym c.in_ok-harts.ensures.value) good (sym c.is_empty.ensures
+    ∙ c.if-not-is_empty.true)
 
 pub returns-clause-ok : goal.returns-clause-ok
 returns-clause-ok c =
@@ -102,4 +106,5 @@ returns-clause-ok c =
     let count = c.in_ok-harts.count in
     let before = c.loop.invariant.0 in
     let good = is_done harts count c.loop.counter before c.loop.rest.now (front_runs harts count [] (drop 16 bytes)) c.loop-test.false c.loop.invariant.3 in
-    whole_log bytes harts count (behind before []) c.loop.rest.now c.loop.log (sym c.in_ok-harts.ensures.value) good (sym c.is_empty.ensures ∙ c.if-not-is_empty.false) c.loop.invariant.2 (c.loop.invariant.1.turns ∙ sym (expanded-all before))
+    whole_log bytes harts count (behind before []) c.loop.rest.now c.loop.log (sym c.in_ok-harts.ensures.value) good (sym c.is_empty.ensures
+    ∙ c.if-not-is_empty.false) c.loop.invariant.2 (c.loop.invariant.1.turns ∙ sym (expanded-all before))

@@ -25,7 +25,8 @@ loop-rest-preserved c =
     let as_wide = c.extend_from_slice.ensures.capacity in
     let hart = c.hart.ensures ∙ ap (λ (s : Stretch). s.hart) c.stretch-item.is in
     let end = c.end-end.ensures ∙ ap (λ (s : Stretch). s.end) c.stretch-item.is in
-    let is_run : made c.hart.result (c.end-end.result - c.loop-rest.start) ≡ run = ap (λ (h : ℕ). made h (c.end-end.result - c.loop-rest.start)) hart ∙ ap (λ (e : ℕ). made first.hart (e - c.loop-rest.start)) end in
+    let is_run : made c.hart.result (c.end-end.result - c.loop-rest.start) ≡ run = ap (λ (h : ℕ). made h (c.end-end.result - c.loop-rest.start)) hart
+    ∙ ap (λ (e : ℕ). made first.hart (e - c.loop-rest.start)) end in
     let coded = c.to_bytes.ensures ∙ ap run_bytes is_run in
     let bytes = pushed ∙ ap (λ (b : List ℕ). out ++ b) coded in
     let others = flat_map run_bytes (runs_from first.end (drop 1 rest)) in
@@ -33,7 +34,8 @@ loop-rest-preserved c =
     let left = length-drop 1 rest in
     let is = subst (λ (rs : List Run). AreRuns c.loop-rest.invariant.2.0 rs) next c.loop-rest.invariant.2.1 in
     rw (take_rest rest 1, end) (
-      ap (λ (b : List ℕ). b ++ others) bytes ∙ append_assoc out (run_bytes run) others ∙ ap (λ (rs : List Run). out ++ flat_map run_bytes rs) (sym next) ∙ c.loop-rest.invariant.0,
+      ap (λ (b : List ℕ). b ++ others) bytes ∙ append_assoc out (run_bytes run) others ∙ ap (λ (rs : List Run). out ++ flat_map run_bytes rs) (sym next)
+          ∙ c.loop-rest.invariant.0,
       omega (arith, room, left, longer, as_wide, length-run run, ap length coded),
       (c.loop-rest.invariant.2.0, is.1),
     )

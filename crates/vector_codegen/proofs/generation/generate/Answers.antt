@@ -11,7 +11,8 @@ returns-then-phases-gt-MOST_PHASES-clause-err c = many-phases c.args.phases.now 
 
 pub returns-then-len-gt-MOST_WORDS-clause-err : goal.returns-then-len-gt-MOST_WORDS-clause-err
 returns-then-len-gt-MOST_WORDS-clause-err c =
-    many-words c.args.places.now c.args.phases.now c.new.result.items c.push_phases.new.begun.words.items c.new-2.result.items c.push_phases.new.begun.ends.items c.new.ensures.items
+    many-words c.args.places.now c.args.phases.now c.new.result.items c.push_phases.new.begun.words.items c.new-2.result.items
+    c.push_phases.new.begun.ends.items c.new.ensures.items
     c.in_ok-push_phases.ensures.emits
     (subst (λ n. 262144 < n) (c.len.ensures ∙ c.push_phases.new.begun.words.ok.0) c.if-len-gt-MOST_WORDS.true)
 

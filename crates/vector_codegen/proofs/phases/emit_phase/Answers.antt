@@ -12,7 +12,8 @@ pub returns-clause-ok : goal.returns-clause-ok
 returns-clause-ok c = λ is x.
     let e : length c.args.words.now ≡ length is = emits-length c.args.words.now is x in
     emits_then c.in_ok-emit_restored.ensures.0
-    (emits_then (subst (λ n. Emits c.emit_restored.new.code.items c.jump_forth.new.code.items (Jal 0 (forth (n + 1)) ∷ [])) c.door_words-way.ensures.is c.in_ok-jump_forth.ensures.ok)
+    (emits_then (subst (λ n. Emits c.emit_restored.new.code.items c.jump_forth.new.code.items (Jal 0 (forth (n + 1)) ∷ [])) c.door_words-way.ensures.is
+    c.in_ok-jump_forth.ensures.ok)
     (emits_then (subst (λ n. Emits c.jump_forth.new.code.items c.emit_door.new.code.items (door_code c.args.is_last (n + 3))) e c.in_ok-emit_door.ensures.ok)
     (emits_then c.in_ok-emit_draw.ensures (c.in_ok-emit_tasks.ensures.ok is x))))
 

@@ -8,4 +8,5 @@ returns-in_ok-push-in-Word-clause-added c = λ a given b makes.
 
 pub returns-in_ok-extend_from_slice-in-Words-clause-added : goal.returns-in_ok-extend_from_slice-in-Words-clause-added
 returns-in_ok-extend_from_slice-in-Words-clause-added c = λ a given b makes.
-    built_words c.args.self.now _ a given (c.in-Words.first ∷ c.in-Words.second ∷ []) b (rw c.in-Words.is at makes) refl c.in_ok-extend_from_slice-in-Words.ensures.items refl refl refl
+    built_words c.args.self.now _ a given (c.in-Words.first ∷ c.in-Words.second ∷ []) b (rw c.in-Words.is at makes) refl
+    c.in_ok-extend_from_slice-in-Words.ensures.items refl refl refl

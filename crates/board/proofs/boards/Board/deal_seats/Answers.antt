@@ -20,7 +20,10 @@ loop-hart-preserved c =
     let d = c.deal_seat-seat.ensures in (
       d.of,
       (search rules),
-      subst (AreNewSeats (name_of c.args.self.now) 0) (sym c.in_ok-push.ensures.items) (new-push (name_of c.args.self.now) 0 c.loop-hart.seats.items c.deal_seat-seat.result i.2 (subst (λ n. IsNewSeat (name_of c.args.self.now) n c.deal_seat-seat.result) (omega (arith, i.1)) d.seat)),
-      subst (All (IsUnused (name_of c.args.self.now))) (sym c.in_ok-push.ensures.items) (All-push (IsUnused (name_of c.args.self.now)) c.loop-hart.seats.items c.deal_seat-seat.result i.3 (d.seat.of, d.seat.number)),
-      d.rest ∙ ap (drop 1) f ∙ (let next : suc c.loop-hart.hart ≡ c.loop-hart.hart + 1 = omega (arith) in ap (λ n. at_start n (c.args.self.now.harts - n)) next),
+      subst (AreNewSeats (name_of c.args.self.now) 0) (sym c.in_ok-push.ensures.items) (new-push (name_of c.args.self.now) 0 c.loop-hart.seats.items
+          c.deal_seat-seat.result i.2 (subst (λ n. IsNewSeat (name_of c.args.self.now) n c.deal_seat-seat.result) (omega (arith, i.1)) d.seat)),
+      subst (All (IsUnused (name_of c.args.self.now))) (sym c.in_ok-push.ensures.items) (All-push (IsUnused (name_of c.args.self.now)) c.loop-hart.seats.items
+          c.deal_seat-seat.result i.3 (d.seat.of, d.seat.number)),
+      d.rest ∙ ap (drop 1) f ∙ (let next : suc c.loop-hart.hart ≡ c.loop-hart.hart + 1 = omega (arith) in ap (λ n. at_start n (c.args.self.now.harts - n))
+          next),
     )

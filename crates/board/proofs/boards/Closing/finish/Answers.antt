@@ -16,4 +16,5 @@ returns-clause-ends c =
 pub returns-clause-rest : goal.returns-clause-rest
 returns-clause-rest c =
     let v = c.close_with-closed.ensures.values in
-    λ hart beyond below. c.first_words-words.ensures hart below ∙ ap (λ words. slice_index words hart) (sym v.2.2) ∙ v.2.1.0.rest hart (subst (λ n. n ≤ hart) (sym c.args.self.board.ruled) beyond) below
+    λ hart beyond below. c.first_words-words.ensures hart below ∙ ap (λ words. slice_index words hart) (sym v.2.2)
+    ∙ v.2.1.0.rest hart (subst (λ n. n ≤ hart) (sym c.args.self.board.ruled) beyond) below

@@ -7,7 +7,8 @@ use Rattle.board.proofs.boards.Closing.take_glances.Goals as goal
 pub take_glance-requires : goal.take_glance-requires
 take_glance-requires c =
     let i = c.loop-glance.invariant in
-    let here = All-pop (IsGlanceOf (name_of c.args.self.now.board)) c.loop-glance.glances.items c.pop.new.self.items (Some c.in-Some.glance) c.in-Some.ensures.items i.1 in
+    let here = All-pop (IsGlanceOf (name_of c.args.self.now.board)) c.loop-glance.glances.items c.pop.new.self.items (Some c.in-Some.glance)
+    c.in-Some.ensures.items i.1 in
     here.1 ∙ ap name_of (sym i.0)
 
 pub loop-glance-preserved : goal.loop-glance-preserved
@@ -20,8 +21,11 @@ loop-glance-preserved c =
       here.0,
       λ numbers ends.
           let now = took.known numbers ends in
-          let before = i.2 numbers now.0 in
-          (before.0, λ rest. before.1 (subst (All (SawNoMore numbers)) (sym items) (All-push (SawNoMore numbers) c.pop.new.self.items c.in-Some.glance rest now.1))),
+          let before = i.2 numbers now.0 in (
+            before.0,
+            λ rest. before.1 (subst (All (SawNoMore numbers)) (sym items) (All-push (SawNoMore numbers) c.pop.new.self.items c.in-Some.glance rest
+                now.1)),
+          ),
     )
 
 pub returns-clause-known : goal.returns-clause-known

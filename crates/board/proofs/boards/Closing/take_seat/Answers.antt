@@ -10,5 +10,8 @@ pub returns-clause-known : goal.returns-clause-known
 returns-clause-known c numbers ends =
     let seat = c.args.seat in
     let was = c.args.self.now.gatherer.me.0 in
-    let parts = of-both ends.words was seat.token.me.0 (subst (Fits ends.words) (ap (λ m. m.0) c.join_seat.ensures.2) ends.fits) in
-    (record { words = ends.words; fits = parts.0; same = ends.same }, ends.same seat.hart seat.below ∙ knows-word ends.words seat.token.me.0.counts seat.hart seat.number seat.counts.0 parts.1)
+    let parts = of-both ends.words was seat.token.me.0 (subst (Fits ends.words) (ap (λ m. m.0) c.join_seat.ensures.2) ends.fits) in (
+      record { words = ends.words; fits = parts.0; same = ends.same },
+      ends.same seat.hart seat.below
+          ∙ knows-word ends.words seat.token.me.0.counts seat.hart seat.number seat.counts.0 parts.1,
+    )

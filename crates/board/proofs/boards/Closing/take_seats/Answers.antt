@@ -7,7 +7,8 @@ use Rattle.board.proofs.boards.Closing.take_seats.Goals as goal
 pub take_seat-requires : goal.take_seat-requires
 take_seat-requires c =
     let i = c.loop-seat.invariant in
-    let here = All-pop (IsSeatOf (name_of c.args.self.now.board)) c.loop-seat.seats.items c.pop.new.self.items (Some c.in-Some.seat) c.in-Some.ensures.items i.1 in
+    let here = All-pop (IsSeatOf (name_of c.args.self.now.board)) c.loop-seat.seats.items c.pop.new.self.items (Some c.in-Some.seat) c.in-Some.ensures.items i.1
+    in
     here.1 ∙ ap name_of (sym i.0)
 
 pub loop-seat-preserved : goal.loop-seat-preserved
@@ -20,8 +21,11 @@ loop-seat-preserved c =
       here.0,
       λ numbers ends.
           let now = took.known numbers ends in
-          let before = i.2 numbers now.0 in
-          (before.0, λ rest. before.1 (subst (All (HasItsWord numbers)) (sym items) (All-push (HasItsWord numbers) c.pop.new.self.items c.in-Some.seat rest now.1))),
+          let before = i.2 numbers now.0 in (
+            before.0,
+            λ rest. before.1 (subst (All (HasItsWord numbers)) (sym items) (All-push (HasItsWord numbers) c.pop.new.self.items c.in-Some.seat rest
+                now.1)),
+          ),
     )
 
 pub returns-clause-known : goal.returns-clause-known

@@ -17,7 +17,10 @@ invariant_of-result c =
     let kept = c.in_ok-kept.kept in
     let state : machine ≡ machine_of image log.harts = c.in_ok-machine.ensures.opened ∙ ap (machine_of image) c.harts.ensures.value in
     let insns : stores ≡ map store_in image.words = c.in_ok-insns.ensures ∙ ap (map store_in) c.words.ensures.value in
-    let free : AreFree (pages_of (length image.bytes)) kept = subst (λ (bytes : List ℕ). AreFree (pages_of (length bytes)) kept) c.data.ensures.value c.in_ok-kept.ensures.none in
+    let free : AreFree (pages_of (length image.bytes)) kept = subst (λ (bytes : List ℕ). AreFree (pages_of (length bytes)) kept) c.data.ensures.value
+    c.in_ok-kept.ensures.none in
     let held = held-at-start image log machine first stores kept c.words.ensures.rules state c.in_ok-opening.ensures insns free in
-    subst (λ (breaks : List ℕ). Held (record { image = image; log = log; place = 0; breaks = breaks; watches = c.new-2.result.items }) machine first stores kept) (sym c.new.ensures.items)
-    (subst (λ (watches : List ℕ). Held (record { image = image; log = log; place = 0; breaks = []; watches = watches }) machine first stores kept) (sym c.new-2.ensures.items) held)
+    subst (λ (breaks : List ℕ). Held (record { image = image; log = log; place = 0; breaks = breaks; watches = c.new-2.result.items }) machine first stores
+    kept) (sym c.new.ensures.items)
+    (subst (λ (watches : List ℕ). Held (record { image = image; log = log; place = 0; breaks = []; watches = watches }) machine first stores kept)
+    (sym c.new-2.ensures.items) held)

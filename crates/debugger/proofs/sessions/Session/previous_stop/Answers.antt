@@ -15,7 +15,11 @@ returns-in-Some-clause-stop c =
     record {
       before = omega (arith, latest.0, before);
       stops_there = latest.1;
-      greatest = λ k after under. elim (cases_lt last_place k) [ inl behind ↦ c.loop-last_place.invariant.none k behind under | inr up_to ↦ latest.2 k after up_to ];
+      greatest = λ k after under. elim (cases_lt last_place k) [
+        | inl behind ↦ c.loop-last_place.invariant.none k behind under
+        | inr up_to ↦ latest.2 k after
+            up_to
+      ];
     }
 
 pub loop-last_place-preserved : goal.loop-last_place-preserved
@@ -31,7 +35,11 @@ loop-last_place-preserved c =
       state = gone ∙ ap (moved session) (sym (ap (λ (s : SessionState). s.place) gone));
       steps = omega (arith, c.loop-last_place.invariant.steps, c.approach.ensures.steps, c.last_stop.ensures.steps);
       before = omega (arith, begin, c.approach.ensures.before, c.loop-last_place.invariant.before);
-      none = λ k after under. elim (cases_lt last_place k) [ inl behind ↦ c.loop-last_place.invariant.none k behind under | inr up_to ↦ latest k (omega (arith, begin)) up_to ];
+      none = λ k after under. elim (cases_lt last_place k) [
+        | inl behind ↦ c.loop-last_place.invariant.none k behind under
+        | inr up_to ↦ latest k
+            (omega (arith, begin)) up_to
+      ];
     }
 
 pub returns-clause-stop : goal.returns-clause-stop
@@ -41,4 +49,5 @@ returns-clause-stop c =
     let e = c.approach-2.ensures.state ∙ ap (λ (s : SessionState). moved s here.place) c.loop-last_place.invariant.state in
     let over : c.loop-last_place.last_place ≡ 0 = omega arith in
     let before = c.loop-last_place.invariant.before in
-    previous-at-start session here here.place c.stop_at_start.result e (omega arith) (λ k after under. c.loop-last_place.invariant.none k (omega arith) under) c.stop_at_start.ensures
+    previous-at-start session here here.place c.stop_at_start.result e (omega arith) (λ k after under. c.loop-last_place.invariant.none k (omega arith) under)
+    c.stop_at_start.ensures

@@ -7,7 +7,8 @@ pub loop-self-init : goal.loop-self-init
 loop-self-init c = record {
   state = c.approach.ensures.state;
   within = c.approach.ensures.before;
-  walked = walking-none c.args.self.now c.approach.new.self c.args.place c.approach.ensures.fits c.approach.ensures.steps c.approach.ensures.onwards c.approach.ensures.begins;
+  walked = walking-none c.args.self.now c.approach.new.self c.args.place c.approach.ensures.fits c.approach.ensures.steps c.approach.ensures.onwards
+      c.approach.ensures.begins;
 }
 
 pub loop-self-preserved : goal.loop-self-preserved
@@ -16,7 +17,8 @@ loop-self-preserved c =
     record {
       state = c.advance.ensures.state ∙ ap (λ (s : SessionState). moved s c.advance.new.self.state.place) invariant.state;
       within = c.advance.ensures.within;
-      walked = walking-on c.args.self.now c.loop-self.self c.advance.new.self c.args.place invariant.walked invariant.state c.advance.ensures.onwards c.advance.ensures.grows c.advance.ensures.steps;
+      walked = walking-on c.args.self.now c.loop-self.self c.advance.new.self c.args.place invariant.walked invariant.state c.advance.ensures.onwards
+          c.advance.ensures.grows c.advance.ensures.steps;
     }
 
 pub returns-clause-steps : goal.returns-clause-steps

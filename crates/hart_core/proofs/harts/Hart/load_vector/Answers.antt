@@ -12,7 +12,8 @@ returns-then-is_piece-clause-fits g c =
     let access = c.args.access.now in
     let p : IsPiece (length memory) (vectors_of c.args.self.now) access.group.width access.spacing access.vm (register c.args.self.now access.rs1) =
     rw (c.vectors.ensures, c.register-base.ensures) at (c.is_piece.ensures c.if-is_piece.true) in
-    ap (λ places. first_fault (length (g.M.Bytes.text c.args.memory.now)) (length memory) Reads (accesses_at access.group.width places)) (addresses-are _ _ _ _ _ _ p)
+    ap (λ places. first_fault (length (g.M.Bytes.text c.args.memory.now)) (length memory) Reads (accesses_at access.group.width places))
+    (addresses-are _ _ _ _ _ _ p)
     ∙ reads-free (length memory) (length (g.M.Bytes.text c.args.memory.now)) access.group.width _ _ p.lies
 
 pub returns-then-is_piece-clause-hart : goal.returns-then-is_piece-clause-hart

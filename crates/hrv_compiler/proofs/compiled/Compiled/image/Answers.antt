@@ -19,26 +19,47 @@ image_data-requires-clause-low c = lies_low c.self.inside.pipeline c.self.inside
 
 pub image_data-requires-clause-room : goal.image_data-requires-clause-room
 image_data-requires-clause-room c =
-    subst (λ (inputs : List Input). 8 * c.self.inside.boxes.layout.phases + total (map input_bytes inputs) ≤ c.self.inside.boxes.layout.size) (sym c.inputs-2.ensures.value)
+    subst (λ (inputs : List Input). 8 * c.self.inside.boxes.layout.phases + total (map input_bytes inputs) ≤ c.self.inside.boxes.layout.size)
+    (sym c.inputs-2.ensures.value)
     (inputs_fit c.self.inside.pipeline c.self.inside.schedule c.self.inside.boxes c.self.invariant.compiled.inferred_is)
 
 pub unwrap-requires : goal.unwrap-requires
 unwrap-requires c =
-    let own : CompiledContents = record { pipeline = c.self.inside.pipeline; schedule = c.self.inside.schedule; boxes = c.self.inside.boxes; words = c.self.inside.words.items; ends = c.self.inside.ends.items; stages = c.self.inside.stages.items } in
+    let own : CompiledContents = record {
+      pipeline = c.self.inside.pipeline;
+      schedule = c.self.inside.schedule;
+      boxes = c.self.inside.boxes;
+      words =
+          c.self.inside.words.items;
+      ends = c.self.inside.ends.items;
+      stages = c.self.inside.stages.items;
+    } in
     is_ok c.new.result (image_of own c.args.pictures.now)
     (c.new.ensures.exact
-    ∙ parts_pass own c.self.invariant c.args.pictures.now (ap (λ (inputs : List Input). judged inputs c.args.pictures.now) (sym c.inputs.ensures.value) ∙ (sym c.judge.ensures ∙ c.in_default.is)) c.in_ok-data.ensures.rules c.extend_from_slice.new.self.items c.in_ok-data.data.items (Some c.output-output.result)
+    ∙ parts_pass own c.self.invariant c.args.pictures.now (ap (λ (inputs : List Input). judged inputs c.args.pictures.now) (sym c.inputs.ensures.value)
+    ∙ (sym c.judge.ensures ∙ c.in_default.is)) c.in_ok-data.ensures.rules c.extend_from_slice.new.self.items c.in_ok-data.data.items
+    (Some c.output-output.result)
     (c.in_ok-extend_from_slice.ensures.items ∙ (ap (λ (l : List ℕ). l ++ c.as_slice.result.now) c.new-words.ensures.items ∙ c.as_slice.ensures.value))
     (c.in_ok-data.ensures.is ∙ ap (λ (inputs : List Input). image_data c.self.inside.boxes.layout inputs c.args.pictures.now) c.inputs-2.ensures.value)
     (subst (λ (own : CompiledContents). Some c.output-output.result ≡ output_of own.pipeline own.boxes) (sym c.self.view_is) c.output-output.ensures))
 
 pub returns-clause-is : goal.returns-clause-is
 returns-clause-is c =
-    let own : CompiledContents = record { pipeline = c.self.inside.pipeline; schedule = c.self.inside.schedule; boxes = c.self.inside.boxes; words = c.self.inside.words.items; ends = c.self.inside.ends.items; stages = c.self.inside.stages.items } in
+    let own : CompiledContents = record {
+      pipeline = c.self.inside.pipeline;
+      schedule = c.self.inside.schedule;
+      boxes = c.self.inside.boxes;
+      words =
+          c.self.inside.words.items;
+      ends = c.self.inside.ends.items;
+      stages = c.self.inside.stages.items;
+    } in
     subst (λ (own : CompiledContents). c.unwrap.result ≡ image_of own c.args.pictures.now) c.self.view_is
     (ok_is c.new.result (image_of own c.args.pictures.now) c.unwrap.result
     (c.new.ensures.exact
-    ∙ parts_pass own c.self.invariant c.args.pictures.now (ap (λ (inputs : List Input). judged inputs c.args.pictures.now) (sym c.inputs.ensures.value) ∙ (sym c.judge.ensures ∙ c.in_default.is)) c.in_ok-data.ensures.rules c.extend_from_slice.new.self.items c.in_ok-data.data.items (Some c.output-output.result)
+    ∙ parts_pass own c.self.invariant c.args.pictures.now (ap (λ (inputs : List Input). judged inputs c.args.pictures.now) (sym c.inputs.ensures.value)
+    ∙ (sym c.judge.ensures ∙ c.in_default.is)) c.in_ok-data.ensures.rules c.extend_from_slice.new.self.items c.in_ok-data.data.items
+    (Some c.output-output.result)
     (c.in_ok-extend_from_slice.ensures.items ∙ (ap (λ (l : List ℕ). l ++ c.as_slice.result.now) c.new-words.ensures.items ∙ c.as_slice.ensures.value))
     (c.in_ok-data.ensures.is ∙ ap (λ (inputs : List Input). image_data c.self.inside.boxes.layout inputs c.args.pictures.now) c.inputs-2.ensures.value)
     (subst (λ (own : CompiledContents). Some c.output-output.result ≡ output_of own.pipeline own.boxes) (sym c.self.view_is) c.output-output.ensures))
@@ -76,4 +97,5 @@ returns-clause-runs c =
     let none =
     subst (λ (own : CompiledContents). judged own.pipeline.inputs c.args.pictures.now ≡ None) c.self.view_is
     (ap (λ (inputs : List Input). judged inputs c.args.pictures.now) (sym c.inputs.ensures.value) ∙ (sym c.judge.ensures ∙ c.in_default.is)) in
-    subst (WritesWholeRuns c.args.self.now) (sym (returns-clause-is c)) (writes-whole-runs c.args.self.now rules c.args.pictures.now none c.in_ok-data.ensures.rules)
+    subst (WritesWholeRuns c.args.self.now) (sym (returns-clause-is c)) (writes-whole-runs c.args.self.now rules c.args.pictures.now none
+    c.in_ok-data.ensures.rules)

@@ -15,4 +15,5 @@ returns-in_ok-answer_line c =
 pub returns-else-not-is_empty : goal.returns-else-not-is_empty
 returns-else-not-is_empty c =
     let none : c.args.self.now.unended.items ≡ [] = grind (arith, common_steps) in
-    sym (ap (λ t. string_bytes c.args.text.now ++ t) (ap (talk c.args.self.now.session.state) none ∙ no_talk c.args.self.now.session.state) ∙ append-nil (string_bytes c.args.text.now))
+    sym (ap (λ t. string_bytes c.args.text.now ++ t) (ap (talk c.args.self.now.session.state) none ∙ no_talk c.args.self.now.session.state)
+    ∙ append-nil (string_bytes c.args.text.now))

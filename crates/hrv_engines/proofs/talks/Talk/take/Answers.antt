@@ -8,8 +8,10 @@ lines-init c = begins c.args.self.now.session.state c.args.self.now.unended.item
 
 pub lines-preserved : goal.lines-preserved
 lines-preserved c =
-    let on = step_on c.args.self.now.session.state c.args.self.now.unended.items c.args.bytes.now c.lines.self.session.state c.lines.self.unended.items c.lines.rest.now
-    (string_bytes c.args.text.now) (string_bytes c.lines.text) c.in-Some.line.now c.in-Some.others.now c.answer_line.new.session.state (string_bytes c.answer_line.new.text)
+    let on = step_on c.args.self.now.session.state c.args.self.now.unended.items c.args.bytes.now c.lines.self.session.state c.lines.self.unended.items
+    c.lines.rest.now
+    (string_bytes c.args.text.now) (string_bytes c.lines.text) c.in-Some.line.now c.in-Some.others.now c.answer_line.new.session.state
+    (string_bytes c.answer_line.new.text)
     c.lines.invariant c.in-Some.ensures.parts.0 c.in-Some.ensures.parts.1
     (rw (c.deref.ensures.value, c.in_ok-extend_from_slice.ensures.items) at c.in_ok-answer_line.ensures.text)
     (rw (c.deref.ensures.value, c.in_ok-extend_from_slice.ensures.items) at c.in_ok-answer_line.ensures.next)
@@ -18,7 +20,8 @@ lines-preserved c =
 
 pub returns-then-branch : goal.returns-then-branch
 returns-then-branch c =
-    step_over c.args.self.now.session.state c.args.self.now.unended.items c.args.bytes.now c.lines.self.session.state c.lines.self.unended.items c.lines.rest.now
+    step_over c.args.self.now.session.state c.args.self.now.unended.items c.args.bytes.now c.lines.self.session.state c.lines.self.unended.items
+    c.lines.rest.now
     (string_bytes c.args.text.now) (string_bytes c.lines.text) c.in-Some.line.now c.in-Some.others.now (string_bytes c.answer_line.new.text)
     c.lines.invariant c.in-Some.ensures.parts.0 c.in-Some.ensures.parts.1
     (rw (c.deref.ensures.value, c.in_ok-extend_from_slice.ensures.items) at c.in_ok-answer_line.ensures.text)

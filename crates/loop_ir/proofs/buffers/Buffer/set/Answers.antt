@@ -7,6 +7,8 @@ use Rattle.loop_ir.proofs.buffers.Buffer.set.Goals as goal
 
 pub returns-then-y-self-clause-pixels : goal.returns-then-y-self-clause-pixels
 returns-then-y-self-clause-pixels c =
-    let read : (BufferContents → Plane) = λ old i j. if has_point old c.args.x c.args.y && (i == c.args.x && j == c.args.y) then c.args.pixel else plane_of old i j in
-    written c.self.inside.width c.self.inside.height c.args.x c.args.y c.args.pixel c.self.inside.pixels.items c.if-x-self.true c.if-y-self.true c.self.invariant.full
+    let read : (BufferContents → Plane) = λ old i j. if has_point old c.args.x c.args.y && (i == c.args.x && j == c.args.y) then c.args.pixel else plane_of old
+    i j in
+    written c.self.inside.width c.self.inside.height c.args.x c.args.y c.args.pixel c.self.inside.pixels.items c.if-x-self.true c.if-y-self.true
+    c.self.invariant.full
     ∙ ap read c.self.view_is

@@ -8,5 +8,6 @@ pub returns-clause-value : goal.returns-clause-value
 unfolding linear_value
 returns-clause-value c = λ values.
     ap (λ (n : ℕ). (n + sum_of values c.take_away.new.terms) % 2 ^ 32) c.subtract.ensures
-    ∙ sums_apart c.args.self.number c.args.other.now.number (sum_of values c.args.self.terms) (sum_of values c.args.other.now.terms) (sum_of values c.take_away.new.terms) (omega arith) (omega arith)
+    ∙ sums_apart c.args.self.number c.args.other.now.number (sum_of values c.args.self.terms) (sum_of values c.args.other.now.terms)
+    (sum_of values c.take_away.new.terms) (omega arith) (omega arith)
     (ap (λ (ts : List Term). (sum_of values c.take_away.new.terms + sum_of values ts) % 2 ^ 32) (sym c.as_slice.ensures) ∙ c.in_ok-take_away.ensures.sum values)

@@ -16,7 +16,8 @@ loop-at-preserved c =
     let hart = get_or c.args.turns.now c.loop-at.at 0 in
     let one = subst (λ s. KeepsShape c.loop-at.self s) (sym c.turn.ensures.state) (shape-turn c.loop-at.self hart) in
     record {
-      state = c.turn.ensures.state ∙ ap (λ s. turn s hart) c.loop-at.invariant.state ∙ sym (run-more c.args.self.now c.args.turns.now c.loop-at.at (omega arith));
+      state = c.turn.ensures.state ∙ ap (λ s. turn s hart) c.loop-at.invariant.state
+          ∙ sym (run-more c.args.self.now c.args.turns.now c.loop-at.at (omega arith));
       known = grind (arith, elements, c.loop-at.invariant.shape.harts);
       shape = shape-then c.args.self.now c.loop-at.self _ c.loop-at.invariant.shape one;
     }

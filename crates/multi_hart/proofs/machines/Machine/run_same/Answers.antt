@@ -9,10 +9,12 @@ returns-else-stretch-turns-clause-state c =
     let s = c.step_on-stretch.ensures.stretch in
     let ended : c.step_on-stretch.result.last ≢ Stepped = λ is. c.if-stretch-turns.false (s.whole is) in
     c.step_on-stretch.ensures.state
-    ∙ stretched c.args.self.now c.args.hart c.step_on-stretch.result.made c.args.turns c.requires.there s.some (omega (arith, s.few, c.if-stretch-turns.false)) (λ is. ended (s.last_is ∙ is))
+    ∙ stretched c.args.self.now c.args.hart c.step_on-stretch.result.made c.args.turns c.requires.there s.some (omega (arith, s.few, c.if-stretch-turns.false))
+    (λ is. ended (s.last_is ∙ is))
 
 pub returns-else-stretch-turns-clause-outcome : goal.returns-else-stretch-turns-clause-outcome
 returns-else-stretch-turns-clause-outcome c =
     let s = c.step_on-stretch.ensures.stretch in
     let ended : c.step_on-stretch.result.last ≢ Stepped = λ is. c.if-stretch-turns.false (s.whole is) in
-    idles c.args.self.now c.args.hart c.step_on-stretch.result.made c.args.turns c.requires.there s.some (omega (arith, s.few, c.if-stretch-turns.false)) (λ is. ended (s.last_is ∙ is))
+    idles c.args.self.now c.args.hart c.step_on-stretch.result.made c.args.turns c.requires.there s.some (omega (arith, s.few, c.if-stretch-turns.false))
+    (λ is. ended (s.last_is ∙ is))

@@ -33,15 +33,18 @@ returns c =
     let harts = boxed_slice_items c.self.inside.harts in
     let one = c.index_mut-running.result.now in
     let made = c.run_alone.result.made in
-    let same = lent-run made start hart c.self.inside.memory harts one c.self.view_is c.requires.there c.index_mut-running.ensures.value _ _ c.run_alone.ensures.state in
+    let same = lent-run made start hart c.self.inside.memory harts one c.self.view_is c.requires.there c.index_mut-running.ensures.value
+    _ _ c.run_alone.ensures.state in
     let s = c.run_alone.ensures.stretch in
     record {
       state = same;
       stretch = record {
         some = s.some;
         few = s.few;
-        steps = λ k below. sym (lent-outcome k start hart c.self.inside.memory harts one c.self.view_is c.requires.there c.index_mut-running.ensures.value) ∙ s.steps k below;
-        last_is = s.last_is ∙ lent-outcome (made - 1) start hart c.self.inside.memory harts one c.self.view_is c.requires.there c.index_mut-running.ensures.value;
+        steps = λ k below. sym (lent-outcome k start hart c.self.inside.memory harts one c.self.view_is c.requires.there c.index_mut-running.ensures.value)
+            ∙ s.steps k below;
+        last_is = s.last_is ∙ lent-outcome (made - 1) start hart c.self.inside.memory harts one c.self.view_is c.requires.there
+            c.index_mut-running.ensures.value;
         whole = s.whole;
       };
       shape = subst (λ s. KeepsShape start s) (sym same) (shape-run start (replicate made hart));

@@ -8,6 +8,8 @@ returns c =
     let harts = boxed_slice_items c.self.inside.harts in
     let one = c.index_mut-running.result.now in
     record {
-      state = lent-run 1 c.args.self.now c.args.hart c.self.inside.memory harts one c.self.view_is c.requires.there c.index_mut-running.ensures.value _ _ c.step_meant.ensures.state;
-      outcome = c.step_meant.ensures.outcome ∙ lent-outcome 0 c.args.self.now c.args.hart c.self.inside.memory harts one c.self.view_is c.requires.there c.index_mut-running.ensures.value;
+      state = lent-run 1 c.args.self.now c.args.hart c.self.inside.memory harts one c.self.view_is c.requires.there c.index_mut-running.ensures.value
+          _ _ c.step_meant.ensures.state;
+      outcome = c.step_meant.ensures.outcome ∙ lent-outcome 0 c.args.self.now c.args.hart c.self.inside.memory harts one c.self.view_is c.requires.there
+          c.index_mut-running.ensures.value;
     }

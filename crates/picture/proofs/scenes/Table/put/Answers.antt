@@ -12,7 +12,8 @@ returns-then-column-self-clause-table c = λ plane is.
       | then-column-self-via-then-column-self w ↦ omega (arith, w.if-column-self.true, wide)
       | then-column-self-via-else-column-self+then-row-self w ↦ omega (arith, w.if-row-self.true, high)
     ] in
-    put-nothing plane own c.args.x c.args.y c.args.pixel c.subtract-column.result c.subtract-row.result is (omega arith) (omega arith) (omega arith) (omega arith)
+    put-nothing plane own c.args.x c.args.y c.args.pixel c.subtract-column.result c.subtract-row.result is (omega arith) (omega arith) (omega arith)
+    (omega arith)
     c.subtract-column.ensures c.subtract-row.ensures outside
 
 pub returns-then-at-len-clause-table : goal.returns-then-at-len-clause-table
@@ -20,6 +21,9 @@ returns-then-at-len-clause-table c = λ plane is.
     let own = c.args.self.now in
     let at = c.product.result + c.from.result in
     let within : at < length own.pixels.items = omega (arith, c.if-at-len.true, c.len.ensures, own.pixels.ok) in
-    put-pixel plane own _ c.args.x c.args.y c.args.pixel c.subtract-column.result c.subtract-row.result at is (omega arith) (omega arith) (omega arith) (omega arith) (omega arith) (omega arith)
-    c.subtract-column.ensures c.subtract-row.ensures c.if-column-self.false (omega (arith, c.product.ensures.value, c.from.ensures)) (record { left_is = refl; top_is = refl; width_is = refl; height_is = refl })
-    (length-set own.pixels.items at c.args.pixel) (get_or-set_same own.pixels.items at c.args.pixel 0 within) (λ k other. get_or-set_other own.pixels.items at k c.args.pixel 0 other)
+    put-pixel plane own _ c.args.x c.args.y c.args.pixel c.subtract-column.result c.subtract-row.result at is (omega arith) (omega arith) (omega arith)
+    (omega arith) (omega arith) (omega arith)
+    c.subtract-column.ensures c.subtract-row.ensures c.if-column-self.false (omega (arith, c.product.ensures.value, c.from.ensures))
+    (record { left_is = refl; top_is = refl; width_is = refl; height_is = refl })
+    (length-set own.pixels.items at c.args.pixel) (get_or-set_same own.pixels.items at c.args.pixel 0 within) (λ k other. get_or-set_other own.pixels.items at k
+    c.args.pixel 0 other)

@@ -12,7 +12,9 @@ pub invariant_of-self-2 : goal.invariant_of-self-2
 invariant_of-self-2 g c =
     let was = c.args.self.now in
     let pushed = c.in_ok-push.ensures.ok in record {
-      replays = c.turn.ensures.state ∙ ap (λ s. turn s c.args.hart) was.replays ∙ sym (run-push (machine_of g.O.Origin.image g.O.Origin.harts) was.log.turns c.args.hart) ∙ sym (ap (λ log. state_after g.O.Origin.image g.O.Origin.harts log.turns) pushed);
+      replays = c.turn.ensures.state ∙ ap (λ s. turn s c.args.hart) was.replays
+          ∙ sym (run-push (machine_of g.O.Origin.image g.O.Origin.harts) was.log.turns c.args.hart)
+          ∙ sym (ap (λ log. state_after g.O.Origin.image g.O.Origin.harts log.turns) pushed);
       same = ap (λ log. log.harts) pushed ∙ was.same;
       all = ap (λ s. length s.harts) c.turn.ensures.state ∙ length-turn was.machine c.args.hart ∙ was.all;
       is_log = subst IsLog (sym pushed) (log-push was.log c.args.hart was.is_log (search rules) (search rules));

@@ -27,15 +27,18 @@ loop-seat-preserved g c =
             sum = c.agree.ensures.tally;
             word = ap (slice_index words) (sym seat.hart) ∙ counted.1 ∙ seat.number;
           } in
-          subst (λ ts. All (IsToldIn g.O.Origin.image g.O.Origin.harts ts words) c.pop.new.self.items → All (IsToldIn g.O.Origin.image g.O.Origin.harts ts words) c.args.seats.items) (sym log)
-          (λ rest. before (subst (All (IsToldIn g.O.Origin.image g.O.Origin.harts turns words)) (sym items) (All-push (IsToldIn g.O.Origin.image g.O.Origin.harts turns words) c.pop.new.self.items seat rest told)));
+          subst (λ ts. All (IsToldIn g.O.Origin.image g.O.Origin.harts ts words) c.pop.new.self.items
+          → All (IsToldIn g.O.Origin.image g.O.Origin.harts ts words) c.args.seats.items) (sym log)
+          (λ rest. before (subst (All (IsToldIn g.O.Origin.image g.O.Origin.harts turns words)) (sym items)
+          (All-push (IsToldIn g.O.Origin.image g.O.Origin.harts turns words) c.pop.new.self.items seat rest told)));
     }
 
 pub returns-clause-told : goal.returns-clause-told
 returns-clause-told g c =
     let i = c.loop-seat.invariant in
     let log = ap (λ l. l.turns) c.into_parts-machine.ensures.same.1 in
-    subst (λ ts. All (IsToldIn g.O.Origin.image g.O.Origin.harts ts c.finish.result) c.args.seats.items) (sym log) (i.told c.finish.result c.finish.ensures.ends (search rules))
+    subst (λ ts. All (IsToldIn g.O.Origin.image g.O.Origin.harts ts c.finish.result) c.args.seats.items) (sym log) (i.told c.finish.result c.finish.ensures.ends
+    (search rules))
 
 pub take_glance-requires : goal.take_glance-requires
 take_glance-requires g c =

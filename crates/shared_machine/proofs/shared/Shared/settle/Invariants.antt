@@ -10,7 +10,8 @@ invariant-loop-seat g l = record {
   name : name_of l.closing.board ≡ name_of l.fn.self.board;
   harts : l.closing.board.harts ≡ l.fn.self.board.harts;
   of : All (IsSeatOf (name_of l.fn.self.board)) l.seats.items;
-  told : (words : List ℕ) → Ends l.closing words → All (IsToldIn g.O.Origin.image g.O.Origin.harts l.guarded.locked.log.turns words) l.seats.items → All (IsToldIn g.O.Origin.image g.O.Origin.harts l.guarded.locked.log.turns words) l.fn.seats.items;
+  told : (words : List ℕ) → Ends l.closing words → All (IsToldIn g.O.Origin.image g.O.Origin.harts l.guarded.locked.log.turns words) l.seats.items
+      → All (IsToldIn g.O.Origin.image g.O.Origin.harts l.guarded.locked.log.turns words) l.fn.seats.items;
 }
 
 abbrev pub decreases-loop-seat : goal.decreases-loop-seat

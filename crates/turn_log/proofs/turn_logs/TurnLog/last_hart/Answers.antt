@@ -16,4 +16,5 @@ returns c =
     let runs = c.self.inside.runs.items in
     let value = c.in_ok-run.ensures.value ∙ ap (λ (rs : List Stretch). slice_get rs (length rs - 1)) c.deref.ensures.value in
     let some : last_of runs ≡ Some c.in_ok-run.run'.now = sym (last_at runs) ∙ sym value in
-    ap (λ (h : ℕ). Some h) c.hart.ensures ∙ sym (last_hart-some c.self.inside.harts runs c.in_ok-run.run'.now c.self.invariant.runs some) ∙ ap (λ (l : LogState). slice_get l.turns (length l.turns - 1)) c.self.view_is
+    ap (λ (h : ℕ). Some h) c.hart.ensures ∙ sym (last_hart-some c.self.inside.harts runs c.in_ok-run.run'.now c.self.invariant.runs some)
+    ∙ ap (λ (l : LogState). slice_get l.turns (length l.turns - 1)) c.self.view_is

@@ -9,4 +9,5 @@ returns-in-Some c =
     let runs = c.self.inside.runs.items in
     let value = c.in-Some.ensures.value ∙ ap (λ (rs : List Stretch). slice_get rs (length rs - 1)) c.deref.ensures.value in
     let some : last_of runs ≡ Some c.in-Some.run'.now = sym (last_at runs) ∙ sym value in
-    c.end.ensures ∙ sym (length-some c.self.inside.harts runs c.in-Some.run'.now c.self.invariant.runs some) ∙ ap (λ (l : LogState). length l.turns) c.self.view_is
+    c.end.ensures ∙ sym (length-some c.self.inside.harts runs c.in-Some.run'.now c.self.invariant.runs some)
+    ∙ ap (λ (l : LogState). length l.turns) c.self.view_is

@@ -1,4 +1,5 @@
-use Rattle.std.proofs.Common.{◌≡◌, ◌≢◌, ℕ, ◌+◌, ◌-◌, ◌<◌, ◌≤◌, List, ◌++◌, replicate, length, slice_get, Some, Result, Ok, Err, OnErr, false, ap, sym, subst, ◌∙◌, arith, rules}
+use Rattle.std.proofs.Common.{◌≡◌, ◌≢◌, ℕ, ◌+◌, ◌-◌, ◌<◌, ◌≤◌, List, ◌++◌, replicate, length, slice_get, Some, Result, Ok, Err, OnErr, false, ap, sym, subst}
+use Rattle.std.proofs.Common.{◌∙◌, arith, rules}
 use Rattle.turn_log.specs.TurnLog.{LogState, count_of, most_turns}
 use Rattle.turn_log.specs.inner.Kept.{turns_of, is_of, IsKept}
 use Rattle.turn_log.specs.inner.Stretches.{Stretch}
@@ -53,6 +54,7 @@ on_err (Err error) known = known
 pub returns-in_err-push_stretch-clause-opens : goal.returns-in_err-push_stretch-clause-opens
 returns-in_err-push_stretch-clause-opens c =
     let runs = c.self.inside.runs.items in
-    let other : is_of (last_of runs) c.args.hart ≡ false = ap (λ o. is_of o c.args.hart) (sym (last_at runs)) ∙ (rw c.new.ensures at c.in_err-push_stretch.ensures.opens) in
+    let other : is_of (last_of runs) c.args.hart ≡ false = ap (λ o. is_of o c.args.hart) (sym (last_at runs))
+    ∙ (rw c.new.ensures at c.in_err-push_stretch.ensures.opens) in
     let Other : LogState → Type 0 = λ l. slice_get l.turns (length l.turns - 1) ≢ Some c.args.hart in
     on_err c.from_residual.result (subst Other c.self.view_is (last_turn-other c.self.inside.harts runs c.args.hart c.self.invariant.runs other))

@@ -29,7 +29,8 @@ returns-in_err-reserve-clause-full c =
     let log : LogState = record { harts = c.self.inside.harts; turns = turns_of c.self.inside.runs.items } in
     let kept = ap length (runs_of-kept c.self.inside.harts c.self.inside.totals c.self.inside.runs.items c.self.invariant) in
     let runs : length (runs_of log.turns) ≡ c.len-runs.result = omega (arith, kept, length-runs_from 0 c.self.inside.runs.items, c.len-runs.ensures) in
-    let len : length (spelled c.args.self.now) ≡ 16 + 9 * c.len-runs.result = ap (λ (l : LogState). length (spelled l)) (sym c.self.view_is) ∙ length-spelled log ∙ ap (λ (n : ℕ). 16 + 9 * n) runs in
+    let len : length (spelled c.args.self.now) ≡ 16 + 9 * c.len-runs.result = ap (λ (l : LogState). length (spelled l)) (sym c.self.view_is)
+    ∙ length-spelled log ∙ ap (λ (n : ℕ). 16 + 9 * n) runs in
     let p = err_from_is_err_and c.from_residual.result c.from_residual.ensures.1 in
     rw p.1 (rw len c.in_err-reserve.ensures.full)
 
@@ -45,8 +46,10 @@ returns-clause-ok c =
     let count : c.len-runs.result ≡ length runs = search rules in
     let pushed = rw c.unwrap.ensures at c.extend_from_slice.ensures.items in
     let begun : c.extend_from_slice.new.self.items ≡ out ++ head =
-    pushed ∙ ap (λ (o : List ℕ). o ++ c.header_bytes.result) c.in_ok-reserve.ensures.items ∙ ap (λ (b : List ℕ). out ++ b) (c.header_bytes.ensures ∙ ap (header c.self.inside.harts) count) in
+    pushed ∙ ap (λ (o : List ℕ). o ++ c.header_bytes.result) c.in_ok-reserve.ensures.items ∙ ap (λ (b : List ℕ). out ++ b) (c.header_bytes.ensures
+    ∙ ap (header c.self.inside.harts) count) in
     let ended : c.push_runs.new.out.items ≡ (out ++ head) ++ all =
-    c.push_runs.ensures ∙ ap (λ (rs : List Stretch). c.extend_from_slice.new.self.items ++ flat_map run_bytes (runs_from 0 rs)) c.deref.ensures.value ∙ ap (λ (o : List ℕ). o ++ all) begun in
+    c.push_runs.ensures ∙ ap (λ (rs : List Stretch). c.extend_from_slice.new.self.items ++ flat_map run_bytes (runs_from 0 rs)) c.deref.ensures.value
+    ∙ ap (λ (o : List ℕ). o ++ all) begun in
     ended ∙ append_assoc out head all ∙ ap (λ (b : List ℕ). out ++ b) (sym (spelled-kept c.self.inside.harts c.self.inside.totals runs c.self.invariant))
     ∙ ap (λ (l : LogState). out ++ spelled l) c.self.view_is

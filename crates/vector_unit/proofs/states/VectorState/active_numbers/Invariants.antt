@@ -11,5 +11,6 @@ invariant-loop-index l = record {
   few : length l.numbers ≤ l.index;
   end : l.index-end ≡ count l.self;
   at_most : count l.self ≤ 64;
-  left : IsLeft (is_active l.self.vl l.vm (register l.self 0)) (element_from l.self (bits_of l.width) l.v) (λ n. n) l.index (count l.self) l.numbers (active_numbers l.self l.width l.v l.vm);
+  left : IsLeft (is_active l.self.vl l.vm (register l.self 0)) (element_from l.self (bits_of l.width) l.v) (λ n. n) l.index (count l.self) l.numbers
+      (active_numbers l.self l.width l.v l.vm);
 }

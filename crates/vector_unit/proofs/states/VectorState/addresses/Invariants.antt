@@ -12,5 +12,6 @@ invariant-loop-index l = record {
   few : length l.addresses ≤ l.index;
   end : l.index-end ≡ count l.self;
   at_most : count l.self ≤ 64;
-  left : IsLeft (is_active l.self.vl l.vm (register l.self 0)) (offset l.self l.spacing) (word.add 32 l.base) l.index (count l.self) l.addresses (addresses_by l.self l.spacing l.vm l.base);
+  left : IsLeft (is_active l.self.vl l.vm (register l.self 0)) (offset l.self l.spacing) (word.add 32 l.base) l.index (count l.self) l.addresses
+      (addresses_by l.self l.spacing l.vm l.base);
 }
