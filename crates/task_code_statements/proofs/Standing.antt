@@ -41,7 +41,7 @@ use Rattle.task_code_statements.specs.declared.vectorizing.Guarded.{Guarded}
 use Rattle.task_code_statements.specs.Contexts.{Meets, MeetsLoop}
 use Rattle.task_code_statements.specs.Replacing.{AddsSum, IsReplaced, IsReplacedStore, IsRest, IsTimes, StandsAt}
 use Rattle.task_code_statements.specs.Rewriting.{IsSameSum}
-use Rattle.task_code_statements.specs.Splits.{BeginsAt, IsInner, IsPlus, IsSplitValue, IsValueOf, product}
+use Rattle.task_code_statements.specs.Splits.{BeginsAt, IsInner, IsSplitValue, IsValueOf, product}
 use Rattle.task_code_statements.specs.Vectorizing.{IsStoreOf, ReplacesIn, passes}
 use Rattle.task_code_statements.proofs.AtOnce.{effect-left, sound-left}
 use Rattle.task_code_statements.proofs.Plainness.{named-with}
@@ -50,14 +50,6 @@ use Rattle.task_code_statements.proofs.Splitting.{is-below, number-value, whole-
 use Rattle.task_code_statements.proofs.Storing.{same-sound}
 
 -- ---- the variable times a stride
-
-pub times-one : (own : Standing) (stride : ℕ) (made : Expr) → stride ≡ 1 → made ≡ own.e → IsTimes own stride made
-times-one own stride made es em = record {
-  value_is = λ reads values stands.
-      let g : stands.at % 2 ^ 32 ≡ (stands.at * 1) % 2 ^ 32 = omega arith in
-      ap (value reads values) em ∙ stands.value_is reads ∙ g ∙ sym (ap (λ n. (stands.at * n) % 2 ^ 32) es);
-  none = λ reads values stands. ap (loads reads values) em ∙ stands.none reads;
-}
 
 pub times-more : (own : Standing) (stride : ℕ) (first second : Expr) → first ≡ own.e → second ≡ e.Number stride
     → IsTimes own stride (e.Binary op.Multiply first second)
@@ -86,15 +78,12 @@ plus-none own sum zero none = record {
   loads_are = λ reads values. refl;
 }
 
-pub plus-is : (own : Expr) (sum : Linear) (first second : Expr) → first ≡ own → second ≡ e.Linear sum → IsPlus own sum (e.Binary op.Add first second)
-plus-is own sum first second ef es reads values =
-    value_binary reads values op.Add first second
-    ∙ ap (λ n. word.add n (value reads values second)) (ap (value reads values) ef)
-    ∙ ap (word.add (value reads values own)) (ap (value reads values) es ∙ value_linear reads values sum)
-
 pub plus-some : (own : Expr) (sum : Linear) (first second : Expr) → first ≡ own → second ≡ e.Linear sum → AddsSum own sum (e.Binary op.Add first second)
 plus-some own sum first second ef es = record {
-  value_is = λ reads values small. plus-is own sum first second ef es reads values;
+  value_is = λ reads values small.
+      value_binary reads values op.Add first second
+      ∙ ap (λ n. word.add n (value reads values second)) (ap (value reads values) ef)
+      ∙ ap (word.add (value reads values own)) (ap (value reads values) es ∙ value_linear reads values sum);
   loads_are = λ reads values.
       loads_binary reads values op.Add first second
       ∙ ap (λ l. l ++ loads reads values second) (ap (loads reads values) ef)
@@ -111,12 +100,6 @@ pub rest-is : (counter : Counter) (sum own : Linear) (made : Form) → own ≡ s
 rest-is counter sum own made eo is values v =
     sym (first-form (with counter v values) made) ∙ is.value 0 v values
     ∙ first-form (with counter 0 values) (record { sum = own; per_hart = 0 }) ∙ ap (linear_value (with counter 0 values)) eo
-
-pub sum-same : (own : Standing) (sum made : Linear) → made ≡ sum → IsReplaced own (e.Linear sum) (e.Linear made)
-sum-same own sum made is = record {
-  value_is = λ reads values stands. ap (λ l. value reads values (e.Linear l)) is;
-  loads_are = λ reads values stands. ap (λ l. loads reads values (e.Linear l)) is;
-}
 
 regrouped : (p a none : ℕ) → none ≡ 0 → word.add (p % 2 ^ 32) ((a + none) % 2 ^ 32) ≡ (a + p) % 2 ^ 32
 unfolding word.add
@@ -171,15 +154,20 @@ inner-is context whole known bounds count own made ek eb is same below = record 
 sum-less : (n i last extent : ℕ) → last < extent → i % 2 ^ 32 < extent - last → (min n last + i) % 2 ^ 32 < extent
 sum-less n i last extent below less = omega (arith, below, less)
 
+lesser-small : (n last : ℕ) → min (n % 2 ^ 32) last < 2 ^ 32
+lesser-small n last = omega arith
+
 pub value-of : (context : Context) (whole : Whole) (last extent : ℕ) (inner : Linear) (start own : Expr) → whole.last ≡ Some last → last < extent
-    → IsInner context whole (extent - last) inner → BeginsAt context whole start → IsPlus start inner own → IsStill own → IsValueOf context whole extent own
-unfolding word.add
+    → IsInner context whole (extent - last) inner → BeginsAt context whole start → AddsSum start inner own → IsStill own → IsValueOf context whole extent own
+unfolding word.add word.multiply
 value-of context whole last extent inner start own el below is begins plus still = record {
   value_is = λ reads values meets.
       let n = at_most whole.last (product whole values) in
       let i = values whole.inner in
       let g : (n + i % 2 ^ 32) % 2 ^ 32 ≡ (n + i) % 2 ^ 32 = omega arith in
-      plus reads values
+      let small : at_most whole.last (product whole values) < 2 ^ 32 =
+      subst (λ o. at_most o (product whole values) < 2 ^ 32) (sym el) (lesser-small (values whole.outer * whole.factor) last) in
+      plus.value_is reads values (subst (λ k. k < 2 ^ 32) (sym (begins reads values meets)) small)
       ∙ ap (λ k. word.add k (linear_value values inner)) (begins reads values meets)
       ∙ ap (word.add n) (is.value_is values meets) ∙ g;
   none = still.none;
@@ -192,12 +180,7 @@ value-of context whole last extent inner start own el below is begins plus still
 pub split-value : (context : Context) (whole : Whole) (extent : ℕ) (found : Option Expr) → is_name whole.outer ≡ false → is_name whole.inner ≡ false
     → IfSome found (IsValueOf context whole extent) → IfSome found (IsSplitValue context whole extent)
 split-value context whole extent None outer inner is = tt
-split-value context whole extent (Some own) outer inner is = record {
-  value_is = is.value_is;
-  none = is.none;
-  plain = whole-plain whole outer inner;
-  below = is.below;
-}
+split-value context whole extent (Some e) outer inner is = record { own = is; plain = whole-plain whole outer inner }
 
 -- ---- stores
 
@@ -231,7 +214,7 @@ module _ (context within : Context) (whole : Whole) (extent : ℕ) (own : Standi
   statement-is = sym (es ∙ ap (s.Bind own.counter whole extent) (sym eb))
 
   inside-meets : (values : Values) → Meets context values → Meets within (at values)
-  inside-meets values meets = meets-loop.meets values (whole_value whole values) (is.below values meets) meets
+  inside-meets values meets = meets-loop.meets values (whole_value whole values) (is.own.below values meets) meets
 
   at-named : (values named : Values) → AreNamed values named → AreNamed (at values) (at named)
   at-named values named same =
@@ -245,13 +228,13 @@ module _ (context within : Context) (whole : Whole) (extent : ℕ) (own : Standi
     at = whole_value whole named;
     is = refl;
     value_is = λ reads.
-        replaces.own_lacks.value_is reads named (whole_value whole named) ∙ is.value_is reads named meets ∙ sym (whole-word whole named);
-    none = λ reads. replaces.own_lacks.loads_are reads named (whole_value whole named) ∙ is.none reads named;
+        replaces.own_lacks.value_is reads named (whole_value whole named) ∙ is.own.value_is reads named meets ∙ sym (whole-word whole named);
+    none = λ reads. replaces.own_lacks.loads_are reads named (whole_value whole named) ∙ is.own.none reads named;
   }
 
   passed : (values named : Values) → AreNamed values named → Meets context named → nat_lt (whole_value whole values) extent ≡ true
   passed values named same meets =
-      is-below (whole_value whole values) extent (subst (λ n. n < extent) (is.plain values named same) (is.below named meets))
+      is-below (whole_value whole values) extent (subst (λ n. n < extent) (is.plain values named same) (is.own.below named meets))
 
   guards-are : (named : Values) → passes old.guards.items (at named) ≡ passes made.guards.items named
   guards-are named =

@@ -72,12 +72,16 @@ AddsInner whole start sum =
 
 -- ---- values that are no sums
 
--- An expression that loads nothing has a split loop's value wherever the context holds. The value hangs on no name, and stays below an extent.
-pub record IsSplitValue (context : Context) (whole : Whole) (extent : ℕ) (e : Expr) : Type 0 where
+-- An expression that loads nothing has a split loop's value wherever the context holds, and stays below an extent.
+pub record IsValueOf (context : Context) (whole : Whole) (extent : ℕ) (e : Expr) : Type 0 where
   pub value_is : (reads : Reads) (values : Values) → Meets context values → value reads values e ≡ whole_value whole values
   pub none : (reads : Reads) (values : Values) → loads reads values e ≡ []
-  pub plain : (values named : Values) → AreNamed values named → whole_value whole named ≡ whole_value whole values
   pub below : (values : Values) → Meets context values → whole_value whole values < extent
+
+-- so it is, and the value hangs on no name
+pub record IsSplitValue (context : Context) (whole : Whole) (extent : ℕ) (e : Expr) : Type 0 where
+  pub own : IsValueOf context whole extent e
+  pub plain : (values named : Values) → AreNamed values named → whole_value whole named ≡ whole_value whole values
 
 -- a run begins at an expression's value
 abbrev pub BeginsAt : Context → Whole → Expr → Type 0
@@ -88,13 +92,3 @@ BeginsAt context whole e =
 pub record IsInner (context : Context) (whole : Whole) (count : ℕ) (sum : Linear) : Type 0 where
   pub value_is : (values : Values) → Meets context values → linear_value values sum ≡ values whole.inner % 2 ^ 32
   pub below : (values : Values) → Meets context values → linear_value values sum < count
-
--- an expression is the sum of another one and a sum
-abbrev pub IsPlus : Expr → Linear → Expr → Type 0
-IsPlus e sum made = (reads : Reads) (values : Values) → value reads values made ≡ word.add (value reads values e) (linear_value values sum)
-
--- so it is with the value of a split loop, but for what it loads
-pub record IsValueOf (context : Context) (whole : Whole) (extent : ℕ) (e : Expr) : Type 0 where
-  pub value_is : (reads : Reads) (values : Values) → Meets context values → value reads values e ≡ whole_value whole values
-  pub none : (reads : Reads) (values : Values) → loads reads values e ≡ []
-  pub below : (values : Values) → Meets context values → whole_value whole values < extent

@@ -42,7 +42,7 @@ fn times(alloc: Global, own: &Standing, stride: u32) -> Result<Expr, AllocError>
 }
 
 /// An expression and a sum.
-fn plus(alloc: Global, e: Expr, sum: Linear) -> Result<Expr, AllocError>
+pub(crate) fn plus(alloc: Global, e: Expr, sum: Linear) -> Result<Expr, AllocError>
     ensures { IfOk result (AddsSum e sum) }
 {
     if sum.number == 0 && sum.terms.len() == 0 {

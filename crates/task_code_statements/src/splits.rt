@@ -2,16 +2,16 @@
 
 ghost use Rattle.std.specs.Prelude.{◌≡◌, ◌-◌, ◌<◌, ◌^◌, ◌≤◌, IfOk, IfSome, Some, min, true};
 ghost use Rattle.task_code_statements.specs.Splits.{AddsInner, BeginsAt, BeginsRun, EntersSplit, HasLesser, IsInner};
-ghost use Rattle.task_code_statements.specs.Splits.{IsPlus, IsProduct, IsSplitSum, IsSplitValue, IsStart, IsValueOf};
+ghost use Rattle.task_code_statements.specs.Splits.{IsProduct, IsSplitSum, IsSplitValue, IsStart, IsValueOf};
 
 use crate::contexts::{Context, with_sum};
 use crate::lessers::{NEGATIVE, lesser_of};
 use crate::plain::is_name;
+use crate::replacing::plus;
 use crate::rewriting::sum_by_others;
-use halide_pipeline::Operation;
 use loop_ir::expressions::{Counter, Expr, Linear, Term, same_counter};
 use loop_ir::statements::{Stmt, Whole};
-use sqlite_items::{Boxed, Items};
+use sqlite_items::Items;
 use std::alloc::{AllocError, Global};
 use task_code_loops::bounds::{Bound, is_below};
 use task_code_names::copies::is_still;
@@ -229,15 +229,6 @@ fn inner_below(
     }
 }
 
-/// An expression and a sum.
-fn added(alloc: Global, e: Expr, sum: Linear) -> Result<Expr, AllocError>
-    ensures { IfOk result (IsPlus e sum) }
-{
-    let first = Boxed::new(alloc, e)?;
-    let second = Boxed::new(alloc, Expr::Linear(sum))?;
-    Ok(Expr::Binary(Operation::Add, first, second))
-}
-
 /// The value of a split loop whose last run begins here, as an expression, if it stays below an extent.
 fn value_up_to(
     alloc: Global,
@@ -258,7 +249,7 @@ fn value_up_to(
     let Some(start) = start_as_lesser(alloc, context, whole, last)? else {
         return Ok(None);
     };
-    let e = added(alloc, start, inner)?;
+    let e = plus(alloc, start, inner)?;
     if is_still(&e) { Ok(Some(e)) } else { Ok(None) }
 }
 
