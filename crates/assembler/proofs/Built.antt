@@ -1,17 +1,15 @@
 -- An object that grows line by line.
-use Rattle.std.proofs.Common.{vec_len, ◌≡◌, ℕ, ◌+◌, ◌==◌, suc, true, false, List, [], ◌∷◌, ◌++◌, length, Option, Some, None, Ok, Err, refl, sym, ap, subst, ◌∙◌}
+use Rattle.std.proofs.Common.{vec_len, ◌≡◌, ℕ, ◌==◌, suc, false, List, [], ◌∷◌, ◌++◌, length, Option, Some, None, Ok, refl, sym, ap, subst, ◌∙◌}
 use Rattle.std.proofs.lemmas.List.{append-nil}
 use Rattle.std.specs.Prelude.{unwrap_or}
 use Rattle.memory.specs.Access.{text_start}
 use Rattle.loader.specs.Image.{ImageContents}
 use Rattle.loader.specs.declared.outputs.Output.{Output}
-use Rattle.assembler.specs.Judging.{Given, Item, nothing, these_items, these_bytes}
+use Rattle.assembler.specs.Judging.{Given, Item, these_items}
 use Rattle.assembler.specs.Object.{Assembled, AreItems, IsObject, entry_or_first, or_new, with_given, worded}
 use Rattle.assembler.specs.Products.{GivesWords}
 use Rattle.assembler.specs.Building.{IsBuilt}
 use Rattle.assembler.specs.declared.building.Building.{Building}
-use Rattle.assembler.specs.declared.faults.AsmFault.TheVariants.{Syntax}
-use Rattle.assembler.specs.declared.places.Place.{Place}
 
 -- ---- words of items
 
@@ -48,12 +46,6 @@ built_more old new a given words b here is_words are is_bytes is_entry is_output
   output = is_output ∙ ap (λ (o : Option Output). or_new o given.output) b.output;
 }
 
-pub built_nothing : (old : Building) (a : Assembled) (given : Given) → IsBuilt old a → given ≡ nothing → IsBuilt old (grown a given)
-built_nothing old a given b is =
-    subst (λ (g : Given). IsBuilt old (grown a g)) (sym is)
-    (built_more old old a nothing [] b refl (sym (append-nil old.words.items)) tt (sym (append-nil old.bytes.items)) (sym (or_none old.entry))
-    (sym (or_none old.output)))
-
 pub built_words : (old new : Building) (a : Assembled) (given : Given) (words : List ℕ) → IsBuilt old a → GivesWords words given
     → new.here ≡ old.here → new.words.items ≡ old.words.items ++ words → new.bytes ≡ old.bytes → new.entry ≡ old.entry → new.output ≡ old.output
     → IsBuilt new (grown a given)
@@ -61,44 +53,6 @@ built_words old new a given words b gives here is_words is_bytes is_entry is_out
     subst (λ (g : Given). IsBuilt new (grown a g)) (sym gives.1)
     (built_more old new a (these_items gives.0) words b here is_words gives.2 (ap (λ v. v.items) is_bytes ∙ sym (append-nil old.bytes.items))
     (is_entry ∙ sym (or_none old.entry)) (is_output ∙ sym (or_none old.output)))
-
-pub built_bytes : (old new : Building) (a : Assembled) (given : Given) (bytes : List ℕ) → IsBuilt old a → given ≡ these_bytes bytes
-    → new.here ≡ old.here → new.words ≡ old.words → new.bytes.items ≡ old.bytes.items ++ bytes → new.entry ≡ old.entry → new.output ≡ old.output
-    → IsBuilt new (grown a given)
-built_bytes old new a given bytes b is here is_words is_bytes is_entry is_output =
-    subst (λ (g : Given). IsBuilt new (grown a g)) (sym is)
-    (built_more old new a (these_bytes bytes) [] b here (ap (λ v. v.items) is_words ∙ sym (append-nil old.words.items)) tt is_bytes
-    (is_entry ∙ sym (or_none old.entry)) (is_output ∙ sym (or_none old.output)))
-
-pub built_entry : (old new : Building) (a : Assembled) (given : Given) (at : ℕ) → IsBuilt old a → given ≡ record nothing { entry = Some at }
-    → new.here ≡ old.here → new.words ≡ old.words → new.bytes ≡ old.bytes → new.entry ≡ or_new old.entry (Some at) → new.output ≡ old.output
-    → IsBuilt new (grown a given)
-built_entry old new a given at b is here is_words is_bytes is_entry is_output =
-    subst (λ (g : Given). IsBuilt new (grown a g)) (sym is)
-    (built_more old new a (record nothing { entry = Some at }) [] b here (ap (λ v. v.items) is_words ∙ sym (append-nil old.words.items)) tt
-    (ap (λ v. v.items) is_bytes ∙ sym (append-nil old.bytes.items)) is_entry (is_output ∙ sym (or_none old.output)))
-
-pub built_output : (old new : Building) (a : Assembled) (given : Given) (picture : Output) → IsBuilt old a → given ≡ record nothing { output = Some picture }
-    → new.here ≡ old.here → new.words ≡ old.words → new.bytes ≡ old.bytes → new.entry ≡ old.entry → new.output ≡ or_new old.output (Some picture)
-    → IsBuilt new (grown a given)
-built_output old new a given picture b is here is_words is_bytes is_entry is_output =
-    subst (λ (g : Given). IsBuilt new (grown a g)) (sym is)
-    (built_more old new a (record nothing { output = Some picture }) [] b here (ap (λ v. v.items) is_words ∙ sym (append-nil old.words.items)) tt
-    (ap (λ v. v.items) is_bytes ∙ sym (append-nil old.bytes.items)) (is_entry ∙ sym (or_none old.entry)) is_output)
-
--- ---- behind the line
-
-pub built_behind : (old new : Building) (a : Assembled) (given : Given) (behind : Place) → IsBuilt old (grown a given)
-    → new ≡ record old { here = record { line = old.here.line + 1; place = behind } } → IsBuilt new (with_given a behind given)
-built_behind old new a given behind b is =
-    subst (λ (n : Building). IsBuilt n (with_given a behind given)) (sym is)
-    (record {
-      here = ap (λ h. record { line = h.line + 1; place = behind }) b.here;
-      words = b.words;
-      bytes = b.bytes;
-      entry = b.entry;
-      output = b.output;
-    })
 
 -- ---- at the end
 
@@ -108,11 +62,6 @@ counted building = sym building.words.ok.0
 pub worded_some : (building : Building) (a : Assembled) → IsBuilt building a → (vec_len building.words == 0) ≡ false → worded a ≡ Ok a
 worded_some building a b some =
     let count : (length a.items == 0) ≡ false = sym (ap (λ n. n == 0) (sym (counted building) ∙ one_each building.words.items a.items b.words)) ∙ some in
-    rw count refl
-
-pub worded_none : (building : Building) (a : Assembled) → IsBuilt building a → (vec_len building.words == 0) ≡ true → worded a ≡ Err (1, Syntax)
-worded_none building a b none =
-    let count : (length a.items == 0) ≡ true = sym (ap (λ n. n == 0) (sym (counted building) ∙ one_each building.words.items a.items b.words)) ∙ none in
     rw count refl
 
 entry_is : (entry : Option ℕ) → unwrap_or entry text_start ≡ entry_or_first entry

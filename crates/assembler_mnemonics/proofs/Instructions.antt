@@ -1,6 +1,5 @@
 -- Forms and fields against instructions: an instruction is made again from its form and its fields.
-use Rattle.std.proofs.Common.{◌≡◌, ℕ, ◌==◌, ℤ, pos, negsuc, List, ◌↔◌, refl, sym, ◌∙◌, ap, arith, Bool, true, false}
-use Rattle.rv_insn.specs.Encoding.{bit_of}
+use Rattle.std.proofs.Common.{◌≡◌, ℕ, ◌==◌, ℤ, pos, negsuc, List, ◌↔◌, sym, ◌∙◌, ap, arith, Bool}
 use Rattle.rv_insn.specs.Table.{name_of, fields_of, Means}
 use Rattle.rv_insn.specs.VectorTable.{vector_fields_of}
 use Rattle.rv_insn.specs.declared.instructions.Insn.{Insn}
@@ -39,10 +38,6 @@ number_in fields k = number_of (field_at fields k)
 
 flag_in : List ℤ → ℕ → Bool
 flag_in fields k = number_of (field_at fields k) == 1
-
-flag_back : (b : Bool) → (bit_of b == 1) ≡ b
-flag_back true = refl
-flag_back false = refl
 
 addressing_made : AddressMode → List ℤ → Addressing
 addressing_made modes.UnitStride fields = addressings.UnitStride

@@ -26,18 +26,10 @@ same_times_left a b n e =
     let q : b * n ≡ n * b = omega arith in
     omega (arith, same_times n a b e, p, q)
 
--- what is cut
-pub cut_same : (a r : ℕ) → r ≡ min a most → Same r a
-cut_same a r e = omega (arith, e)
-
 -- plain numbers
 pub sums_same : (o f s p g t x y : ℕ) → Same o p → Same f g → Same s t → Same (o + (f * x + s * y)) (p + (g * x + t * y))
 sums_same o f s p g t x y e h i =
     same_add o p (f * x + s * y) (g * x + t * y) e (same_add (f * x) (g * x) (s * y) (t * y) (same_times_left f g x h) (same_times_left s t y i))
-
-pub arguments_same : (o f s x y m n : ℕ) → Same x m → Same y n → Same (o + (f * x + s * y)) (o + (f * m + s * n))
-arguments_same o f s x y m n e h = same_add o o (f * x + s * y) (f * m + s * n) refl (same_add (f * x) (f * m) (s * y) (s * n) (same_times f x m e)
-    (same_times s y n h))
 
 pub plus_parts : (o f s p g t x y : ℕ) → (o + p) + ((f + g) * x + (s + t) * y) ≡ (o + (f * x + s * y)) + (p + (g * x + t * y))
 plus_parts o f s p g t x y = omega (arith, add_times f g x, add_times s t y)
@@ -53,10 +45,6 @@ times_parts n o f s x y = omega (arith, group n f x, group n s y, times_add n o 
 
     times_add : (a b c : ℕ) → a * (b + c) ≡ a * b + a * c
     times_add a b c = omega arith
-
--- one after the other
-pub same_then : (a b c : ℕ) → Same a b → Same b c → Same a c
-same_then a b c e f = e ∙ f
 
 pub applied_same : (own f s nn t1 t2 p1 p2 x y m n : ℕ) → Same nn own → Same t1 (f * x) → Same t2 (s * y) → Same p1 (t1 + t2) → Same p2 (nn + p1) → Same x m
     → Same y n

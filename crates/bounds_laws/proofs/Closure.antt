@@ -161,22 +161,6 @@ module _ (pipeline : Pipeline) (schedule : Schedule) (boxes : Boxes) (rules : Is
           absurd (true≢false (sym (flag_is schedule.standings place own there.standing ∙ ap is_inlined e) ∙ plain))
       by_place places.Nowhere e = absurd (true≢false (sym (ap is_nowhere e) ∙ somewhere))
 
-  not_put : (place : ℕ) (own : Standing) → IsReached schedule.standings place own → IsComputed place own.place → put pipeline schedule place ≡ false
-  not_put place own there computed = ap is_put_in there.standing ∙ (ap (λ (b : Bool). b && is_inlined own.place) there.reached ∙ by_place own.place computed)
-    where
-      by_place : (p : Place) → IsComputed place p → (true && is_inlined p) ≡ false
-      by_place places.Root c = refl
-      by_place (places.At at) c = refl
-      by_place places.Inlined c = absurd c
-      by_place places.Nowhere c = absurd c
-
-  plain_of : (place : ℕ) (own : Standing) → IsReached schedule.standings place own → put pipeline schedule place ≡ false → flags pipeline schedule place ≡ false
-  plain_of place own there e = agree pipeline schedule place (ap reached_of there.standing ∙ there.reached) ∙ e
-    where
-      reached_of : Option Standing → Bool
-      reached_of None = false
-      reached_of (Some s) = s.is_reached
-
   -- ---- a Func that has a box
 
   module _ (reader : ℕ) (own : SourceBox) (own_is : slice_get boxes.funcs reader ≡ Some (Some own)) (values : List ℕ) (below : Below values own.lasts) (x y : ℕ)

@@ -12,7 +12,7 @@ use Rattle.turn_log.specs.TurnLog.{LogState}
 use Rattle.loader.specs.Image.{ImageContents}
 use Rattle.loader.specs.Loading.{machine_of}
 use Rattle.debugger_pages.specs.declared.pages.PageCopy.{PageCopy}
-use Rattle.debugger_pages.specs.Pages.{AreBelow, Holds, HoldsUnwritten, IsPage, Marks, found, is_written, lowest, over, pages_of, slot_at}
+use Rattle.debugger_pages.specs.Pages.{AreBelow, Holds, IsPage, Marks, found, is_written, lowest, over, pages_of, slot_at}
 use Rattle.debugger_pages.proofs.Laying.{holds_same, over_congruent}
 use Rattle.debugger_pages.proofs.Marking.{marks_none}
 use Rattle.debugger.specs.declared.kept.Kept.{Kept}
@@ -297,16 +297,6 @@ copy-kept image log kept place machine copy fits here within every is =
       harts = is.harts ∙ ap (λ (s : State). s.harts) state;
       holds = subst (λ (s : State). Holds s.memory (over copy.pages.items (last_kept image kept))) state (is.holds (last_kept image kept) fits.last);
     }
-
-pub copy-is : (place : ℕ) (machine : State) (written : List Bool) (bytes : List ℕ) (copy : KeptPlace) → bytes ≡ machine.memory → copy.place ≡ place
-    → copy.harts.items ≡ machine.harts → All (IsPage (length bytes)) copy.pages.items
-    → ((f : ℕ → ℕ) → HoldsUnwritten written bytes f → Holds bytes (over copy.pages.items f)) → IsCopy place machine written copy
-copy-is place machine written bytes copy same named harts pages holds = record {
-  place_is = named;
-  harts = harts;
-  pages = subst (λ (m : List ℕ). All (IsPage (length m)) copy.pages.items) same pages;
-  holds = subst (λ (m : List ℕ). (f : ℕ → ℕ) → HoldsUnwritten written m f → Holds m (over copy.pages.items f)) same holds;
-}
 
 -- ---- none is kept
 

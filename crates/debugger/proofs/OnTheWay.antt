@@ -1,6 +1,6 @@
 -- The turns that are counted on the way to a place.
 use Rattle.std.proofs.Common.{◌≡◌, ℕ, zero, suc, ◌+◌, ◌-◌, ◌%◌, ◌^◌, ◌<◌, ◌≤◌, refl, sym, ap, ◌∙◌, arith}
-use Rattle.std.specs.Prelude.{◌≢◌, min}
+use Rattle.std.specs.Prelude.{◌≢◌}
 use Rattle.debugger.specs.Counts.{Walked, counted, steps_from}
 use Rattle.debugger.specs.Places.{CountedSession, SessionState, moved}
 use Rattle.debugger.proofs.Counting.{counted-on, steps-on}
@@ -9,13 +9,6 @@ use Rattle.debugger.proofs.Counting.{counted-on, steps-on}
 steps-moved : (session : SessionState) (at place n : ℕ) → steps_from (moved session at) place n ≡ steps_from session place n
 steps-moved session at place zero = refl
 steps-moved session at place (suc n) = let before = steps-moved session at place n in omega (arith, before)
-
--- so many turns, counted up to the place behind them
-pub counted-behind : (session : SessionState) (steps turns made now : ℕ) → made ≡ steps_from session session.place turns → now ≡ min (steps + made) (2 ^ 64 - 1)
-    → now ≡ counted steps (steps_from session session.place (session.place + turns - session.place))
-counted-behind session steps turns made now e is =
-    let n : turns ≡ session.place + turns - session.place = omega arith in
-    is ∙ ap (counted steps) (e ∙ ap (steps_from session session.place) n)
 
 -- as Walked, on the way to a place
 pub record Walking (before after : CountedSession) (target : ℕ) : Type 0 where

@@ -25,11 +25,6 @@ pub record AtOnce (session : SessionState) (place hart count turns : ℕ) : Type
   pub there : hart < length (state_at session place).harts
   pub rests : 1 < turns → (hart_at (state_at session place) hart).status ≢ Running
 
-pub state-behind : (session : SessionState) (place hart count turns : ℕ) → AtOnce session place hart count turns
-    → run (state_at session place) (replicate turns hart) ≡ state_at session (place + turns)
-state-behind session place hart count turns once =
-    sym (run-standing (machine_of session.image session.log.harts) session.log.turns place hart count turns once.stand once.most)
-
 still : (session : SessionState) (place hart count turns n : ℕ) → AtOnce session place hart count turns → 1 < turns → n ≤ count
     → state_at session (place + n) ≡ state_at session place
 still session place hart count turns n once two within =
@@ -71,9 +66,6 @@ stops-at-end session place hart count turns on_break changed once e f =
     ∙ ap (λ b. on_break || b) (watches-behind session place turns once.some (still-last session place hart count turns once) ∙ sym f)
 
 -- ---- turns up to one behind which a mark may stop
-
-pub quiet-one : (state : State) (hart : ℕ) (breaks watches : List ℕ) → IsQuietUntil state hart breaks watches 1
-quiet-one state hart breaks watches = record { on_none = λ k some few. absurd (omega arith); changes_none = λ k some few. absurd (omega arith) }
 
 pub quiet-more : (state : State) (hart : ℕ) (breaks watches : List ℕ) (turns : ℕ) → IsQuietUntil state hart breaks watches turns
     → list_any (λ mark. mark == (hart_at (run state (replicate turns hart)) hart).pc) breaks ≡ false

@@ -7,7 +7,6 @@ use Rattle.std.specs.Option.{option_eq}
 use Rattle.std.proofs.lemmas.Bool.{eq-eqb, cases_lt}
 use Rattle.multi_hart.specs.Run.{State, hart_at, word_in}
 use Rattle.debugger.specs.Places.{SessionState, state_at}
-use Rattle.debugger.specs.inner.Passing.{Latest}
 use Rattle.debugger.specs.Stops.{stands_on, break_stops, differs, watch_stops, stops}
 
 any-none : (xs : List ℕ) → list_any (λ x. false) xs ≡ false
@@ -75,18 +74,6 @@ stops-between session place turns hart some here before next =
 
 -- ---- the last stop up to a place
 
-pub latest-behind : (session : SessionState) (from end : ℕ) → stops session end ≡ true → Latest session from end (Some end)
-latest-behind session from end stop = (omega arith, stop, λ k after within. absurd (omega arith))
-
-pub latest-between : (session : SessionState) (from place turns : ℕ) → 1 < turns → ((k : ℕ) → place < k → k < place + turns → stops session k ≡ true)
-    → stops session (place + turns) ≡ false → Latest session from (place + turns) (Some (place + turns - 1))
-latest-between session from place turns two between behind = (
-  omega arith,
-  between (place + turns - 1) (omega arith) (omega arith),
-  λ k after within. let e : k ≡ place + turns = omega arith in ap (stops session) e
-      ∙ behind,
-)
-
 further : (session : SessionState) (place turns k : ℕ) → place < k → k ≤ place + turns → ((k : ℕ) → place < k → k < place + turns → stops session k ≡ false)
     → stops session (place + turns) ≡ false → stops session k ≡ false
 further session place turns k after within between behind =
@@ -95,20 +82,6 @@ further session place turns k after within between behind =
       | inr not_less ↦ let e : k ≡ place + turns = omega arith in ap (stops session) e
           ∙ behind
     ]
-
-pub latest-keeps : (session : SessionState) (from place turns : ℕ) (last : Option ℕ) → ((k : ℕ) → place < k → k < place + turns → stops session k ≡ false)
-    → stops session (place + turns) ≡ false → Latest session from place last → Latest session from (place + turns) last
-latest-keeps session from place turns None between behind latest =
-    λ k from-k within. elim (cases_lt place k) [ inl after ↦ further session place turns k after within between behind | inr here ↦ latest k from-k here ]
-latest-keeps session from place turns (Some stop) between behind latest = (
-  omega (arith, latest.0),
-  latest.1,
-  λ k after within. elim (cases_lt place k) [
-    | inl past ↦ further session place turns k past within between behind
-    | inr
-        here ↦ latest.2 k after here
-  ],
-)
 
 -- at the start only breaks stop
 pub stops-start : (session : SessionState) (on_break : Bool) → on_break ≡ list_any (break_stops session 0) session.breaks → stops session 0 ≡ on_break

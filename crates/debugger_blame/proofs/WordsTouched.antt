@@ -4,7 +4,7 @@ use Rattle.std.proofs.Common.{subst, take}
 use Rattle.std.proofs.Math.Seq.{take-length}
 use Rattle.std.specs.Prelude.{if◌then◌else◌, slice_index}
 use Rattle.std.proofs.lemmas.Bool.Decides.{nat_tests}
-use Rattle.memory.specs.Access.{access_at, places_of, touched, Byte, Half, Word}
+use Rattle.memory.specs.Access.{access_at, places_of, touched}
 use Rattle.rv_insn.specs.declared.vector_operations.ElementWidth.{ElementWidth}
 use Rattle.hart_core.specs.VectorRows.{accesses_at, size_of}
 use Rattle.multi_hart.specs.Run.{is_in}
@@ -27,10 +27,6 @@ or_apart a0 b0 a1 b1 a2 b2 a3 b3 =
     ap (λ x. (x || (a2 || b2)) || (a3 || b3)) (or_swap a0 b0 a1 b1)
     ∙ ap (λ x. x || (a3 || b3)) (or_swap (a0 || a1) (b0 || b1) a2 b2)
     ∙ or_swap ((a0 || a1) || a2) ((b0 || b1) || b2) a3 b3
-
-if_or : (e a : Bool) → (if e then true else a) ≡ e || a
-if_or true a = refl
-if_or false a = refl
 
 -- ---- words among places
 
@@ -64,50 +60,6 @@ one_place word place =
     one : (other : ℕ) → is_in other (place ∷ []) ≡ (other == place)
     one other = or_none (other == place)
 
-word_in_cons : (word place : ℕ) (places : List ℕ) → is_word_in word (place ∷ places) ≡ is_byte_of_word word place || is_word_in word places
-word_in_cons word place places = word_in_both word (place ∷ []) places ∙ ap (λ x. x || is_word_in word places) (one_place word place)
-
--- a word with a byte of a number has its first byte or its last
-byte_touched : (word a : ℕ) → is_word_in word (places_of (access_at Byte a)) ≡ is_byte_of_word word a
-byte_touched word a = one_place word a
-
-half_touched : (word a : ℕ) → is_word_in word (places_of (access_at Half a)) ≡ is_byte_of_word word (a + 1) || is_byte_of_word word a
-half_touched word a =
-    word_in_cons word a ((a + 1) ∷ [])
-    ∙ ap (λ x. is_byte_of_word word a || x) (one_place word (a + 1))
-    ∙ swapped (is_byte_of_word word a) (is_byte_of_word word (a + 1))
-  where
-    swapped : (x y : Bool) → x || y ≡ y || x
-    swapped true true = refl
-    swapped true false = refl
-    swapped false true = refl
-    swapped false false = refl
-
-word_touched : (word a : ℕ) → is_word_in word (places_of (access_at Word a)) ≡ is_byte_of_word word (a + 3) || is_byte_of_word word a
-word_touched word a =
-    word_in_cons word a ((a + 1) ∷ (a + 2) ∷ (a + 3) ∷ [])
-    ∙ ap (λ x. is_byte_of_word word a || x) (word_in_cons word (a + 1) ((a + 2) ∷ (a + 3) ∷ [])
-    ∙ ap (λ x. is_byte_of_word word (a + 1) || x) (word_in_cons word (a + 2) ((a + 3) ∷ [])
-    ∙ ap (λ x. is_byte_of_word word (a + 2) || x) (one_place word (a + 3))))
-    ∙ ends (is_byte_of_word word a) (is_byte_of_word word (a + 1)) (is_byte_of_word word (a + 2)) (is_byte_of_word word (a + 3)) refl refl refl refl
-  where
-    second : is_byte_of_word word a ≡ false → is_byte_of_word word (a + 3) ≡ false → is_byte_of_word word (a + 1) ≡ true → ⊥
-    second first last here = grind (arith, nat_tests)
-
-    third : is_byte_of_word word a ≡ false → is_byte_of_word word (a + 3) ≡ false → is_byte_of_word word (a + 2) ≡ true → ⊥
-    third first last here = grind (arith, nat_tests)
-
-    ends : (t0 t1 t2 t3 : Bool) → is_byte_of_word word a ≡ t0 → is_byte_of_word word (a + 1) ≡ t1 → is_byte_of_word word (a + 2) ≡ t2
-        → is_byte_of_word word (a + 3) ≡ t3 → t0 || (t1 || (t2 || t3)) ≡ t3 || t0
-    ends true t1 t2 true e0 e1 e2 e3 = refl
-    ends true t1 t2 false e0 e1 e2 e3 = refl
-    ends false true t2 true e0 e1 e2 e3 = refl
-    ends false true t2 false e0 e1 e2 e3 = absurd (second e0 e3 e1)
-    ends false false true true e0 e1 e2 e3 = refl
-    ends false false true false e0 e1 e2 e3 = absurd (third e0 e3 e2)
-    ends false false false true e0 e1 e2 e3 = refl
-    ends false false false false e0 e1 e2 e3 = refl
-
 -- ---- words that are marked
 
 -- marked once more, which marks those of either test
@@ -132,23 +84,6 @@ pub marked_so : (first : ℕ) (test other : ℕ → Bool) (mark : ℕ) (old new 
 marked_so first test other mark old new same marked = record {
   each = λ k below. marked.each k below ∙ ap (λ (b : Bool). if b then mark else slice_index old k) (sym (same (first + 4 * k)));
 }
-
-pub byte_marked : (first a mark : ℕ) (old new : List ℕ) → Marked first (λ word. is_byte_of_word word a) mark old new
-    → Marked first (λ word. is_word_in word (places_of (access_at Byte a))) mark old new
-byte_marked first a mark old new marked =
-    marked_so first (λ word. is_byte_of_word word a) (λ word. is_word_in word (places_of (access_at Byte a))) mark old new (λ word. byte_touched word a) marked
-
-pub half_marked : (first a mark : ℕ) (old between new : List ℕ) → length between ≡ length old → Marked first (λ word. is_byte_of_word word a) mark old between
-    → Marked first (λ word. is_byte_of_word word (a + 1)) mark between new → Marked first (λ word. is_word_in word (places_of (access_at Half a))) mark old new
-half_marked first a mark old between new as_many once again =
-    marked_twice first (λ word. is_byte_of_word word a) (λ word. is_byte_of_word word (a + 1)) (λ word. is_word_in word (places_of (access_at Half a))) mark
-    old between new as_many once again (λ word. half_touched word a)
-
-pub word_marked : (first a mark : ℕ) (old between new : List ℕ) → length between ≡ length old → Marked first (λ word. is_byte_of_word word a) mark old between
-    → Marked first (λ word. is_byte_of_word word (a + 3)) mark between new → Marked first (λ word. is_word_in word (places_of (access_at Word a))) mark old new
-word_marked first a mark old between new as_many once again =
-    marked_twice first (λ word. is_byte_of_word word a) (λ word. is_byte_of_word word (a + 3)) (λ word. is_word_in word (places_of (access_at Word a))) mark
-    old between new as_many once again (λ word. word_touched word a)
 
 -- places of two lists, one after the other
 pub both_marked : (first : ℕ) (xs ys : List ℕ) (mark : ℕ) (old between new : List ℕ) → length between ≡ length old

@@ -204,10 +204,6 @@ later_unwritten : (slot : Slot) (slots : List Slot) (fields : List ℤ) → is_w
 unfolding later_text
 later_unwritten slot slots fields written = rw written refl
 
-all_shown_more : (slot : Slot) (slots : List Slot) (fields : List ℤ) → all_shown (slot ∷ slots) fields ≡ shown slot fields ++ all_shown slots fields
-unfolding all_shown
-all_shown_more slot slots fields = refl
-
 later_reads : (slots : List Slot) (fields : List ℤ) (count : ℕ) → AllReach count slots → FitsSlots fields slots
     → Reads (later_text slots fields) (later_tokens (all_shown slots fields))
 unfolding later_text later_tokens all_shown

@@ -107,9 +107,6 @@ module _ (reader : Reader) (scope : Scope) where
 
   -- ---- an update that breaks none of the rules of names and divisors
 
-  plain_from : (m : Marks) → m.is_unknown ≡ false → m.is_wrong_count ≡ false → m.is_bad_divisor ≡ false → IsPlain m
-  plain_from m known counts divisors = record { known = known; counts = counts; divisors = divisors }
-
   index_exceeds : (index : Option Written) → IsPlain (lines.marks_of (made_index (j.judging reader scope) index))
       → r.second_exceeds lines.exceeds (made_index (j.judging reader scope) index) ≡ r.second_exceeds (asked.exceeds reader scope) index
   index_exceeds None plain = refl

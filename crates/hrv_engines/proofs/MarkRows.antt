@@ -7,7 +7,7 @@ use Rattle.std.proofs.lemmas.List.{map-append}
 use Rattle.std.specs.List.{join_with_byte}
 use Rattle.std.specs.Prelude.{IsTrue, map, codes, ◌==◌, if◌then◌else◌, Some, None, Option}
 use Rattle.memory.specs.Access.{data_start, most_bytes}
-use Rattle.loader.specs.Image.{ImageContents, IsImage, is_output, is_output_or_none, is_within_limits}
+use Rattle.loader.specs.Image.{is_output, is_output_or_none}
 use Rattle.loader.specs.declared.outputs.Output.{Output}
 use Rattle.multi_hart.specs.Run.{State}
 use Rattle.picture.specs.Reading.{heading, number_text, row_text}
@@ -145,13 +145,3 @@ module _ (marking : Marking) (begin : State) (turns marks : List ℕ) (output : 
 output_fits : (bytes : ℕ) (o : Option Output) (output : Output) → o ≡ Some output → IsTrue (is_output_or_none bytes o) → IsTrue (is_output bytes output)
 output_fits bytes None output is fits = absurd cc
 output_fits bytes (Some other) output is fits = (let same : other ≡ output = cc in ap (is_output bytes) (sym same) ∙ fits)
-
-pub lies_in_data : (image : ImageContents) (output : Output) → IsImage image → image.output ≡ Some output → LiesInData output
-lies_in_data image output rules is = record {
-  bytes = length image.bytes;
-  few = few rules.limits;
-  fits = output_fits (length image.bytes) image.output output is rules.output;
-}
-  where
-    few : IsTrue (is_within_limits image) → length image.bytes ≤ most_bytes
-    few h = grind (arith, nat_tests)

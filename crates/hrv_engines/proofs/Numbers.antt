@@ -96,7 +96,3 @@ hexadecimal_last digits front last is all =
     capped_hexadecimal (hexadecimal_number front) (hexadecimal_value last)
     ∙ sym (whole is_hexadecimal hexadecimal_number digits front last is all
     ∙ ap below_most (fold-append (λ number byte. number * 16 + hexadecimal_value byte) 0 front (last ∷ [])))
-
--- a byte is less than 256, and so is what it stands for
-pub small_value : (byte : ℕ) → byte < 2 ^ 8 → hexadecimal_value byte < 256
-small_value byte small = grind (arith, nat_tests)

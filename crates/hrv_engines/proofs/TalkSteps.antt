@@ -13,7 +13,7 @@ use Rattle.hrv_engines.specs.Talk.{Answer, answer, answers, quits, talk, talk_en
 use Rattle.hrv_engines.specs.TalkSoFar.{BrokenTalk, GoesOn, HeldTalk, HoldsTalk, IsOver, SoFar, TalkBroke, Took, WaitingTalk}
 use Rattle.hrv_engines.specs.Debug.{IsRefusedSession, TalkGaveUp, Talks, session_of}
 use Rattle.hrv_engines.specs.Devices.{Sources, Taken}
-use Rattle.hrv_engines.specs.Engine.{Unmeant, Unread, Unwritten, Writes}
+use Rattle.hrv_engines.specs.Engine.{Unmeant, Unwritten, Writes}
 use Rattle.hrv_engines.proofs.Steps.{passed}
 use Rattle.hrv_engines.proofs.Splits.{HasNo, has_no-append, last_line, line_and_more}
 
@@ -93,18 +93,6 @@ step_over old line bytes s left rest before middle found others after g split cl
           g.lasts more ∙ ap (talk_ends s) (same more) ∙ ends_line s (left ++ found) (others ++ more) is_line
           ∙ cond_true a.is_last true (talk_ends a.next (others ++ more)) (sym last);
     }
-
--- bytes without a line feed are of a line that has not ended
-pub step_rest : (old : SessionState) (line bytes : List ℕ) (s : SessionState) (left rest before after : List ℕ) (new : List ℕ)
-    → GoesOn old line bytes s left rest before after
-    → HasNo 10 rest → new ≡ left ++ rest → GoesOn old line bytes s new [] before after
-step_rest old line bytes s left rest before after new g clean is =
-    subst (λ (l : List ℕ). GoesOn old line bytes s l [] before after) (sym is)
-    (record {
-      answered = λ more. g.answered more ∙ ap (λ t. after ++ talk s t) (sym (append_assoc left rest more));
-      lasts = λ more. g.lasts more ∙ ap (talk_ends s) (sym (append_assoc left rest more));
-      is_line = has_no-append 10 left rest g.is_line clean;
-    })
 
 -- a last line that no line feed ends
 pub last_talk : (s : SessionState) (line : List ℕ) → IsLine line → line ≢ [] → talk s line ≡ (answer s line).text
@@ -309,17 +297,6 @@ module _ (files : Sources (List ℕ × List ℕ)) (lines : Sources (List ℕ)) (
   talks_not : {X : Type 0} (r : Result X Fault) → IsErrAnd r (TalkGaveUp files lines lines_ended sink) → Talks files lines lines_ended sink r
   talks_not (Ok x) p = absurd p
   talks_not (Err fault) p = p
-
-  -- the files were not all read
-  pub files_unread : {X : Type 0} (r : Result X Fault) (fault : Fault) → IsErrAnd r (λ f. f ≡ fault) → lines.untouched → lines.well → sink.untouched → sink.well
-      → Unread files fault → Talks files lines lines_ended sink r
-  files_unread r fault is lines_still lines_well still well p = talks_not r (passed (TalkGaveUp files lines lines_ended sink) r fault is (gave_up fault p))
-    where
-      gave_up : (f : Fault) → Unread files f → TalkGaveUp files lines lines_ended sink f
-      gave_up (Refused refusal) q = absurd q
-      gave_up (File path) q = inl (q, lines_still, still)
-      gave_up Memory q = (q, lines_well, well, inl (lines_still, still))
-      gave_up Thread q = q
 
   -- they have no session
   pub files_refused : {X : Type 0} (r : Result X Fault) (fault : Fault) (inputs : List ℕ × List ℕ) → IsErrAnd r (λ f. f ≡ fault) → lines.untouched → lines.well

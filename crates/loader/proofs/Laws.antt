@@ -33,11 +33,6 @@ refuses_from HartCount wanted e = e
 refuses_from StoredZero wanted e = e
 refuses_from OutOfMemory wanted e = tt
 
--- an exact answer
-pub answers_from : (answer wanted : Result ImageContents LoadFault) → wanted ≡ answer → Answers answer wanted
-answers_from (Ok image) wanted e = e
-answers_from (Err fault) wanted e = refuses_from fault wanted e
-
 -- an error that is passed on
 pub answers_err : (answer : Result ImageContents LoadFault) (fault : LoadFault) (wanted : Result ImageContents LoadFault) → IsErrAnd answer (λ f. f ≡ fault)
     → wanted ≡ Err fault

@@ -87,9 +87,6 @@ some_length [] k x e = absurd cc
 some_length (y ∷ ys) zero x e = omega arith
 some_length (y ∷ ys) (suc k) x e = omega (arith, some_length ys k x e)
 
-no_updates_length : {A : Type 0} (xs : List A) → xs ≡ [] → length xs ≡ 0
-no_updates_length xs e = ap length e
-
 one_loop : (a b : LoopPlace) (p : Place) → p ≡ places.At a → p ≡ places.At b → a ≡ b
 one_loop a b p e f = cc
 
@@ -180,12 +177,6 @@ module _ (pipeline : Pipeline) (schedule : Schedule) (boxes : Boxes) (rules : Is
   -- All of these are kept.
   abbrev KeepsOuter : ℕ → Planes → Planes → Type 0
   KeepsOuter inner funcs after = (k x y : ℕ) → IsOuter inner k → after k x y ≡ funcs k x y
-
-  shared_kept : (funcs after : Planes) → ((k standing_at : ℕ) → Unit {0}) → ((k x y : ℕ) (standing : Standing) → k < consumer
-      → IsReached schedule.standings k standing → standing.place ≡ places.Root → after k x y ≡ funcs k x y)
-      → Shared funcs → Shared after
-  shared_kept funcs after u keeps shared k standing below there root box box_is x y lx ly = keeps k x y standing below there root
-      ∙ shared k standing below there root box box_is x y lx ly
 
   -- ---- a Func that is computed at a loop
 

@@ -58,14 +58,6 @@ pub summed-none : (at n : ℕ) → summed (λ k. 0) at n ≡ 0
 summed-none at zero = refl
 summed-none at (suc n) = omega (arith, summed-none (suc at) n)
 
-pub summed-one : (f : ℕ → ℕ) (at n k : ℕ) → at ≤ k → k < at + n → f k ≤ summed f at n
-summed-one f at zero k low high = absurd (omega (arith, low, high))
-summed-one f at (suc n) k low high = here (at == k) refl (λ apart. summed-one f (suc at) n k apart (omega (arith, high)))
-  where
-    here : (t : Bool) → (at == k) ≡ t → (suc at ≤ k → f k ≤ summed f (suc at) n) → f k ≤ f at + summed f (suc at) n
-    here true e later = let same : at ≡ k = grind (arith, nat_tests, e) in let i : f at ≡ f k = ap f same in omega (arith, i)
-    here false e later = let apart : suc at ≤ k = grind (arith, nat_tests, e, low) in let l = later apart in omega (arith, l)
-
 pub last-summed : (f : ℕ → ℕ) (at n : ℕ) → summed f at (suc n) ≡ summed f at n + f (at + n)
 last-summed f at zero = let e : f at ≡ f (at + 0) = ap f (omega arith) in omega (arith, e)
 last-summed f at (suc n) =
@@ -159,15 +151,6 @@ module _ (pipeline : Pipeline) (schedule : Schedule) (boxes : Boxes) where
       consumer outside place
   around-append consumer [] outside place = omega arith
   around-append consumer (own ∷ inside) outside place = omega (arith, around-append consumer inside outside place)
-
-  around-summed : (consumer : ℕ) (inside : List Loop) (own : Loop) (n : ℕ)
-      → summed (around consumer (inside ++ own ∷ [])) 0 n ≤ summed (around consumer inside) 0 n + summed
-      (share_at (record { func = consumer; inside = own.id })) 0 n
-  around-summed consumer inside own n =
-      let l = summed-most (around consumer (inside ++ own ∷ [])) (λ k. around consumer inside k + share_at (record { func = consumer; inside = own.id }) k)
-      (λ k. let e = around-append consumer inside (own ∷ []) k in omega (arith, e)) 0 n in
-      let m = summed-more (around consumer inside) (share_at (record { func = consumer; inside = own.id })) 0 n in
-      omega (arith, l, m)
 
   summed-around : (consumer : ℕ) (inside : List Loop) (own : Loop) (n : ℕ)
       → summed (around consumer inside) 0 n + summed (share_at (record { func = consumer; inside = own.id })) 0 n ≤ summed (around consumer (inside ++ own

@@ -94,10 +94,6 @@ module _ (pipeline : Pipeline) (schedule : Schedule) (boxes : Boxes) (accepted :
   no-func : (plan : Option FuncPlan) (own : Option Standing) → share None plan own ≡ 0
   no-func plan own = refl
 
-  no-plan : (func : Option Func) (own : Option Standing) → share func None own ≡ 0
-  no-plan None own = refl
-  no-plan (Some func) own = refl
-
   no-standing : (func : Option Func) (plan : Option FuncPlan) → share func plan None ≡ 0
   no-standing None plan = refl
   no-standing (Some func) None = refl

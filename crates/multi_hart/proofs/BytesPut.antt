@@ -1,17 +1,9 @@
 -- Bytes that are put one behind the other.
-use Rattle.std.proofs.Common.{◌≡◌, ℕ, ◌+◌, ◌-◌, ◌<◌, ◌≤◌, List, length, get_or, set, Bool, true, false, refl, ap, sym, ◌∙◌, arith, length-set, get_or-set_other}
+use Rattle.std.proofs.Common.{◌≡◌, ℕ, ◌+◌, ◌<◌, ◌≤◌, List, length, get_or, set, Bool, true, false, refl, ap, sym, ◌∙◌, arith, length-set, get_or-set_other}
 use Rattle.std.proofs.Common.{inl, inr}
-use Rattle.std.specs.Prelude.{◌≢◌, nat_lt, cond, slice_index}
+use Rattle.std.specs.Prelude.{◌≢◌, cond, slice_index}
 use Rattle.std.proofs.lemmas.List.{get_or-set_same}
-use Rattle.std.proofs.lemmas.Bool.{ltb-false, ltb-true, cond_both, cases_lt}
-use Rattle.memory.specs.Access.{data_start, put_byte}
-
--- a byte that is put at an address of data
-pub put-at : (memory : List ℕ) (at byte : ℕ) → put_byte memory (data_start + at) byte ≡ set memory at byte
-put-at memory at byte =
-    cond_both (nat_lt (data_start + at) data_start) memory (set memory (data_start + at - data_start) byte) (λ m. m ≡ set memory at byte)
-    (λ e. absurd (omega (arith, ltb-true (data_start + at) data_start e)))
-    (λ _. let same : data_start + at - data_start ≡ at = omega arith in ap (λ n. set memory n byte) same)
+use Rattle.std.proofs.lemmas.Bool.{ltb-false, cases_lt}
 
 -- some bytes were put, and one more is
 pub record PutSoFar (old bytes memory : List ℕ) (at i : ℕ) : Type 0 where

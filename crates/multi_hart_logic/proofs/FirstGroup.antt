@@ -50,9 +50,6 @@ low-bit b x k l = let e : b + 256 * x ≡ x * 2 ^ 8 + b = omega arith in ap (λ 
 high-bit : (b x k : ℕ) → b < 256 → 8 ≤ k → bit_at (b + 256 * x) k ≡ bit_at x (k - 8)
 high-bit b x k s l = let e : b + 256 * x ≡ x * 2 ^ 8 + b = omega arith in ap (λ z. bit_at z k) e ∙ bit_at_cat_high x 8 b k s l
 
-last-bit : (b k : ℕ) → k < 8 → bit_at (b + 256 * 0) k ≡ bit_at b k
-last-bit b k l = low-bit b 0 k l
-
 word-bit : (b : ℕ → ℕ) (k : ℕ) → ((i : ℕ) → i < 4 → b i < 256) → k < 32 → bit_at (of_bytes b) k ≡ bit_at (b (k / 8)) (k % 8)
 word-bit b k small l = elim (cases_lt k 8) [
   | inl s ↦
@@ -188,9 +185,6 @@ pub held-above : (f : ℕ → ℕ) (d i : ℕ) → 1 ≤ d → held f d i ≡ f 
 held-above f d i l =
     let t : nat_lt (4 * d + i) 4 ≡ false = grind (arith, nat_tests, l) in
     ap (λ b. if b then first_lane f i else f (lane d i)) t
-
-pub written-first : (f : ℕ → ℕ) (n : ℕ) (new : ℕ → ℕ) (q : ℕ) → write_group f 0 n new q ≡ write_first f n new q
-written-first f n new q = refl
 
 pub written-above : (f : ℕ → ℕ) (d n : ℕ) (new : ℕ → ℕ) (q : ℕ) → 1 ≤ d → write_group f d n new q ≡ write_lanes f d n new q
 written-above f d n new q l =

@@ -9,16 +9,12 @@ use Rattle.std.specs.Vec.{with_items}
 use Rattle.std.specs.declared.alloc.Global.{Global}
 use Rattle.halide_pipeline.specs.Words as word
 use Rattle.halide_pipeline.specs.Contents.{PictureContents, pixel_at}
-use Rattle.halide_pipeline.specs.declared.expressions.Expr.{Expr}
 use Rattle.halide_pipeline.specs.declared.expressions.Expr.TheVariants as exprs
-use Rattle.halide_pipeline.specs.declared.expressions.Variable.{Variable}
-use Rattle.halide_pipeline.specs.Pixel.{Plane, Reads, at_point, input_plane, value, value_at, variable}
-use Rattle.halide_pipeline.proofs.Trees.{at_variable}
+use Rattle.halide_pipeline.specs.Pixel.{Plane, input_plane}
 use Rattle.picture.specs.declared.scenes.Table.{Table}
 use Rattle.picture.specs.inner.Evaluation.{IsTable}
 use Rattle.picture.proofs.Tables.{pixel_at_place}
 use Rattle.picture_rows.specs.Rows.{AreValues, IsRow, IsWindow}
-use Rattle.picture_rows.specs.declared.rows.Row.{Row}
 use Rattle.picture_rows.specs.declared.rows.Row.TheVariants as rows
 use Rattle.picture_rows.specs.declared.windows.Window.{Window}
 
@@ -54,17 +50,6 @@ fetched-row width says columns before words values same long are_words are =
     (λ at. says (get_or items at 0)) words) same are in
     let wide : AreValues width (λ at. says (get_or columns at 0)) words = subst (λ (n : ℕ). AreValues n (λ at. says (get_or columns at 0)) words) long all in
     written-row width (λ at. says (get_or columns at 0)) words values are_words wide
-
--- ---- expressions
-
-pub variable-row : (reads : Reads) (left y width : ℕ) (e : Expr) (own : Variable) (row : Row) → e ≡ exprs.Variable own
-    → IsRow width (λ at. variable (at_point (word.add left at) y) own) row → IsRow width (λ at. value reads (at_point (word.add left at) y) e) row
-unfolding value
-variable-row reads left y width e own row e_is is = record {
-  len = is.len;
-  each = λ at less. is.each at less
-      ∙ sym (ap (value reads (at_point (word.add left at) y)) e_is ∙ at_variable ℕ (value_at reads (at_point (word.add left at) y)) own);
-}
 
 -- ---- pictures
 

@@ -13,7 +13,7 @@ use Rattle.halide_pipeline.specs.declared.expressions.Source.TheVariants as sour
 use Rattle.halide_pipeline.specs.declared.expressions.Variable.{Variable}
 use Rattle.halide_pipeline.specs.declared.environments.Environment.{Environment}
 use Rattle.halide_pipeline.specs.Pixel.{Plane, Reads, index_value, value, value_at, variable}
-use Rattle.halide_pipeline.proofs.Trees.{at_number, at_variable, at_binary, at_divide, at_remainder, at_select, at_call1, at_call2}
+use Rattle.halide_pipeline.proofs.Trees.{at_variable, at_binary, at_divide, at_remainder, at_select, at_call1, at_call2}
 use Rattle.picture.specs.declared.lines.Line.{Line}
 use Rattle.picture.specs.declared.scenes.Scene.{Scene}
 use Rattle.picture.specs.declared.scenes.State.TheVariants as states
@@ -63,45 +63,6 @@ shared-own scene own line source x y (Some row) columns rows same is_x is_y is =
       ∙ ap (λ (n : ℕ). reads_with scene own plane source (columns plane at) n) (is_y.each plane fits at less);
 }
 
--- ---- operations
-
-pub shared-two : (line : Line) (operation : Operation) (x y row : Row) (first second : Plane → ℕ → ℕ) → IsShared line first x → IsShared line second y
-    → are.IsRow line.width (λ at. word.applied operation (are.value_at x at) (are.value_at y at)) row
-    → IsShared line (λ plane at. word.applied operation (first plane at) (second plane at)) row
-shared-two line operation x y row first second is_x is_y is = record {
-  len = is.len;
-  each = λ plane fits at less. is.each at less
-      ∙ ap (λ (n : ℕ). word.applied operation n (are.value_at y at)) (is_x.each plane fits at less)
-      ∙ ap (word.applied operation (first plane at)) (is_y.each plane fits at less);
-}
-
-pub shared-quotient : (line : Line) (divisor : ℕ) (x row : Row) (first : Plane → ℕ → ℕ) → IsShared line first x
-    → are.IsRow line.width (λ at. word.divide (are.value_at x at) divisor) row
-    → IsShared line (λ plane at. word.divide (first plane at) divisor) row
-shared-quotient line divisor x row first is_x is = record {
-  len = is.len;
-  each = λ plane fits at less. is.each at less ∙ ap (λ (n : ℕ). word.divide n divisor) (is_x.each plane fits at less);
-}
-
-pub shared-rest : (line : Line) (divisor : ℕ) (x row : Row) (first : Plane → ℕ → ℕ) → IsShared line first x
-    → are.IsRow line.width (λ at. word.remainder (are.value_at x at) divisor) row
-    → IsShared line (λ plane at. word.remainder (first plane at) divisor) row
-shared-rest line divisor x row first is_x is = record {
-  len = is.len;
-  each = λ plane fits at less. is.each at less ∙ ap (λ (n : ℕ). word.remainder n divisor) (is_x.each plane fits at less);
-}
-
-pub shared-either : (line : Line) (c x y row : Row) (test first second : Plane → ℕ → ℕ) → IsShared line test c → IsShared line first x → IsShared line second y
-    → are.IsRow line.width (λ at. cond (are.value_at c at == 0) (are.value_at y at) (are.value_at x at)) row
-    → IsShared line (λ plane at. cond (test plane at == 0) (second plane at) (first plane at)) row
-shared-either line c x y row test first second is_c is_x is_y is = record {
-  len = is.len;
-  each = λ plane fits at less. is.each at less
-      ∙ ap (λ (n : ℕ). cond (n == 0) (are.value_at y at) (are.value_at x at)) (is_c.each plane fits at less)
-      ∙ ap (λ (n : ℕ). cond (test plane at == 0) n (are.value_at x at)) (is_y.each plane fits at less)
-      ∙ ap (λ (n : ℕ). cond (test plane at == 0) (second plane at) n) (is_x.each plane fits at less);
-}
-
 -- ---- expressions
 
 -- what is known along a line is what another one says that is the same
@@ -127,10 +88,6 @@ pub of-row : (line : Line) (says : Plane → ℕ → ℕ) (alone : ℕ → ℕ) 
 of-row line says alone row is same = record { len = is.len; each = λ plane fits at less. is.each at less ∙ same plane at }
 
 module _ (reads : Reads) (env : Environment) (e : Expr) where
-  pub value-number : (n : ℕ) → e ≡ exprs.Number n → n ≡ value reads env e
-  unfolding value
-  value-number n is = sym (ap (value reads env) is ∙ at_number ℕ (value_at reads env) n)
-
   pub value-variable : (v : Variable) → e ≡ exprs.Variable v → variable env v ≡ value reads env e
   unfolding value
   value-variable v is = sym (ap (value reads env) is ∙ at_variable ℕ (value_at reads env) v)

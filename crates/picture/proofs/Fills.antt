@@ -1,5 +1,5 @@
 -- Pixels and slices that threads computed, put into one list.
-use Rattle.std.proofs.Common.{◌≡◌, ℕ, zero, suc, ◌+◌, ◌*◌, ◌<◌, length, get_or, arith, List, [], ◌∷◌, map, Vec, Result, Ok, Err, refl, sym, ap, subst}
+use Rattle.std.proofs.Common.{◌≡◌, ℕ, zero, suc, ◌+◌, ◌<◌, length, get_or, arith, List, [], ◌∷◌, map, Vec, Result, Ok, Err, refl, sym, ap, subst}
 use Rattle.std.specs.Prelude.{IfOk, MatchResult, Some, slice_get}
 use Rattle.std.specs.List.{AllZip, Contains, range_with_len}
 use Rattle.std.specs.declared.alloc.AllocError.{AllocError}
@@ -9,7 +9,7 @@ use Rattle.picture.specs.declared.scenes.Table.{Table}
 use Rattle.halide_pipeline.specs.Contents.{PictureContents}
 use Rattle.halide_pipeline.specs.declared.definitions.Func.{Func}
 use Rattle.halide_pipeline.specs.Pixel.{Plane}
-use Rattle.picture.specs.inner.Evaluation.{AreBoxes, IsTable, IsSliceOf, AreSlicesOf, numbered_pixel}
+use Rattle.picture.specs.inner.Evaluation.{AreBoxes, IsTable, IsSliceOf, AreSlicesOf}
 
 zip_ok : {X : Type 0} (R : ℕ → X → Type 0) (places : List ℕ) (values : List X) → AllZip (λ at (r : Result X AllocError). IfOk r (R at)) places (map Ok values)
     → AllZip R places values
@@ -40,18 +40,6 @@ filled_from R from (suc count) (value ∷ values) zip =
         → (at : ℕ) → at < suc count → R (from + at) (get_or (value ∷ values) at 0)
     by_place R from count value values first rest zero less = let e : from + 0 ≡ from = omega arith in rw e first
     by_place R from count value values first rest (suc at) less = let e : from + suc at ≡ from + 1 + at = omega arith in rw e (rest at (omega arith))
-
-pub table_from_zip : (plane : Plane) (table : Table) → AllZip (λ at pixel. pixel ≡ numbered_pixel plane table.left table.top table.width at)
-    (range_with_len 0 (table.width * table.height)) table.pixels.items → IsTable plane table
-table_from_zip plane table zip =
-    let R : ℕ → ℕ → Type 0 = λ at pixel. pixel ≡ numbered_pixel plane table.left table.top table.width at in
-    let all = filled_from R 0 (table.width * table.height) table.pixels.items zip in
-    record {
-      len = all.0;
-      each = λ at within.
-          let e : 0 + at ≡ at = omega arith in
-          subst (λ (n : ℕ). R n (get_or table.pixels.items at 0)) e (all.1 at (omega (arith, all.0, within)));
-    }
 
 -- what is zipped with numbers
 each_zipped : {X : Type 0} (P : X → Type 0) (places : List ℕ) (values : List X) → AllZip (λ at s. P s) places values → (at : ℕ) (value : X)

@@ -71,10 +71,6 @@ forward_seeded scene own updates func blank slice x y pixel is none sets pixel_i
 
 -- ---- points of one slice have the same left sides and right sides
 
--- the arguments that are used have the same values
-record SameUsed (update : Update) (one other : Environment) (e : Expr) : Type 0 where
-  each : (v : Variable) → uses v e ≡ true → variable one v ≡ variable other v
-
 -- what an argument that is in place or not used comes to
 argument_same : (in_place used : Bool) (test : Bool) (i x : ℕ) → (in_place || not used) ≡ true → (not in_place || test) ≡ true → (test ≡ true → i ≡ x)
     → used ≡ true → i ≡ x

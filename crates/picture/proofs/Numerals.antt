@@ -24,9 +24,6 @@ plain_digits true (first ∷ []) some one signed = grind (arith, nat_tests, sign
 plain_digits false (first ∷ []) some one signed = refl
 plain_digits negative (first ∷ second ∷ digits) some one signed = grind (arith, nat_tests, one)
 
-first_of_zero : get_or (decimal 0) 0 0 ≡ 48
-first_of_zero = ap (λ (digits : List ℕ). get_or digits 0 0) (decimal_digit 0 (omega arith))
-
 -- what a number is written as has no leading zero, and is `0` for 0 alone
 pub is_plain-decimal : (negative : Bool) (n : ℕ) → n < 2 ^ 64 → (negative ≡ true → 0 < n) → is_plain negative (decimal n) ≡ true
 is_plain-decimal negative zero small signed =

@@ -66,9 +66,6 @@ rows_flat width (suc rows) pixels wide len =
 pub record Wrote (width : ℕ) (pixels before now : List ℕ) (done : ℕ) : Type 0 where
   pub whole : now ++ pixels_text width (drop done pixels) ≡ before ++ pixels_text width pixels
 
-pub wrote_none : (width : ℕ) (pixels before : List ℕ) → Wrote width pixels before before 0
-wrote_none width pixels before = record { whole = refl }
-
 pub wrote_more : (width : ℕ) (pixels before now with_number next : List ℕ) (done : ℕ) → done < length pixels → Wrote width pixels before now done
     → with_number ≡ now ++ number_text (get_or pixels done 0) → next ≡ with_number ++ separator width (length pixels - 1 - done)
     → Wrote width pixels before next (done + 1)

@@ -30,7 +30,7 @@ use Rattle.picture.specs.inner.PixelRows.{IsRowOf}
 use Rattle.picture.specs.inner.Together.{after_points, side_length, with_stores, IsSide, IsStoreRow}
 use Rattle.picture.proofs.AlongLines.{reads-earlier}
 use Rattle.picture.proofs.Tables.{add-subtract}
-use Rattle.picture.proofs.Forward.{after-suc, same_sides, stage-suc, stage_in-known, SameSides}
+use Rattle.picture.proofs.Forward.{after-suc, same_sides, stage-suc, SameSides}
 use Rattle.picture_rows.specs.declared.rows.Row.{Row}
 use Rattle.picture_rows.specs.Rows.{value_at, AreValues}
 
@@ -413,20 +413,6 @@ store-more row at x y pixel plane table x_is y_is pixel_is is =
     is
 
 -- ---- pixels of a box
-
-pub boxed-stage : (scene : Scene) (own : ℕ) (func : Func) (updates before x y pixel : ℕ) → slice_get scene.funcs.now own ≡ Some func → before + 1 ≡ updates
-    → pixel ≡ stage_in scene.funcs.now scene.pictures.now own (before + 1) x y → pixel ≡ stage own func (inputs_of scene) (earlier_of scene own) updates x y
-boxed-stage scene own func updates before x y pixel is one there =
-    there ∙ ap (λ (n : ℕ). stage_in scene.funcs.now scene.pictures.now own n x y) one ∙ stage_in-known scene own func updates x y is
-
-pub boxed-stretch : (scene : Scene) (own : ℕ) (func : Func) (updates before : ℕ) (stretch : Stretch) (pixels : List ℕ)
-    → slice_get scene.funcs.now own ≡ Some func → before + 1 ≡ updates
-    → IsRowOf (stage_in scene.funcs.now scene.pictures.now own (before + 1)) stretch pixels
-    → IsRowOf (stage own func (inputs_of scene) (earlier_of scene own) updates) stretch pixels
-boxed-stretch scene own func updates before stretch pixels is one are = record {
-  len = are.len;
-  each = λ at less. boxed-stage scene own func updates before (word.add stretch.left at) stretch.y _ is one (are.each at less);
-}
 
 -- pixels of the pure definition
 pub pure-stretch : (scene : Scene) (own : ℕ) (func : Func) (stretch : Stretch) (start : Environment) (row : Row) (pixels : List ℕ)

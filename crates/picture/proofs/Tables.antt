@@ -41,12 +41,6 @@ pixel_at_place table plane x y column row at is fits_x fits_y fits_left fits_top
 
 -- ---- tables, one after the other
 
-pub no_tables : (funcs : List Func) (pictures : List PictureContents) (tables : List Table) → tables ≡ [] → AreTablesOf funcs pictures tables
-no_tables funcs pictures tables e = record { each = λ place table at. absurd (none place table (ap (λ (all : List Table). slice_get all place) (sym e) ∙ at)) }
-  where
-    none : (place : ℕ) (table : Table) → slice_get {X = Table} [] place ≡ Some table → ⊥
-    none place table e = cc
-
 -- an item behind others
 got : {X : Type 0} (tables : List X) (table : X) (place : ℕ) (other : X) → slice_get (tables ++ table ∷ []) place ≡ Some other
     → (slice_get tables place ≡ Some other) ⊎ ((place ≡ length tables) × (table ≡ other))
@@ -87,12 +81,6 @@ pub known-at : (funcs : List Func) (pictures : List PictureContents) (known : Li
 known-at funcs pictures known at one own updates are is less own_is updates_is =
     subst (λ (n : ℕ). IsKnown funcs pictures n updates one) own_is
     (subst (λ (n : ℕ). IsKnown funcs pictures one.own n one) updates_is (are.each at one (item-is known at one is less)))
-
-pub none_known : (funcs : List Func) (pictures : List PictureContents) (known : List Known) → known ≡ [] → AreKnownOf funcs pictures known
-none_known funcs pictures known e = record { each = λ at k is. absurd (none at k (ap (λ (all : List Known). slice_get all at) (sym e) ∙ is)) }
-  where
-    none : (at : ℕ) (k : Known) → slice_get {X = Known} [] at ≡ Some k → ⊥
-    none at k e = cc
 
 pub one_more_known : (funcs : List Func) (pictures : List PictureContents) (known next : List Known) (one : Known) → AreKnownOf funcs pictures known
     → IsKnown funcs pictures one.own one.updates one → next ≡ known ++ one ∷ [] → AreKnownOf funcs pictures next

@@ -9,10 +9,6 @@ use Rattle.schedule_lines.specs.Making.{total, has_name, Differ, SameLoops}
 use Rattle.schedule_lines.proofs.Names.{turned, total-append}
 use Rattle.schedule_lines.proofs.Replacing.{IsBetween, between}
 
--- what is added up over the loops that are named, and over the others
-abbrev value_if : Bool → ℕ → ℕ
-value_if test n = cond test n 0
-
 abbrev named : List (List ℕ) → (Loop → ℕ) → Loop → ℕ
 named names value l = cond (is_among l.name names) (value l) 0
 

@@ -97,10 +97,6 @@ is_old_has place loops id old new = at (total (has_id id) loops) refl
     at zero e = e
     at (suc n) e = let s : is_old place id ≡ true = old id (omega arith) in absurd cc
 
--- the loops of a split count as
-inner_has : (place : ℕ) (own : Loop) (line : SplitLine) (id : LoopId) → ℕ
-inner_has place own line id = cond (same_id (ids.Inner place) id) 1 0
-
 pub total_parts : (value : Loop → ℕ) (before : List Loop) (own : Loop) (after : List Loop) (place : ℕ) (line : SplitLine)
     → total value (before ++ (parts own place line ++ after)) + value own ≡ total value (before ++ own ∷ after) + total value (parts own place line)
 total_parts value before own after place line =

@@ -15,7 +15,7 @@ use Rattle.schedule_lines.specs.declared.stages.Tail.TheVariants as tails
 use Rattle.schedule_lines.specs.Directives.{same_id, parts, is_shift}
 use Rattle.schedule_lines.specs.Making.{total, bare, IsSplit, IsMade}
 use Rattle.schedule_loops.specs.Visits.{Values, with, rounds, more_counts, counts_from, upto, nest, whole_of, split_body, split_bodies}
-use Rattle.schedule_loops.proofs.Ids.{cases_id, same_id-self, is_old, outer_new, inner_new, old_apart, turned_id, with_same, with_other}
+use Rattle.schedule_loops.proofs.Ids.{cases_id, same_id-self, is_old, outer_new, inner_new, turned_id, with_same, with_other}
 use Rattle.schedule_loops.proofs.Nesting.{has_id, has_other, has_same, InRange, filter-nest}
 use Rattle.schedule_loops.proofs.Splitting.{OnOld, counts_old, rounds_reach, parted_nest}
 use Rattle.schedule_loops.proofs.Selecting.{is_one, IsAmong, is_free, Only, among_has, moved_nest, only_moved}
@@ -112,12 +112,6 @@ module _ (A : Type 0) (extents : Values) (seen : Values → A) (keep : A → Boo
 
     own_old : is_old place own.id ≡ true
     own_old = sound.old own.id (omega (arith, total-append (has_id own.id) before (own ∷ after), has_same own))
-
-    own_not_inner : same_id own.id (ids.Inner place) ≡ false
-    own_not_inner = old_apart place own.id (ids.Inner place) own_old (inner_new place)
-
-    own_not_outer : same_id own.id (ids.Outer place) ≡ false
-    own_not_outer = old_apart place own.id (ids.Outer place) own_old (outer_new place)
 
     count_inner : new_counts (ids.Inner place) ≡ line.factor
     count_inner = with_same (ids.Inner place) line.factor (with (ids.Outer place) (rounds (counts own.id) line.factor) counts)

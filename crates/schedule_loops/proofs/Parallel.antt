@@ -148,11 +148,6 @@ module _ {A : Type 0} (counts : Values) (inside : List Loop) (own : Loop) (body 
       (with own.id turn zeros) (with_same own.id turn zeros))
       ∙ nest_same_at counts inside (only_in n) body own.id n outside_all (turn_here n) (with own.id n zeros) (with_same own.id n zeros)
 
-  pub turns_are_all : nest counts (inside ++ own ∷ []) body zeros ≡ upto (counts own.id) (λ n. nest counts (inside ++ own ∷ []) (only_in n) zeros)
-  turns_are_all =
-      tasks_are counts inside own body zeros
-      ∙ sym (upto_same (counts own.id) (λ n. nest counts (inside ++ own ∷ []) (only_in n) zeros) (task counts inside own.id body zeros) turn_is)
-
 -- ---- iterations of a stage
 
 module _ (func : Func) (update : Option Update) (extents : Extents) (stage : Stage) (is : IsStageOf func update stage) where

@@ -238,9 +238,6 @@ pub record RowsLeft (extents : Extents) (splits : List Split) (rows : List Sized
   pub few : length rows + length rest ≤ 4
   pub bounded : AreBounded extents rows
 
-pub none_yet : (extents : Extents) (splits : List Split) → AreSplits splits → RowsLeft extents splits [] splits
-none_yet extents splits are = record { made = refl; all = refl; factors = are.factors; few = omega (arith, are.few); bounded = bounded_begun extents }
-
 splits_more : (rows : List SizedSplit) (added : SizedSplit) (rest : List Split) → splits_of (rows ++ added ∷ []) ++ rest ≡ splits_of rows ++ added.split ∷ rest
 splits_more [] added rest = refl
 splits_more (first ∷ rows) added rest = ap (λ (xs : List Split). first.split ∷ xs) (splits_more rows added rest)

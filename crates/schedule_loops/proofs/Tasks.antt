@@ -41,21 +41,6 @@ among_own test inside own passed =
     let one : is_one test own.id own ≡ 1 = rw (same_id-self own.id, passed) refl in
     omega (arith, total-append (is_one test own.id) inside (own ∷ []))
 
--- a turn whose body lists nothing
-pub turn_none : {A : Type 0} (counts : Values) (inside : List Loop) (own : Loop) (body : Values → List A) (turn : ℕ) → turn < counts own.id
-    → Unique (inside ++ own ∷ [])
-    → ((values : Values) → InRange counts (inside ++ own ∷ []) values → body values ≡ []) → (values : Values)
-    → nest counts inside body (with own.id turn values) ≡ []
-turn_none counts inside own body turn l unique quiet values =
-    let none : total (has_id own.id) inside ≡ 0 = omega (arith, unique own.id, total-append (has_id own.id) inside (own ∷ []), has_same own) in
-    nest_none counts inside body own.id turn none
-    (λ v in_range here. quiet v
-    (λ id there. elim (cases_id own.id id) [
-      | inl e ↦ subst (λ (i : LoopId). v i < counts i) e (omega (arith, here, l))
-      | inr d ↦ in_range id (omega (arith, there, total-append (has_id id) inside (own ∷ []), has_other id own d))
-    ]))
-    (with own.id turn values) (with_same own.id turn values)
-
 module _ {A : Type 0} (test : Loop → Bool) (keep : A → Bool) (counts given : Values) (inside : List Loop) (own : Loop) (body : Values → List A)
     (unique : Unique (inside ++ own ∷ [])) (passed : test own ≡ true) (only : Only test counts (inside ++ own ∷ []) given (λ values. filter keep (body values)))
   where

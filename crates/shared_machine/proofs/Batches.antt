@@ -1,8 +1,7 @@
 -- Turns of one hart, one after the other, all but the last of which step.
 use Rattle.std.proofs.Common.{◌≡◌, ◌≢◌, ℕ, zero, suc, ◌+◌, ◌-◌, ◌*◌, ◌%◌, ◌<◌, ◌≤◌, ◌==◌, Bool, if◌then◌else◌, cond, List, [], ◌∷◌, ◌++◌, All, length, take}
-use Rattle.std.proofs.Common.{replicate, Some, refl, sym, ap, ◌∙◌, subst, arith, eq-eqb, ne_eqb}
-use Rattle.std.specs.Prelude.{slice_get}
-use Rattle.std.proofs.lemmas.List.{take-append-le, length-take, length-append, replicate_more}
+use Rattle.std.proofs.Common.{replicate, refl, sym, ap, ◌∙◌, subst, arith, eq-eqb, ne_eqb}
+use Rattle.std.proofs.lemmas.List.{take-append-le, length-take, replicate_more}
 use Rattle.std.proofs.lemmas.List.Sums.{sum_by-append}
 use Rattle.std.proofs.lemmas.List.Elements.{All-nil, All-cons, All-append}
 use mathlib.Core.Logic.{dite}
@@ -74,15 +73,6 @@ log-more log hart made is below room = record {
       (λ e. let h = ap (count_of (log.turns ++ replicate made hart)) (sym e) ∙ count-more-here log.turns hart made in omega (arith, h, room))
       (λ n. let h = count-more-other log.turns hart made which n in let f = is.few_turns which in omega (arith, h, f));
 }
-
--- the last turn of a log with one more
-pub last-pushed : (turns : List ℕ) (hart : ℕ) → slice_get (turns ++ hart ∷ []) (length (turns ++ hart ∷ []) - 1) ≡ Some hart
-last-pushed turns hart = ap (slice_get (turns ++ hart ∷ [])) (let h = length-append turns (hart ∷ []) in let e : length (turns ++ hart ∷ []) - 1
-    ≡ length turns = omega (arith, h) in e) ∙ go turns
-  where
-    go : (turns : List ℕ) → slice_get (turns ++ hart ∷ []) (length turns) ≡ Some hart
-    go [] = refl
-    go (one ∷ turns) = go turns
 
 -- one turn and then others, of one hart
 pub one-and-more : (turns : List ℕ) (hart made : ℕ) → 1 ≤ made → (turns ++ hart ∷ []) ++ replicate (made - 1) hart ≡ turns ++ replicate made hart

@@ -1,7 +1,7 @@
 -- A log with one turn more.
-use Rattle.std.proofs.Common.{◌≡◌, ◌≢◌, ℕ, ◌+◌, ◌<◌, ◌≤◌, ◌==◌, Bool, if◌then◌else◌, cond, List, [], ◌∷◌, ◌++◌, refl, sym, ap, ◌∙◌, arith, eq-eqb, ne_eqb}
+use Rattle.std.proofs.Common.{◌≡◌, ◌≢◌, ℕ, ◌+◌, ◌<◌, ◌==◌, Bool, if◌then◌else◌, cond, List, [], ◌∷◌, ◌++◌, refl, sym, ap, ◌∙◌, arith, eq-eqb, ne_eqb}
 use Rattle.std.proofs.lemmas.List.Sums.{sum_by-append}
-use Rattle.std.proofs.lemmas.List.Elements.{All-push, All-nil}
+use Rattle.std.proofs.lemmas.List.Elements.{All-push}
 use mathlib.Core.Logic.{dite}
 use native.Mathlib.Decide.{ℕ_discrete}
 use Rattle.turn_log.specs.TurnLog.{LogState, IsLog, count_of, most_turns}
@@ -30,9 +30,6 @@ log-push log hart is below room = record {
       (λ n. let h = count-push-other log.turns hart which n in let f = is.few_turns which in omega (arith, h, f));
 }
 
-pub log-none : (harts : ℕ) → 1 ≤ harts → harts ≤ 8 → IsLog (record { harts = harts; turns = [] })
-log-none harts some few = record { some_hart = some; few_harts = few; turns_below = All-nil _; few_turns = λ which. omega (arith) }
-
 pub tally-push : (state : State) (turns : List ℕ) (one hart : ℕ) → tally_from state (turns ++ one ∷ []) hart ≡ tally_from state turns hart
     + (if one == hart then code_of (outcome (run state turns) one) else 0)
 tally-push state [] one hart = omega (arith)
@@ -42,7 +39,3 @@ pub tally-push-here : (state : State) (turns : List ℕ) (hart : ℕ) → tally_
     (outcome (run state turns) hart)
 tally-push-here state turns hart = tally-push state turns hart hart
     ∙ ap (λ (b : Bool). tally_from state turns hart + (if b then code_of (outcome (run state turns) hart) else 0)) (eq-eqb hart hart refl)
-
-pub tally-push-other : (state : State) (turns : List ℕ) (one hart : ℕ) → one ≢ hart → tally_from state (turns ++ one ∷ []) hart ≡ tally_from state turns hart
-tally-push-other state turns one hart other = let h = tally-push state turns one hart
-    ∙ ap (λ (b : Bool). tally_from state turns hart + (if b then code_of (outcome (run state turns) one) else 0)) (ne_eqb one hart other) in omega (arith, h)

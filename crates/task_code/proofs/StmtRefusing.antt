@@ -38,9 +38,6 @@ use Rattle.task_code.proofs.Unrolled.{in_turn, code-sequence, code-for, code-bin
 
 -- ---- lengths
 
-long-is : (a b : List Insn) → a ≡ b → length b ≡ length a
-long-is a b e = ap length (sym e)
-
 copies-length : (r n : ℕ) (body : List Insn) → length (copies_code r n body) ≡ n * (length body + 1)
 unfolding copies_code
 copies-length r zero body = let g : 0 ≡ 0 * (length body + 1) = omega arith in g

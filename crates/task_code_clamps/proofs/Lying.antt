@@ -6,7 +6,6 @@ use Rattle.halide_pipeline.specs.Words.{add, less, minimum, maximum, subtract}
 use Rattle.loop_ir.specs.declared.expressions.Linear.{Linear}
 use Rattle.loop_ir.specs.Counters.{Values}
 use Rattle.loop_ir.specs.Expressions.{linear_value, sum_of}
-use Rattle.task_code_scalar.proofs.Evaluation.{chosen-below}
 use Rattle.task_code_clamps.specs.declared.ranges.Range.{Range}
 use Rattle.task_code_clamps.specs.Ranges.{level, LiesIn}
 
@@ -81,13 +80,6 @@ none-subtracted v w small zero = omega (arith, small, zero)
 
 pub is-zero : (range : Range) (v : ℕ) → range.low ≡ 2 ^ 31 → range.high ≡ 2 ^ 31 → v < 2 ^ 32 → LiesIn range v → v ≡ 0
 is-zero range v el eh small l = let a = l.low in let b = l.high in omega (arith, el, eh, small, a, b)
-
--- one of two words is a word
-pub choice-minimum : (v w : ℕ) → v < 2 ^ 32 → w < 2 ^ 32 → minimum v w < 2 ^ 32
-choice-minimum v w x y = chosen-below (less w v) w v (2 ^ 32) y x
-
-pub choice-maximum : (v w : ℕ) → v < 2 ^ 32 → w < 2 ^ 32 → maximum v w < 2 ^ 32
-choice-maximum v w x y = chosen-below (less v w) w v (2 ^ 32) y x
 
 pub sum-word : (values : Values) (own : Linear) → linear_value values own < 2 ^ 32
 unfolding linear_value

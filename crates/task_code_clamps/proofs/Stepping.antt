@@ -11,7 +11,7 @@ use Rattle.loop_ir.specs.declared.expressions.Expr.{Expr}
 use Rattle.loop_ir.specs.declared.expressions.Expr.TheVariants as e
 use Rattle.loop_ir.specs.declared.expressions.Linear.{Linear}
 use Rattle.loop_ir.specs.Counters.{Values}
-use Rattle.loop_ir.specs.Expressions.{linear_value, value, loads, sum_of}
+use Rattle.loop_ir.specs.Expressions.{linear_value, value, loads}
 use Rattle.task_code_values.proofs.Evaluating.{value_number, value_linear, value_binary, loads_binary}
 use Rattle.task_code_clamps.specs.declared.clamps.Ranged.{Ranged}
 use Rattle.task_code_clamps.specs.declared.ranges.Range.{Range}
@@ -63,16 +63,6 @@ up-minimum v n sv sn l low =
       | inr k ↦ rw (le-ltb (level ((v + 4294967295) % 2 ^ 32)) (level n) k) (rw (lt-ltb (level n) (level v) (omega (arith, g, k)))
           (omega (arith, sv, sn, l, g, k)))
     ]
-
--- ---- sums
-
-pub more-is : (own copied : Linear) (more number : ℕ) → copied ≡ own → number ≡ add copied.number more
-    → IsMore own more (record { number = number; terms = copied.terms })
-unfolding linear_value add
-more-is own copied more number es en values =
-    let s = sum_of values copied.terms in
-    let g : (number + s) % 2 ^ 32 ≡ ((copied.number + s) % 2 ^ 32 + more) % 2 ^ 32 = omega (arith, en) in
-    g ∙ ap (λ c. (linear_value values c + more) % 2 ^ 32) es
 
 -- ---- expressions
 

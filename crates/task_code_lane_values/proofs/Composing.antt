@@ -140,18 +140,6 @@ scalar-as scope own s c0 c1 may says other same x = record {
       record { after = a.after; line = a.line; value = a.value ∙ e; small = subst (λ z. z < 2 ^ 32) e a.small; keeps = a.keeps };
 }
 
--- ---- operations that make the same
-
-pub by-as : (group : Group) (k s : ℕ) (c0 c1 : List ℕ) (fits : ℕ → Type 0) (says other : ℕ → ℕ → ℕ) → ((x c : ℕ) → x < 2 ^ 32 → c < 2 ^ 32 → fits c
-    → says x c ≡ other x c)
-    → TurnsBy c0 c1 group k s fits says → TurnsBy c0 c1 group k s fits other
-by-as group k s c0 c1 fits says other same x = record {
-  insns = x.insns;
-  emits = x.emits;
-  does = λ w m n f u c l has hu lu es lc is.
-      left-as w m l group n x.insns f k (λ i. says (u i) c) (λ i. other (u i) c) (λ i b. same (u i) c (lu i b) lc is) (x.does w m n f u c l has hu lu es lc is);
-}
-
 -- ---- one part behind another
 
 -- the same of what has as much of memory
@@ -177,10 +165,6 @@ module _ (places : Places) (scope : List Held) (own : Lanes) (k : ℕ) (in-stack
   known : (hart : ℕ) (values : Values) (j : ℕ) (f g : ℕ → ℕ) → AreHolders scope → ((q : ℕ) → IsUnder own.group j q → g q ≡ f q)
       → Knows hart scope values f → Knows hart scope values g
   known hart values j f g holders same knows = knows-still hart scope values f g (λ q h. same q (kept-under own.group j scope q holders h)) knows
-
-  known-scalar : (hart : ℕ) (values : Values) (f g : ℕ → ℕ) → AreHolders scope → ((q : ℕ) → IsBelow first_value q → g q ≡ f q)
-      → Knows hart scope values f → Knows hart scope values g
-  known-scalar hart values f g holders same knows = known hart values 0 f g holders (λ q u. same q (under-below own.group 0 q u)) knows
 
   -- all lanes are a scalar
   pub each-spread : (s : ℕ) (c0 c1 c2 : List ℕ) (mb : MayOnce) (xb : Reads → Values → ℕ) → MakesScalar c0 c1 scope own s mb

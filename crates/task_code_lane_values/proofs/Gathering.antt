@@ -111,9 +111,6 @@ number-reaches p hart x y low =
 -- ---- pointers to a column of the first iteration and a row
 
 module _ (places : Places) (scope : List Held) (own : Lanes) (place : Place) (x : Linear) (y : Expr) where
-  abbrev MayRow : World → List ℕ → Reads → Values → Type 0
-  MayRow w m reads values = AllByRecursion (Loads w places m reads) (loads reads (with own.counter 0 values) y)
-
   abbrev spot : ℕ → Reads → Values → ℕ
   spot hart reads values = address place hart (linear_value (with own.counter 0 values) x) (value reads (with own.counter 0 values) y) % 2 ^ 32
 

@@ -87,13 +87,6 @@ module _ (w : World) (m : List ℕ) (l : length m ≡ w.size) (group : Group) (n
     abbrev pub Outside : ℕ → ℕ → Type 0
     Outside q d = (q < lane d 0) ⊎ (lane d n ≤ q)
 
-    -- lanes of a group beside the slot's are set; the slot stays, and what is kept with it
-    pub record Asides (is : List Insn) (f : ℕ → ℕ) (s : ℕ) (v : ℕ → ℕ) : Type 0 where
-      pub after : ℕ → ℕ
-      pub line : Line w is f m after m
-      pub value : HoldAny after s v
-      pub keeps : (q : ℕ) → IsKept group (k + 1) q → after q ≡ f q
-
     -- lanes of the slot are set, by a row that reads any group
     pub slot-writes : {is : List Insn} {f : ℕ → ℕ} (v new : ℕ → ℕ) → Lanes f → Line w is f m (write_group f r (f vl_number) new) m
         → ((i : ℕ) → i < n → new i ≡ v i) → Writes is f r v

@@ -1,6 +1,6 @@
 -- Forms by other loop variables.
 use Rattle.std.proofs.Common.{◌≡◌, ℕ, ◌+◌, ◌-◌, ◌*◌, ◌%◌, ◌^◌, ◌≤◌, List, [], ◌∷◌, ◌++◌, length, get_or, take, drop, Bool, true, false}
-use Rattle.std.proofs.Common.{◌<◌, refl, ap, ◌∙◌, sym, subst, arith}
+use Rattle.std.proofs.Common.{◌<◌, refl, ap, ◌∙◌, sym, arith}
 use Rattle.std.specs.Prelude.{◌||◌, not, if◌then◌else◌}
 use Rattle.std.proofs.lemmas.Bool.{and_parts, true≢false}
 use Rattle.std.proofs.lemmas.Nat.{mul-mod_first, mul-mod_second}
@@ -31,10 +31,6 @@ sum-known [] item other counter sum some ei is es values are = absurd (omega (ar
 sum-known (first ∷ others) item other counter sum some ei is es values are =
     ap (λ c. values c % 2 ^ 32) (sym (same_counter-true item.counter counter is) ∙ ap (λ (k : Known). k.counter) ei) ∙ are.0
     ∙ ap (linear_value values) (ap (λ (k : Known). k.sum) (sym ei) ∙ sym es)
-
-pub rest-known : (known : List Known) (other : Known) (values : Values) → 1 ≤ length known → AreKnown known values
-    → AreKnown (take (length known - 1) (drop 1 known)) values
-rest-known known other values some are = (subst (λ k. AreKnown k values) (others-are known other some) are).1
 
 -- ---- sums of terms
 

@@ -1,5 +1,5 @@
 -- What tells when a loop ends.
-use Rattle.std.proofs.Common.{◌≡◌, ℕ, suc, ◌+◌, ◌-◌, ◌*◌, ◌^◌, ◌<◌, ◌≤◌, List, [], ◌∷◌, length, get_or, take, drop, true, false}
+use Rattle.std.proofs.Common.{◌≡◌, ℕ, suc, ◌+◌, ◌-◌, ◌*◌, ◌^◌, ◌<◌, ◌≤◌, List, ◌∷◌, length, get_or, take, drop, true, false}
 use Rattle.std.proofs.Common.{refl, ap, ◌∙◌, sym, subst, arith, inl, inr}
 use Rattle.std.specs.Prelude.{◌==◌, ◌⊎◌, not, nat_lt}
 use Rattle.std.proofs.lemmas.Bool.{cases_lt, ltb-true}
@@ -158,14 +158,6 @@ tests-later counter count scope first first' form reserved a c0 c1 c1' c2 tested
       test = y.test;
     }
 
--- Where a form has been held with one register more in reserve, there is a register left.
-pub room-left : (counter : Counter) (scope first first' : List Held) (form : Form) (reserved a : ℕ) (c0 c1 : List ℕ) (other : Type 0) → first' ≡ first
-    → Takes c0 c1 counter scope form (reserved + 1) a first → left_count first' ≤ reserved → other
-room-left counter scope first first' form reserved a c0 c1 other e x full =
-    let l = x.left in
-    let n : left_count first' ≡ left_count first = ap left_count e in
-    absurd (omega (arith, l, n, full))
-
 -- ---- as the emitters call them
 
 first-fewer : (wanted : List Form) (first other : Form) → 1 ≤ length wanted → first ≡ get_or wanted 0 other
@@ -191,10 +183,6 @@ tests-others counter count scope reserved wanted first other c0 c1 tested some i
     let e = first-fewer wanted first other some is in
     tests-fewer counter count scope reserved (10 + 2 * forms_words (take (length wanted - 1) (drop 1 wanted))) (10 + 2 * forms_words wanted) c0 c1 c0 tested
     (omega (arith, e)) refl x
-
-pub none-wanted : (wanted : List Form) → length wanted < 1 → forms_words wanted ≡ 0
-none-wanted [] none = refl
-none-wanted (first ∷ others) none = absurd (omega (arith, none))
 
 -- ---- limits that are held
 

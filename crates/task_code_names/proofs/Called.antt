@@ -1,6 +1,6 @@
 -- A name in place of an expression comes to the same.
 use Rattle.std.proofs.Common.{◌≡◌, ℕ, ◌+◌, ◌*◌, ◌%◌, ◌^◌, ◌<◌, List, [], ◌∷◌, ap, ◌∙◌, sym, subst, arith}
-use Rattle.std.specs.Prelude.{Option, Some, None, IfSome}
+use Rattle.std.specs.Prelude.{Option, Some, IfSome}
 use Rattle.loop_ir.specs.declared.expressions.Counter.{Counter}
 use Rattle.loop_ir.specs.declared.expressions.Expr.{Expr}
 use Rattle.loop_ir.specs.declared.expressions.Expr.TheVariants as e
@@ -22,11 +22,6 @@ first-is others first own same values are =
       none = λ reads. sym (ap (λ x. loads reads values x) same) ∙ k.none reads;
       small = k.small;
     }
-
-pub later-is : (others : List Named) (first : Named) (own : Expr) (found : Option Counter) → IfSome found (IsNameOf others own)
-    → IfSome found (IsNameOf (first ∷ others) own)
-later-is others first own None all = tt
-later-is others first own (Some counter) all = λ values are. all values are.1
 
 variable-is : (values : Values) (counter : Counter) → values counter < 2 ^ 32 → linear_value values (variable counter).sum ≡ values counter
 unfolding linear_value

@@ -182,11 +182,3 @@ module _ (counter : Counter) (inner : List Held) (item other : Held) (stride : �
   advanced-more c0 c1 c2 some_stride x y =
       subst (λ s. Advances c0 c2 (3 * moving counter s) counter s) (sym split)
       (advances-more counter rest item stride c0 c1 c2 (has-term some_stride) stride-is x y)
-
-pub advance-rest : (counter : Counter) (inner : List Held) (other : Held) → 1 ≤ length inner → can_advance counter inner ≡ true
-    → can_advance counter (take (length inner - 1) (drop 1 inner)) ≡ true
-advance-rest counter inner other some can =
-    let rest = take (length inner - 1) (drop 1 inner) in
-    let first = get_or inner 0 other in
-    (and_parts (not (has_counter counter first.form.sum.terms) || may_hold first.register) (can_advance counter rest)
-    (sym (ap (can_advance counter) (others-are inner other some)) ∙ can)).1

@@ -1,32 +1,22 @@
 -- Scopes that are made before a loop's first iteration.
 use Rattle.std.proofs.Common.{◌≡◌, ℕ, ◌+◌, ◌*◌, ◌<◌, ◌≤◌, List, [], ◌∷◌, ◌++◌, length, refl, ap, ◌∙◌, sym, subst, arith, inl}
-use Rattle.std.proofs.Common.{true, append_assoc}
+use Rattle.std.proofs.Common.{append_assoc}
 use Rattle.loop_ir.specs.declared.expressions.Counter.{Counter}
 use Rattle.loop_ir.specs.Counters.{with}
 use Rattle.multi_hart_logic.proofs.Paths.{line-then}
 use Rattle.task_code_scalar.proofs.Spelling.{emits_then}
 use Rattle.task_code_registers.specs.declared.scopes.Form.{Form}
 use Rattle.task_code_registers.specs.declared.scopes.Held.{Held}
-use Rattle.task_code_registers.specs.Registers.{may_hold, IsPlace}
 use Rattle.task_code_registers.specs.Emitting.{MakesValue}
-use Rattle.task_code_registers.specs.Scopes.{IsKept, IsLeft, left_count, have_registers}
-use Rattle.task_code_registers.specs.Strides.{others_of}
+use Rattle.task_code_registers.specs.Scopes.{IsKept, IsLeft, left_count}
 use Rattle.task_code_registers.specs.Holding.{IsAt, Enters, Takes, ScopesNest}
 use Rattle.task_code_registers.proofs.Advancing.{kept-more}
 use Rattle.task_code_registers.proofs.Counting.{still-left}
-use Rattle.task_code_registers.proofs.Knowing.{may-hold, knows-still, kept-apart}
+use Rattle.task_code_registers.proofs.Knowing.{knows-still, kept-apart}
 use Rattle.task_code_registers.proofs.Making.{short-then}
 use Rattle.task_code_registers.proofs.Striding.{others-fewer}
 
 -- ---- one form
-
-pub hold-place : (r : ℕ) → may_hold r ≡ true → IsPlace r
-hold-place r may = let m = may-hold r may in let low = m.low in let high = m.high in ((low, omega (arith, high)), (m.first, m.second))
-
-pub start-have : (counter : Counter) (scope : List Held) (form start : Form) → IsAt counter 0 form start
-    → have_registers scope (others_of counter form.sum.terms) ≡ true
-    → have_registers scope start.sum.terms ≡ true
-start-have counter scope form start at have = ap (have_registers scope) at.terms ∙ have
 
 enters-one : (counter : Counter) (scope : List Held) (form start : Form) (r : ℕ) (c0 c1 : List ℕ) → IsLeft scope r → IsAt counter 0 form start
     → MakesValue c0 c1 scope start r

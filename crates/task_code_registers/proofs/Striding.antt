@@ -172,13 +172,3 @@ stride-more counter terms other same_is rest sum some es et er e =
     let whole : strides counter terms ≡ first.stride + strides counter others =
     ap (strides counter) (others-are terms other some) ∙ ap (λ t. if t then first.stride + strides counter others else strides counter others) (sym es ∙ et) in
     e ∙ ap (λ k. (first.stride + k) % 2 ^ 32) er ∙ add-mod-mod first.stride (strides counter others) (2 ^ 32) ∙ ap (λ k. k % 2 ^ 32) (sym whole)
-
-pub stride-other : (counter : Counter) (terms : List Term) (other : Term) (same_is : Bool) (rest : ℕ) → 1 ≤ length terms
-    → same_is ≡ same_counter (get_or terms 0 other).counter counter → same_is ≡ false
-    → rest ≡ strides counter (take (length terms - 1) (drop 1 terms)) % 2 ^ 32 → rest ≡ strides counter terms % 2 ^ 32
-stride-other counter terms other same_is rest some es et er =
-    let first = get_or terms 0 other in
-    let others = take (length terms - 1) (drop 1 terms) in
-    let whole : strides counter terms ≡ strides counter others =
-    ap (strides counter) (others-are terms other some) ∙ ap (λ t. if t then first.stride + strides counter others else strides counter others) (sym es ∙ et) in
-    er ∙ ap (λ k. k % 2 ^ 32) (sym whole)

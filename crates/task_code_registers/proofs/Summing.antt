@@ -1,7 +1,6 @@
 -- Forms made in registers.
 use Rattle.std.proofs.Common.{◌≡◌, ℕ, suc, ◌+◌, ◌-◌, ◌*◌, ◌%◌, ◌^◌, ◌<◌, ◌≤◌, List, [], ◌∷◌, ◌++◌, length, get_or, take, drop, true}
 use Rattle.std.proofs.Common.{refl, ap, ◌∙◌, sym, subst, arith, inl, inr}
-use Rattle.std.specs.Prelude.{Option, Some, None, IfSome}
 use Rattle.std.proofs.Math.Nat.{mod-add-mod, add-mod-mod}
 use Rattle.std.proofs.lemmas.Nat.{mul-mod_first}
 use Rattle.halide_pipeline.specs.Words as word
@@ -13,7 +12,6 @@ use Rattle.multi_hart_logic.proofs.Paths.{stay}
 use Rattle.task_code_scalar.proofs.Spelling.{emits_then, emits-none}
 use Rattle.task_code_registers.specs.declared.scopes.Form.{Form}
 use Rattle.task_code_registers.specs.declared.scopes.Held.{Held}
-use Rattle.task_code_registers.specs.declared.sums.Near.{Near}
 use Rattle.task_code_registers.specs.Emitting.{Fits, Makes, MakesOf, MakesForm, MakesAddress, IsNear, IsRest, HoldsVariable, sum_value}
 use Rattle.task_code_registers.specs.Registers.{hart_number, may_hold}
 use Rattle.task_code_registers.specs.Scopes.{Knows, form_value}
@@ -73,22 +71,6 @@ near-first (first ∷ others) item other own d some ei may e = record {
       subst (λ n. n < 2 ^ 32) (ap (λ (h : Held). form_value hart values h.form) (sym (sym ei)) ∙ sym knows.0 ∙ ap (λ (h : Held). f h.register) (sym ei))
       (form-small hart values item.form);
 }
-
-near-more : (scope : List Held) (other : Held) (own : Form) (r d : ℕ) → 1 ≤ length scope → IsNear (take (length scope - 1) (drop 1 scope)) own r d
-    → IsNear scope own r d
-near-more scope other own r d some x = subst (λ s. IsNear s own r d) (sym (others-are scope other some)) (record {
-  may = x.may;
-  kept = inr x.kept;
-  word = x.word;
-  value = λ hart values f knows. x.value hart values f knows.1;
-  small = λ hart values f knows. x.small hart values f knows.1;
-})
-
-pub near-rest : (scope : List Held) (other : Held) (own : Form) (found : Option Near) → 1 ≤ length scope
-    → IfSome found (λ at. IsNear (take (length scope - 1) (drop 1 scope)) own at.register at.number)
-    → IfSome found (λ at. IsNear scope own at.register at.number)
-near-rest scope other own None some x = x
-near-rest scope other own (Some at) some x = near-more scope other own at.register at.number some x
 
 -- ---- code
 

@@ -1,7 +1,7 @@
 -- Registers of loop variables.
-use Rattle.std.proofs.Common.{◌≡◌, ℕ, ◌+◌, ◌-◌, ◌*◌, ◌%◌, ◌^◌, ◌≤◌, List, [], ◌∷◌, length, get_or, take, drop, true, false}
-use Rattle.std.proofs.Common.{refl, ap, ◌∙◌, sym, subst, arith}
-use Rattle.std.specs.Prelude.{◌==◌, ◌&&◌, ◌||◌, if◌then◌else◌}
+use Rattle.std.proofs.Common.{◌≡◌, ℕ, ◌+◌, ◌-◌, ◌*◌, ◌%◌, ◌^◌, ◌≤◌, List, [], ◌∷◌, length, get_or, take, drop, true}
+use Rattle.std.proofs.Common.{refl, ap, ◌∙◌, sym, arith}
+use Rattle.std.specs.Prelude.{◌==◌, ◌&&◌, ◌||◌}
 use Rattle.std.proofs.lemmas.Bool.{and_parts, eqb-true, true≢false}
 use Rattle.halide_pipeline.specs.declared.expressions.Variable.{Variable}
 use Rattle.halide_pipeline.specs.declared.expressions.Variable.TheVariants as variables
@@ -80,24 +80,6 @@ variable-first (first ∷ others) item other counter some ei may is = record {
       ∙ variable-value counter item.form hart values is;
 }
 
-pub variable-rest : (scope : List Held) (other : Held) (counter : Counter) (r : ℕ) → 1 ≤ length scope
-    → HoldsVariable (take (length scope - 1) (drop 1 scope)) counter r
-    → HoldsVariable scope counter r
-variable-rest scope other counter r some x = subst (λ s. HoldsVariable s counter r) (sym (others-are scope other some)) (record {
-  may = x.may;
-  value = λ hart values f knows. x.value hart values f knows.1;
-})
-
--- the first register doesn't, so that another one does
-pub has-rest : (scope : List Held) (item other : Held) (counter : Counter) → 1 ≤ length scope → item ≡ get_or scope 0 other
-    → may_hold item.register && is_variable counter item.form ≡ false
-    → has_variable scope counter ≡ true → has_variable (take (length scope - 1) (drop 1 scope)) counter ≡ true
-has-rest scope item other counter some ei fails has =
-    let rest = take (length scope - 1) (drop 1 scope) in
-    sym (ap (λ t. if t then true else has_variable rest counter) fails)
-    ∙ ap (λ (h : Held). if may_hold h.register && is_variable counter h.form then true else has_variable rest counter) ei
-    ∙ sym (ap (λ s. has_variable s counter) (others-are scope other some)) ∙ has
-
 -- ---- terms whose variables have registers
 
 module _ (scope : List Held) (terms : List Term) (other : Term) (some : 1 ≤ length terms) (have : have_registers scope terms ≡ true) where
@@ -110,9 +92,3 @@ module _ (scope : List Held) (terms : List Term) (other : Term) (some : 1 ≤ le
   both : (((first.stride == 0) || has_variable scope first.counter) ≡ true) × (have_registers scope rest ≡ true)
   both = and_parts (first.stride == 0 || has_variable scope first.counter) (have_registers scope rest)
       (sym (ap (have_registers scope) (others-are terms other some)) ∙ have)
-
-  pub have-rest : have_registers scope rest ≡ true
-  have-rest = both.1
-
-  pub have-first : first.stride == 0 ≡ false → has_variable scope first.counter ≡ true
-  have-first counts = sym (ap (λ t. t || has_variable scope first.counter) counts) ∙ both.0

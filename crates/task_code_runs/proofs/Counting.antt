@@ -22,7 +22,7 @@ use Rattle.task_code_registers.proofs.Knowing.{kept-apart, knows-still, knows-ze
 use Rattle.task_code_values.specs.Making.{MakesOfTwo}
 use Rattle.task_code_lanes.specs.declared.groups.Group.{Group}
 use Rattle.task_code_lanes.specs.declared.groups.Group.TheVariants as groups
-use Rattle.task_code_lanes.specs.Groups.{registers, slots, vtype_of, group_of_rounds}
+use Rattle.task_code_lanes.specs.Groups.{registers, vtype_of, group_of_rounds}
 use Rattle.task_code_lanes.specs.Leaving.{HasLanes}
 use Rattle.task_code_lane_values.specs.declared.vectorized.Lanes.{Lanes}
 use Rattle.task_code_lanes.proofs.Configured.{supported, most, has-lanes, configured-others}
@@ -154,11 +154,6 @@ least-more scope counter first next others rest b c0 c1 c2 c3 is x p z = subst (
 })
 
 -- ---- groups
-
-pub some-slots : (group : Group) → 0 < slots group
-some-slots groups.One = omega arith
-some-slots groups.Two = omega arith
-some-slots groups.Four = omega arith
 
 equal : (n k : ℕ) → (n == k) ≡ true → n ≡ k
 equal n k t = grind (arith, nat_tests)

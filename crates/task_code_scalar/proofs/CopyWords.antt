@@ -1,10 +1,10 @@
 -- Words of copies of a loop's body, one behind the other.
-use Rattle.std.proofs.Common.{◌≡◌, ℕ, zero, suc, ◌+◌, ◌*◌, ◌^◌, ◌≤◌, Bool, true, false, List, [], ◌∷◌, ◌++◌, sym, subst, arith}
+use Rattle.std.proofs.Common.{◌≡◌, ℕ, zero, suc, ◌+◌, Bool, true, false, List, [], ◌∷◌, ◌++◌, sym, subst, arith}
 use Rattle.std.specs.Prelude.{pos, if◌then◌else◌}
 use Rattle.rv_insn.specs.declared.instructions.Insn.{Insn}
 use Rattle.rv_insn.specs.declared.instructions.Insn.TheVariants.{AluImm}
 use Rattle.rv_insn.specs.declared.operations.AluImmOp.TheVariants as alu_imms
-use Rattle.loop_ir.specs.Sizes.{are_copies, loop_size}
+use Rattle.loop_ir.specs.Sizes.{are_copies}
 use Rattle.task_code_scalar.specs.Code.{copies_code, laid_out_code, loop_code, turns_code}
 use Rattle.task_code_scalar.specs.Words.{Emits}
 use Rattle.task_code_scalar.proofs.Spelling.{emits_then, emits-none, emits-apart}
@@ -32,9 +32,3 @@ turns-laid {a} {b} is_laid r n insns e x = subst (λ (t : Bool). Emits a b (if t
 pub turns-counted : {a b : List ℕ} (is_laid : Bool) (r n : ℕ) (insns : List Insn) → are_copies is_laid n ≡ false → Emits a b (loop_code r n insns)
     → Emits a b (turns_code is_laid r n insns)
 turns-counted {a} {b} is_laid r n insns e x = subst (λ (t : Bool). Emits a b (if t then laid_out_code r n insns else loop_code r n insns)) (sym e) x
-
-pub laid-long : (is_laid : Bool) (n words : ℕ) → are_copies is_laid n ≡ true → 2 ^ 18 ≤ n * (words + 1) + 1 → 2 ^ 18 ≤ loop_size is_laid n words
-laid-long is_laid n words e x = subst (λ (t : Bool). 2 ^ 18 ≤ (if t then n * (words + 1) + 1 else words + 7)) (sym e) x
-
-pub counted-long : (is_laid : Bool) (n words : ℕ) → are_copies is_laid n ≡ false → 2 ^ 18 ≤ words + 7 → 2 ^ 18 ≤ loop_size is_laid n words
-counted-long is_laid n words e x = subst (λ (t : Bool). 2 ^ 18 ≤ (if t then n * (words + 1) + 1 else words + 7)) (sym e) x

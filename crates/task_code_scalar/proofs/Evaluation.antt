@@ -14,13 +14,12 @@ use Rattle.halide_pipeline.specs.Pixel.{Reads}
 use Rattle.halide_pipeline.specs.Points.{Point, Seen}
 use Rattle.halide_pipeline.proofs.Seeing.{all_parts}
 use Rattle.loop_ir.specs.declared.expressions.Counter.{Counter}
-use Rattle.loop_ir.specs.declared.expressions.Expr.{Expr}
 use Rattle.loop_ir.specs.declared.expressions.Expr.TheOpen.{Expr-F}
 use Rattle.loop_ir.specs.declared.expressions.Expr.TheOpen as layer
 use Rattle.loop_ir.specs.declared.expressions.Linear.{Linear}
 use Rattle.loop_ir.specs.declared.expressions.Term.{Term}
 use Rattle.loop_ir.specs.Counters.{Values}
-use Rattle.loop_ir.specs.Expressions.{sum_of, linear_value, seen, seen_at, loads, value}
+use Rattle.loop_ir.specs.Expressions.{sum_of, linear_value, seen, seen_at, value}
 use Rattle.loop_ir.proofs.Folds.{Both, left_of, right_of, folds_related}
 use Rattle.loop_ir.proofs.Loads.{values_are_seen}
 use Rattle.multi_hart_logic.specs.Alone.{World}
@@ -341,13 +340,3 @@ expressions-leave w harts m places scope values reads l all e is loaded r f low 
     let c = folds_related (Evaluates w harts m places scope values reads l all) (made_at places scope) (seen_at reads values) (level w harts m places scope
     values reads l all) e is loaded in
     leaves-is w m l (values_are_seen reads values e) (c.leaves r f (stacked w harts m places scope values reads l all own.is_leaf r low) room knows)
-
--- and that is a word
-pub value-small : (w : World) (harts : ℕ) (m : List ℕ) (places : Places) (scope : List Counter) (values : Values) (reads : Reads) → length m ≡ w.size
-    → ArePlaces places
-    → (e : Expr) → (made places scope e).is_word ≡ true → AllByRecursion (Loads w places m reads) (loads reads values e) → value reads values e < 2 ^ 32
-unfolding made seen
-value-small w harts m places scope values reads l all e is loaded =
-    let c = folds_related (Evaluates w harts m places scope values reads l all) (made_at places scope) (seen_at reads values) (level w harts m places scope
-    values reads l all) e is loaded in
-    subst (λ v. v < 2 ^ 32) (values_are_seen reads values e) c.small

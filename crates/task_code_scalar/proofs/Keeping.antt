@@ -6,8 +6,6 @@ use Rattle.std.proofs.lemmas.Bool.Decides.{nat_tests}
 use Rattle.loop_ir.specs.declared.expressions.Counter.{Counter}
 use Rattle.loop_ir.specs.Counters.{same_counter, Values, with}
 use Rattle.multi_hart_logic.specs.Alone.{World}
-use Rattle.multi_hart_logic.specs.Paths.{update}
-use Rattle.multi_hart_logic.proofs.Paths.{update-other}
 use Rattle.task_code_scalar.specs.Code.{seat, seat_in}
 use Rattle.task_code_scalar.specs.Values.{Free}
 use Rattle.task_code_scalar.specs.Evaluation.{Knows}
@@ -171,8 +169,3 @@ module _ (w : World) (harts : ℕ) (scope : List Counter) (values : Values) wher
       below : (t : Bool) {c d : ℕ} → c < 2 ^ 32 → d < 2 ^ 32 → (if t then c else d) < 2 ^ 32
       below true x y = x
       below false x y = y
-
-  -- and it may be set
-  pub knows-updated : (v : ℕ) (f : ℕ → ℕ) → length scope < 14 → Knows w harts scope values f → Knows w harts scope values (update f (seat (length scope)) v)
-  knows-updated v f few o = knows-still f (update f (seat (length scope)) v) o (λ q k. update-other f (seat (length scope)) v q (kept-apart (length scope) q few
-      k))

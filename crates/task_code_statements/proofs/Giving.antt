@@ -233,11 +233,6 @@ pub some-given : (places : Places) (scope : List Held) (context : Context) (made
     → NamesIf c0 c1 places scope context found → NamesHold c0 c1 places scope (Meets context) made.scope.items (Meets made.context)
 some-given places scope context made found c0 c1 is all = subst (λ o. NamesIf c0 c1 places scope context o) is all
 
--- no code gives no name
-pub none-if : (places : Places) (scope : List Held) (context : Context) (found : Option Naming) (c0 c1 c2 : List ℕ) → c1 ≡ c0
-    → NamesIf c1 c2 places scope context found → NamesIf c0 c2 places scope context found
-none-if places scope context found c0 c1 c2 is all = subst (λ c. NamesIf c c2 places scope context found) is all
-
 -- one name alone, or with others
 pub one-if : (places : Places) (scope : List Held) (context : Context) (one : Naming) (found : Option Naming) (view : List Held) (c0 c1 c2 : List ℕ)
     → NamesHold c0 c1 places scope (Meets context) one.scope.items (Meets one.context) → found ≡ None → view ≡ one.scope.items

@@ -3,7 +3,6 @@ use Rattle.std.proofs.Common.{◌≡◌, ℕ, ◌+◌, ◌<◌, ◌≤◌, ◌%�
 use Rattle.std.proofs.Common.{subst, arith, cond}
 use Rattle.std.specs.Prelude.{if◌then◌else◌, nat_lt}
 use Rattle.std.proofs.lemmas.Bool.{true≢false}
-use Rattle.std.proofs.lemmas.List.{append-nil, append_assoc}
 use Rattle.halide_pipeline.specs.Pixel.{Planes}
 use Rattle.halide_pipeline.specs.Words as word
 use Rattle.loop_ir.specs.declared.expressions.Counter.{Counter}
@@ -21,11 +20,10 @@ use Rattle.task_code_registers.proofs.Striding.{linear-steady}
 use Rattle.task_code_loops.specs.declared.bounds.Bound.{Bound}
 use Rattle.task_code_loops.specs.Bounds.{IsBelow}
 use Rattle.task_code_loops.specs.Guarding.{GuardsWords, stored_if}
-use Rattle.task_code_runs.specs.declared.left.Left.{Left}
 use Rattle.task_code_runs.proofs.Fronts.{cons-of}
 use Rattle.task_code_statements.specs.declared.guards.Guard.{Guard}
 use Rattle.task_code_statements.specs.declared.guards.Parted.{Parted}
-use Rattle.task_code_statements.specs.Vectorizing.{AddsLeft, GuardsLack, IsLeft, IsParted, OneMore, StandsBehind, TestFirst, TestToo, WordsBehind, is_passed}
+use Rattle.task_code_statements.specs.Vectorizing.{GuardsLack, IsLeft, IsParted, OneMore, StandsBehind, TestFirst, TestToo, WordsBehind, is_passed}
 use Rattle.task_code_statements.specs.Vectorizing.{passes}
 use Rattle.task_code_statements.proofs.Following.{did-is}
 use Rattle.task_code_statements.proofs.Same.{form-sum, first-form}
@@ -90,15 +88,6 @@ first-lacks counter guards others first is none rest = subst (GuardsLack counter
 
 -- ---- by lanes
 
-pub none-parted : (counter : Counter) (guards : List Guard) (made : Parted) → guards ≡ [] → made.fixed.items ≡ [] → made.hanging.items ≡ []
-    → IsParted counter guards made
-none-parted counter guards made is fixed hanging = record {
-  passes_is = λ values.
-      ap (λ l. passes l values) is ∙ sym (ap (λ l. cond (passes l values) (passes made.hanging.items values) false) fixed
-      ∙ ap (λ l. passes l values) hanging);
-  lack = none-lack counter made.fixed.items fixed;
-}
-
 module _ (counter : Counter) (guards others : List Guard) (first own : Guard) (rest made : Parted) (is : guards ≡ first ∷ others) (eo : own ≡ first)
     (parted : IsParted counter others rest) where
   first-and : (values : Values)
@@ -106,17 +95,6 @@ module _ (counter : Counter) (guards others : List Guard) (first own : Guard) (r
   first-and values =
       ap (λ l. passes l values) is ∙ ap (λ t. cond (is_passed first values) t false) (parted.passes_is values)
       ∙ ap (λ g. cond (is_passed g values) (cond (passes rest.fixed.items values) (passes rest.hanging.items values) false) false) (sym eo)
-
-  -- the test hangs on lanes
-  pub lane-parted : made.fixed.items ≡ rest.fixed.items → OneMore rest.hanging.items own made.hanging.items → IsParted counter guards made
-  lane-parted fixed more = record {
-    passes_is = λ values.
-        let a = is_passed own values in
-        let b = passes rest.fixed.items values in
-        first-and values ∙ swapped a b (passes rest.hanging.items values)
-        ∙ sym (ap (λ l. cond (passes l values) (passes made.hanging.items values) false) fixed ∙ ap (λ t. cond b t false) (more values));
-    lack = subst (GuardsLack counter) (sym fixed) parted.lack;
-  }
 
   -- or not
   pub fixed-parted : has_counter counter first.sum.terms ≡ false → OneMore rest.fixed.items own made.fixed.items
@@ -155,24 +133,7 @@ left-is-of bounds counter guard sum extent start stride ex is est some few small
       (let less = below 0 (with counter 0 values) are in omega (arith, less));
 }
 
-pub left-none : (bounds : List Bound) (counter : Counter) (guards : List Guard) (left : List Left) → guards ≡ [] → AddsLeft bounds counter guards left left
-left-none bounds counter guards left is = subst (λ g. AddsLeft bounds counter g left left) (sym is) ([], sym (append-nil left), tt)
-
-pub left-more : (bounds : List Bound) (counter : Counter) (guards others : List Guard) (first : Guard) (own : Left) (old pushed new : List Left)
-    → guards ≡ first ∷ others → IsLeft bounds counter first own → pushed ≡ old ++ (own ∷ []) → AddsLeft bounds counter others pushed new
-    → AddsLeft bounds counter guards old new
-left-more bounds counter guards others first own old pushed new is one ep rest = subst (λ g. AddsLeft bounds counter g old new) (sym is) (
-  own ∷ rest.0,
-  rest.1 ∙ ap (λ l. l ++ rest.0) ep ∙ append_assoc old (own ∷ []) rest.0,
-  (one, rest.2),
-)
-
 -- ---- the first iteration
-
-pub first-none : (bounds : List Bound) (counter : Counter) (fixed hanging : List Guard) → hanging ≡ [] → TestFirst bounds counter fixed hanging fixed
-first-none bounds counter fixed hanging is values are =
-    let at = with counter 0 values in
-    sym (and-true (passes fixed at)) ∙ sym (ap (λ l. cond (passes fixed at) (passes l at) false) is)
 
 pub first-more : (bounds : List Bound) (counter : Counter) (fixed made new hanging others : List Guard) (first : Guard) (start : Form)
     → hanging ≡ first ∷ others → IsAt counter 0 (record { sum = first.sum; per_hart = 0 }) start

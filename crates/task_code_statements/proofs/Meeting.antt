@@ -72,9 +72,6 @@ name-stays counter own values v other lacks k =
       small = subst (λ n. n < 2 ^ 32) (sym e) k.small;
     }
 
-pub none-kept : (counter : Counter) (names old : List Named) → KeepsNames counter names old old
-none-kept counter names old values v are kept = kept
-
 pub passed-by : (counter : Counter) (names others old new : List Named) (first : Named) → names ≡ first ∷ others → KeepsNames counter others old new
     → KeepsNames counter names old new
 passed-by counter names others old new first is keeps = subst (λ l. KeepsNames counter l old new) (sym is) (λ values v are kept. keeps values v are.1 kept)
@@ -96,10 +93,6 @@ one-kept counter names others old mid new first own is other lacks same em keeps
     let here = same-value own first.counter first.e (with counter v values) same (name-stays counter first values v other lacks are.0) in
     keeps values v are.1 (subst (λ l. AreNames l (with counter v values)) (sym em)
     (append-named old (own ∷ []) (with counter v values) kept (here, tt))))
-
-pub stay-named : (counter : Counter) (names none made : List Named) → none ≡ [] → KeepsNames counter names none made → StayNamed counter names made
-stay-named counter names none made is keeps values v are =
-    keeps values v are (subst (λ l. AreNames l (with counter v values)) (sym is) tt)
 
 module _ (context : Context) (counter : Counter) where
   abbrev rest : List Known

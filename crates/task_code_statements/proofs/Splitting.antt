@@ -1,6 +1,6 @@
 -- Split loops: their values as sums, and their bodies, under a test or not.
 use Rattle.std.proofs.Common.{◌≡◌, ℕ, ◌+◌, ◌*◌, ◌%◌, ◌^◌, ◌<◌, ◌≤◌, List, [], ◌∷◌, ◌++◌, length, true, false, refl, ap, ◌∙◌, sym, subst, arith}
-use Rattle.std.specs.Prelude.{if◌then◌else◌, min, nat_lt, IfSome, Option, Some, None}
+use Rattle.std.specs.Prelude.{if◌then◌else◌, min, nat_lt, IfSome, Option, Some}
 use Rattle.std.proofs.Math.Nat.{min-eq_left}
 use Rattle.std.proofs.lemmas.Bool.Decides.{nat_tests}
 use Rattle.halide_pipeline.specs.Words as word
@@ -98,12 +98,6 @@ module _ (context : Context) (whole : Whole) (last : ℕ) (made : Linear) (el : 
   pub name-begins : (counter : Counter) → HasLesser context made last counter → BeginsRun context whole (starts.Name counter)
   name-begins counter has values meets =
       last-is values ∙ ap (λ n. min n last) (sym (is.value_is values meets.known)) ∙ sym (has values meets)
-
-pub any-begins : (context : Context) (whole : Whole) → BeginsRun context whole starts.Unknown
-any-begins context whole values meets = refl
-
-pub no-last-begins : (context : Context) (whole : Whole) → whole.last ≡ None → BeginsRun context whole starts.Product
-no-last-begins context whole none values meets = ap (λ o. at_most o (product whole values)) none
 
 -- ---- sums from a start
 

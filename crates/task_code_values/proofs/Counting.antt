@@ -1,5 +1,5 @@
 -- Needs, counted up to 2,000.
-use Rattle.std.proofs.Common.{◌≡◌, ℕ, ◌+◌, ◌≤◌, ◌<◌, Bool, ap, ◌∙◌, sym, arith}
+use Rattle.std.proofs.Common.{◌≡◌, ℕ, ◌+◌, Bool, ap, ◌∙◌, sym}
 use Rattle.std.specs.Prelude.{max, min, if◌then◌else◌}
 use Rattle.halide_pipeline.specs.declared.expressions.Operation.{Operation}
 use Rattle.halide_pipeline.specs.declared.expressions.Source.{Source}
@@ -48,11 +48,3 @@ pub select-counted : (own c a b x y z : Expr) (f s u k : ℕ) → own ≡ e.Sele
 select-counted own c a b x y z f s u k eo ex ey ez cf cs cu is =
     whole own (e.Select c a b) _ k eo (need_select c a b) (is (need c) (need a) (need b) (counted-as x c f ex cf) (counted-as y a s ey cs)
     (counted-as z b u ez cu))
-
--- ---- what the stack has room for
-
-pub on-stack : (own : Expr) (k : ℕ) → k ≡ min (need own) 2000 → k ≤ 12 → need own + 20 ≤ 32
-on-stack own k is few = omega (arith, is, few)
-
-pub off-stack : (own : Expr) (k : ℕ) → k ≡ min (need own) 2000 → 12 < k → need own + 20 ≤ 32 → ⊥
-off-stack own k is many room = omega (arith, is, many, room)

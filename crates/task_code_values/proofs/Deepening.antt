@@ -63,11 +63,6 @@ module _ (places : Places) (scope : List Held) where
   pub passes-parts : (own : Setting) (xs ys : List Point) → Passes own (xs ++ ys) → Passes own xs × Passes own ys
   passes-parts own xs ys is = and_parts (list_all own.loaded xs) (list_all own.loaded ys) (sym (list_all-append own.loaded xs ys) ∙ is)
 
-  -- an operand's register stays while what is above the stack's first is used
-  stays-32 : (s : ℕ) → AreHolders scope → (s ≡ first_value) ⊎ IsKept scope s → IsBelow 32 s
-  stays-32 s holders (inl g) = (inr (omega (arith, g)), inl (omega (arith, g)))
-  stays-32 s holders (inr h) = kept-below scope s 32 (omega arith) holders h
-
   -- ---- a value, and a second one beside it
 
   pub binary-deep : (o : Operation) (a b : Expr) (first s : ℕ) (both : Both) (c0 c1 c2 c3 : List ℕ) → MakesValue c0 c1 places scope first s a

@@ -1,5 +1,5 @@
 -- The code of an expression leaves its value.
-use Rattle.std.proofs.Common.{◌≡◌, ℕ, ◌+◌, ◌^◌, ◌<◌, ◌≤◌, List, [], ◌∷◌, ◌++◌, length, true, refl, ap, ◌∙◌, sym, subst, arith, inl, inr}
+use Rattle.std.proofs.Common.{◌≡◌, ℕ, ◌+◌, ◌^◌, ◌<◌, ◌≤◌, List, [], ◌∷◌, ◌++◌, length, refl, ap, ◌∙◌, sym, subst, arith, inl, inr}
 use Rattle.std.proofs.lemmas.List.{append-nil}
 use Rattle.std.specs.Prelude.{◌⊎◌, ◌==◌, if◌then◌else◌}
 use Rattle.std.specs.List.{AllByRecursion}
@@ -37,8 +37,7 @@ use Rattle.task_code_values.specs.declared.immediates.Immediate.{Immediate}
 use Rattle.task_code_values.specs.Immediates.{immediate_value, IsImmediateNumber, IsImmediate}
 use Rattle.task_code_values.specs.Making.{IsStack, IsBelow, MakesOfTwo, MakesFrom, MakesHeld, Selects}
 use Rattle.task_code_values.specs.Operands.{IsOperand, IsLeafPlace, MakesOperand, IsSum, IsIndex, StandsIn, MakesIndex, MakesPixel}
-use Rattle.task_code_values.specs.Points.{HaveIndex}
-use Rattle.task_code_values.specs.Sizes.{value_words, are_held}
+use Rattle.task_code_values.specs.Sizes.{value_words}
 use Rattle.task_code_values.proofs.Standing.{kept-below, below-apart, below-more}
 use Rattle.task_code_values.proofs.Literals.{of-operand}
 use Rattle.task_code_values.proofs.Parts.{words_number, words_linear, words_binary, words_divide, words_remainder, words_select, words_load}
@@ -425,11 +424,6 @@ module _ (places : Places) (scope : List Held) where
         (subst (MakesIndex c1 c2 places scope (r + 1) row) ey v) z))
 
   -- ---- indexes
-
-  -- which loop variables an index asks for
-  pub held-index : (own : Expr) (index : Index) (r : ℕ) (c0 c1 : List ℕ) → MakesIndex c0 c1 places scope r index own → are_held scope own ≡ true
-      → HaveIndex scope index
-  held-index own index r c0 c1 x held = x.held held
 
   pub index-sum : (own : Expr) (sum : Linear) (r : ℕ) (c : List ℕ) → IsSum own sum → MakesIndex c c places scope r (indexes.Sum sum) own
   index-sum own sum r c is = record {

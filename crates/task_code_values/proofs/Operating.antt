@@ -28,9 +28,6 @@ use Rattle.task_code_values.specs.Making.{MakesOfTwo, Blends, Selects}
 13-14 : scratch ≢ second_scratch
 13-14 e = omega (arith, e)
 
-0-13 : zero_register ≢ scratch
-0-13 e = omega (arith, e)
-
 -- ---- one instruction behind another
 
 -- a scratch register or r itself is set first

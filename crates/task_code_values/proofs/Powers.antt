@@ -157,9 +157,6 @@ pub record IsPower (c : ℕ) : Type 0 where
   pub few : exponent < 32
   pub is : c ≡ 2 ^ exponent
 
-pub power-found : (c k : ℕ) (found : Option ℕ) → found ≡ Some k → IfSome found (λ k. (k < 32) × (c ≡ 2 ^ k)) → (k < 32) × (c ≡ 2 ^ k)
-power-found c k found e is = subst (λ o. IfSome o (λ k. (k < 32) × (c ≡ 2 ^ k))) e is
-
 pub some-power : (c : ℕ) (found : Option ℕ) (t : Bool) → t ≡ is_some found → t ≡ true → IfSome found (λ k. (k < 32) × (c ≡ 2 ^ k)) → IsPower c
 some-power c None t e f is = absurd (true≢false (sym f ∙ e))
 some-power c (Some k) t e f is = record { exponent = k; few = is.0; is = is.1 }

@@ -11,7 +11,7 @@ use Rattle.turn_log.specs.TurnLog.{count_of, most_turns}
 use Rattle.turn_log.specs.inner.SoFar.{turns_before}
 use Rattle.turn_log.specs.LogSpelling.{◌>>=◌, begins_with, total_of, expanded, run_read, judged, front_run, front_runs}
 use Rattle.turn_log.specs.declared.log_faults.LogFault.{LogFault}
-use Rattle.turn_log.specs.declared.log_faults.LogFault.TheVariants.{Truncated, NotCanonical, TooManyTurns}
+use Rattle.turn_log.specs.declared.log_faults.LogFault.TheVariants.{Truncated, TooManyTurns}
 use Rattle.turn_log.specs.declared.runs.Run.{Run}
 use Rattle.turn_log.proofs.RunLaws.{total_of-cons, count_of-push_run}
 
@@ -133,11 +133,3 @@ judged_too_many harts before run below some other many =
     let goes_on : (eqb run.length 0 || begins_with before run.hart) ≡ false = or_from _ _ (ne_eqb run.length 0 some) other in
     let too_many : ltb most_turns (total_of before run.hart + run.length) ≡ true = lt-ltb _ _ many in
     rw (is_below, goes_on, too_many) refl
-
-pub judged_joins : (harts : ℕ) (before : List Run) (run : Run) → run.hart < harts → (run.length ≡ 0 → ⊥) → begins_with before run.hart ≡ true
-    → judged harts before run ≡ Err NotCanonical
-unfolding judged
-judged_joins harts before run below some other =
-    let is_below : leb harts run.hart ≡ false = lt-leb harts run.hart below in
-    let goes_on : eqb run.length 0 ≡ false = ne_eqb run.length 0 some in
-    rw (is_below, goes_on, other) refl

@@ -261,10 +261,6 @@ with_run-opens [] run other = refl
 with_run-opens (first ∷ []) run other = sym (cond-false (eqb first.hart run.hart) (run ∷ []) (first ∷ run ∷ []) other)
 with_run-opens (first ∷ (second ∷ others)) run other = ap (λ (rs : List Stretch). first ∷ rs) (with_run-opens (second ∷ others) run other)
 
-pub some_runs : (runs : List Stretch) (hart : ℕ) → is_of (last_of runs) hart ≡ true → 1 ≤ length runs
-some_runs [] hart e = absurd cc
-some_runs (first ∷ others) hart e = omega arith
-
 -- ---- the last turn
 
 last_of-there : (first : Stretch) (others : List Stretch) → last_of (first ∷ others) ≡ None → ⊥
@@ -302,9 +298,6 @@ pub last_turn-other : (harts : ℕ) (runs : List Stretch) (hart : ℕ) → AreRu
 last_turn-other harts runs hart are other = other_hart harts runs hart (last_of runs) refl are other
 
 -- ---- how many turns
-
-pub length-none : (runs : List Stretch) → last_of runs ≡ None → length (turns_of runs) ≡ 0
-length-none runs e = ap length (no_turns runs e)
 
 pub length-some : (harts : ℕ) (runs : List Stretch) (run : Stretch) → AreRuns harts (runs_from 0 runs) → last_of runs ≡ Some run
     → length (turns_of runs) ≡ run.end

@@ -1,5 +1,5 @@
 -- Runs of turns: the turns that they stand for, and the longest runs of turns.
-use Rattle.std.proofs.Common.{◌≡◌, ℕ, zero, suc, ◌+◌, ◌-◌, ◌*◌, ◌^◌, ◌<◌, ◌≤◌, Bool, true, false, cond, eqb, List, [], ◌∷◌, ◌++◌, length, drop, All, replicate}
+use Rattle.std.proofs.Common.{◌≡◌, ℕ, zero, suc, ◌+◌, ◌-◌, ◌*◌, ◌<◌, ◌≤◌, Bool, true, false, cond, eqb, List, [], ◌∷◌, ◌++◌, length, drop, All, replicate}
 use Rattle.std.proofs.Common.{Some, None, refl, sym, ap, subst, ◌∙◌, arith, add-one, one-add, inl, inr}
 use Rattle.std.specs.Prelude.{slice_get, sum, get_or}
 use Rattle.std.specs.List.{prefix_len, AllByRecursion}
@@ -147,11 +147,6 @@ AllFollow-from_runs harts before (run ∷ runs) are apart few =
 next_apart : (harts : ℕ) (before : List Run) (run : Run) (runs : List Run) → AllFollow harts (run ∷ before) runs → begins_with runs run.hart ≡ false
 next_apart harts before run [] all = refl
 next_apart harts before run (next ∷ runs) all = other_way run.hart next.hart all.0.other
-
--- what follows has a length of eight bytes
-pub lengths_fit : (harts : ℕ) (before runs : List Run) → AllFollow harts before runs → AllByRecursion (λ run. run.length < 2 ^ 64) runs
-lengths_fit harts before [] all = tt
-lengths_fit harts before (run ∷ runs) all = (let few = all.0.few in omega (arith, few), lengths_fit harts (run ∷ before) runs all.1)
 
 pub AreRuns-from_follow : (harts : ℕ) (before runs : List Run) → AllFollow harts before runs → AreRuns harts runs
 AreRuns-from_follow harts before [] all = tt

@@ -26,10 +26,6 @@ phases_to (suc n) (standing ∷ standings) [] boxes = 0
 phases_to (suc n) (standing ∷ standings) (func ∷ funcs) [] = 0
 phases_to (suc n) (standing ∷ standings) (func ∷ funcs) (own ∷ boxes) = phases_of standing.place func own + phases_to n standings funcs boxes
 
-none_to : (standings : List Standing) (funcs : List Func) (boxes : List (Option SourceBox)) → phases_to 0 standings funcs boxes ≡ 0
-unfolding phases_to
-none_to standings funcs boxes = refl
-
 all_of : (n : ℕ) (standings : List Standing) (funcs : List Func) (boxes : List (Option SourceBox))
     → phases_to n standings funcs boxes ≤ phases standings funcs boxes
 unfolding phases_to

@@ -7,7 +7,7 @@ use Rattle.std.proofs.lemmas.Bool.Decides.{nat_tests}
 use Rattle.std.specs.Int.{w32, to_le_bytes, from_le_bytes}
 use Rattle.memory.specs.Access.{data_start, byte_at, Word, word_at, put_number, touched}
 use Rattle.hart_core.specs.Scalar.{one_access}
-use Rattle.multi_hart_logic.specs.Uses.{Use, Control, Fixed, Owned, Private}
+use Rattle.multi_hart_logic.specs.Uses.{Use, Control, Owned, Private}
 use Rattle.std.specs.Prelude.{◌/◌}
 use Rattle.std.proofs.lemmas.Nat.{from_le_bytes-to_le_bytes_4}
 use Rattle.memory.proofs.Words.{bytes-put}
@@ -130,11 +130,6 @@ pub second-owned : (t : ℕ) → t < 2 → second_uses (6 + t) ≡ Owned t
 second-owned zero l = refl
 second-owned (suc zero) l = refl
 second-owned (suc (suc t)) l = absurd (omega (arith, l))
-
-pub second-fixed : (t : ℕ) → t < 2 → second_uses (4 + t) ≡ Fixed
-second-fixed zero l = refl
-second-fixed (suc zero) l = refl
-second-fixed (suc (suc t)) l = absurd (omega (arith, l))
 
 pub first-private : (k : ℕ) → k < 8 → first_uses (8 + k) ≡ Private k
 first-private k l = grind (arith, nat_tests)

@@ -296,16 +296,6 @@ module _ (z p : Phase) (c : Code p) (td : TaskDone p) (behind-it : HasGate p ⊎
       | inr n ↦ absurd (gate-or-end p (gate-of r top s (let b = added-most r in omega (arith, n, b)) i) he)
     ]
 
-    -- one task, drawn and done by this hart alone
-    do-task : (top : ℕ) (s : State) → top < p.tasks → Inv z p (with Drawing) top s → Got z p roles k Drawing (top + 1) s
-    do-task top s l i =
-        let y = one (Drew top) (top + 1) (turn s k) (drawn top s i) (out (Drew top) (top + 1) (turn s k) (drawn top s i) refl) in
-        elim y.becomes.1 [
-          | inl a ↦ after Drawing (top + 1) s (after Drawing (top + 1) (turn s k) (from-inside (Task top) (p.turns (Task top)) a.1.0 (top + 1)
-              (turn (turn s k) k) (again (Drew top) (top + 1) (turn s k) y (Inside (Task top) (p.turns (Task top)) a.1.0) (top + 1) a.1.1 y.becomes.0)))
-          | inr a ↦ let q = a.0 in absurd (omega (arith, q, l))
-        ]
-
 pub added-either : (r : Role) → (has_added r ≡ 0) ⊎ (has_added r ≡ 1)
 added-either r = let a = added-most r in elim (cases_eq (has_added r) 0) [ inl e ↦ inl e | inr e ↦ inr (omega (arith, a, e)) ]
 

@@ -2,21 +2,21 @@
 use Rattle.multi_hart_logic.specs.Alone.{Covers, Says, Keeps}
 use Rattle.multi_hart.specs.Run.{Within, is_in, writes}
 use Rattle.std.proofs.Common.{◌≡◌, ℕ, zero, suc, ◌+◌, ◌*◌, ◌%◌, ◌^◌, ◌≤◌, List, length, set, None, Bool, true, false, refl, ap, ◌∙◌, sym, subst, arith, inl}
-use Rattle.std.proofs.Common.{inr, get_or-set_other, [], ◌∷◌, length-set}
-use Rattle.std.specs.Prelude.{◌≢◌, ◌⊎◌, ◌==◌, ◌||◌, not, slice_index, slice_get, nat_lt, Some, ℤ}
+use Rattle.std.proofs.Common.{inr, get_or-set_other, []}
+use Rattle.std.specs.Prelude.{◌≢◌, ◌==◌, ◌||◌, not, slice_index, nat_lt, ℤ}
 use Rattle.std.proofs.lemmas.Bool.{ltb-true}
 use Rattle.std.proofs.lemmas.Bool.Decides.{nat_tests}
 use Rattle.std.proofs.lemmas.List.{get_or-set_same}
 use Rattle.rv_insn.specs.declared.instructions.Insn.{Insn}
 use Rattle.rv_insn.specs.declared.instructions.Insn.TheVariants.{Load}
 use Rattle.rv_insn.specs.declared.operations.LoadOp.TheVariants.{Lw}
-use Rattle.memory.specs.Access.{data_start, AreBytes, Word, Reads, word_at, put_number, first_fault, touched, read_by, written_by, or_else, Writes}
+use Rattle.memory.specs.Access.{data_start, Word, Reads, word_at, put_number, first_fault, touched, read_by, written_by, or_else, Writes}
 use Rattle.hart_core.specs.declared.harts.Status.TheVariants.{Running}
 use Rattle.hart_core.specs.HartState.{HartState, advanced, register, given}
 use Rattle.hart_core.specs.Scalar.{one_access, kind_of, accesses, plus}
 use Rattle.hart_core.specs.Turn.{Does, done, numbers_read, applied, step, fault}
 use Rattle.multi_hart_logic.specs.Uses.{Owned, Job, Task, Setup, MayRead, MayWrite}
-use Rattle.vector_codegen_sharing.specs.Phases.{Phase, Kept, Stands}
+use Rattle.vector_codegen_sharing.specs.Phases.{Phase, Stands}
 use Rattle.vector_codegen_sharing.specs.Solo.{world, SoonDone}
 use Rattle.rv_insn.specs.declared.instructions.Insn.TheVariants.{Store}
 use Rattle.rv_insn.specs.declared.operations.StoreOp.TheVariants.{Sw}
@@ -99,28 +99,6 @@ now p k at h r v st l = get_or-set_same h.registers r v 0 (let s = st.kept.size 
 pub kept-other : (h : HartState) (r q v w : ℕ) → (q == r) ≡ false → slice_index h.registers q ≡ w → slice_index (set h.registers r v) q ≡ w
 kept-other h r q v w n e = get_or-set_other h.registers r q v 0 (λ y. let x : (q == r) ≡ true = grind (arith, nat_tests) in let z : true ≡ false = sym x
     ∙ n in cc z) ∙ e
-
--- a vector register gets 16 other bytes
-set-either : {X : Type 0} (xs : List X) (i j : ℕ) (y x : X) → slice_get (set xs i y) j ≡ Some x → (x ≡ y) ⊎ (slice_get xs j ≡ Some x)
-set-either [] i j y x e = inr e
-set-either (z ∷ xs) zero zero y x e = inl (cc e)
-set-either (z ∷ xs) zero (suc j) y x e = inr e
-set-either (z ∷ xs) (suc i) zero y x e = inr e
-set-either (z ∷ xs) (suc i) (suc j) y x e = set-either xs i j y x e
-
-pub kept-vector : (p : Phase) (k : ℕ) (xs : List ℕ) (vs : List (List ℕ)) (v : ℕ) (bytes : List ℕ) → length bytes ≡ 16 → AreBytes bytes → Kept p k xs vs
-    → Kept p k xs (set vs v bytes)
-kept-vector p k xs vs v bytes l u o = record {
-  size = o.size;
-  vector_count = length-set vs v bytes ∙ o.vector_count;
-  vector_bytes = λ i b e. elim (set-either vs v i bytes b e) [ inl q ↦ (ap length q ∙ l, subst AreBytes (sym q) u) | inr q ↦ o.vector_bytes i b q ];
-  number = o.number;
-  harts = o.harts;
-  ticket = o.ticket;
-  gate = o.gate;
-  one = o.one;
-  tasks = o.tasks;
-}
 
 -- ---- words
 

@@ -1,6 +1,5 @@
 -- Lists of what the active elements give, made index by index.
-use Rattle.std.proofs.Common.{◌≡◌, ℕ, suc, ◌+◌, ◌-◌, ◌<◌, ◌≤◌, Bool, true, false, List, [], ◌∷◌, ◌++◌, map, refl, sym, ◌∙◌, ap, arith, append_assoc}
-use Rattle.std.proofs.lemmas.List.{append-nil}
+use Rattle.std.proofs.Common.{◌≡◌, ℕ, suc, ◌+◌, ◌-◌, ◌<◌, Bool, true, false, List, [], ◌∷◌, ◌++◌, map, refl, sym, ◌∙◌, ap, arith, append_assoc}
 use Rattle.std.specs.List.{range_with_len}
 use Rattle.lanes.specs.Words.{chosen_of}
 
@@ -41,9 +40,3 @@ left_after_other active f g i end made wanted l a h = record {
       rw one (ap (map g) (picked_later active f i (end - (i + 1)) a)) in
       ap (λ t. made ++ t) (sym step) ∙ h.all;
 }
-
-pub left_at_end : (active : ℕ → Bool) (f g : ℕ → ℕ) (i end : ℕ) (made wanted : List ℕ) → end ≤ i → IsLeft active f g i end made wanted → made ≡ wanted
-left_at_end active f g i end made wanted l h =
-    let none : end - i ≡ 0 = omega arith in
-    let all : made ++ map g (picked active f i 0) ≡ wanted = rw none at h.all in
-    sym (append-nil made) ∙ all

@@ -1,12 +1,11 @@
 -- What a supported vtype says: its widths and its groups.
-use Rattle.std.proofs.Common.{◌≡◌, ℕ, List, [], ◌∷◌, zero, suc, ◌*◌, ◌/◌, ◌%◌, ◌^◌, ◌≤◌, true, false, refl, arith, inl, inr, ◌&&◌}
+use Rattle.std.proofs.Common.{◌≡◌, ℕ, zero, suc, ◌*◌, ◌/◌, ◌%◌, ◌^◌, ◌≤◌, true, false, refl, arith, inl, inr, ◌&&◌}
 use Rattle.std.specs.Prelude.{nat_lt, nat_le}
 use Rattle.std.proofs.lemmas.Bool.{and_parts, leb-true, not-false}
 use Rattle.lanes.specs.Words.{IsWidth}
 use Rattle.rv_insn.specs.declared.vector_operations.ElementWidth.{ElementWidth}
 use Rattle.rv_insn.specs.declared.vector_operations.ElementWidth.TheVariants.{Bits8, Bits16, Bits32}
 use Rattle.vector_unit.specs.Vector.{Vectors, is_supported, has_vill, vlmul_of, vsew_of, group_of, most_elements, bits_of, width, group, group_at, count}
-use Rattle.vector_unit.specs.Vector.{is_misplaced}
 
 few : (k : ℕ) → k ≤ 2 → 2 ^ k ≤ 4
 few zero l = omega arith
@@ -74,8 +73,3 @@ single_words vtype e = (of_word (vtype / 8 % 8) (omega (arith, e)), of_single (v
 
 by_one : (v : ℕ) → v % 1 ≡ 0
 by_one v = omega arith
-
--- where a group is one register, all begin one
-pub none_misplaced : (state : Vectors) → group state ≡ 1 → (groups : List ℕ) → is_misplaced state groups ≡ false
-none_misplaced state e [] = refl
-none_misplaced state e (v ∷ groups) = rw (e, by_one v) (none_misplaced state e groups)
