@@ -13,19 +13,19 @@
 //! - [`laws`]: that the listing of words assembles to these words (`specs/Listings.antt`).
 #![tactic(auto)]
 
-pub mod assembling;
-pub mod building;
-pub mod commands;
+mod assembling;
+mod building;
+mod commands;
 pub mod faults;
-pub mod labels;
+mod labels;
 pub mod laws;
 pub mod lines;
-pub mod objects;
+mod objects;
 pub mod operands;
-pub mod operations;
-pub mod places;
-pub mod products;
-pub mod surveys;
+mod operations;
+mod places;
+mod products;
+mod surveys;
 
 pub use crate::assembling::assemble;
 pub use crate::faults::AsmFault;

@@ -16,12 +16,12 @@
 #![tactic(auto)]
 
 mod building;
-pub mod configurations;
-pub mod fields;
+mod configurations;
+mod fields;
 pub mod forms;
 pub mod laws;
 mod names;
-pub mod registers;
+mod registers;
 mod search;
 mod shapes;
 pub mod slots;

@@ -11,10 +11,10 @@
 #![tactic(auto)]
 
 pub mod boards;
-pub mod closing;
-pub mod dealing;
-pub mod known;
-pub mod rule;
-pub mod steps;
+mod closing;
+mod dealing;
+mod known;
+mod rule;
+mod steps;
 
 pub use crate::boards::{Board, BoardSeat, Closing, Glance};

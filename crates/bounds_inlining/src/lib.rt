@@ -10,7 +10,7 @@
 #![tactic(auto)]
 
 pub mod counts;
-pub mod funcs;
+mod funcs;
 pub mod laws;
 pub mod needs;
 

@@ -9,7 +9,7 @@
 //! Inlined Funcs are never put in place: each Func is gone through once (`bounds_inlining`).
 #![tactic(auto)]
 
-pub mod copies;
+mod copies;
 pub mod faults;
 pub mod stage_needs;
 pub mod weighing;

@@ -14,12 +14,12 @@
 #![tactic(auto)]
 
 mod kept;
-pub mod marks;
+mod marks;
 mod passing;
-pub mod readers;
+mod readers;
 pub mod refusals;
-pub mod sessions;
-pub mod stops;
+mod sessions;
+mod stops;
 mod turns;
 mod walking;
 

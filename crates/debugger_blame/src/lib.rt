@@ -12,7 +12,7 @@
 
 pub mod laws;
 pub mod marks;
-pub mod passes;
+mod passes;
 mod quiets;
 mod stores;
 pub mod writes;

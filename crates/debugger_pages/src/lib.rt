@@ -9,10 +9,10 @@
 //! - [`turns`]: turns that mark the pages which they write.
 #![tactic(auto)]
 
-pub mod layers;
-pub mod marks;
+mod layers;
+mod marks;
 pub mod pages;
-pub mod turns;
+mod turns;
 
 pub use crate::layers::{put_below, settle};
 pub use crate::marks::{mark_below, mark_pages};

@@ -6,7 +6,7 @@
 #![tactic(auto)]
 
 pub mod stores;
-pub mod tables;
+mod tables;
 
 pub use crate::stores::{Stored, StoredNumber, number_stored, numbers_stored, store_of};
 pub use crate::tables::{store_at, stores_of};

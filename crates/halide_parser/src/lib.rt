@@ -12,15 +12,15 @@
 //! adds, `specs/Parsing.antt` what the text comes to. `specs/inner` has words for the code alone.
 #![tactic(auto)]
 
-pub mod ahead;
-pub mod applying;
+mod ahead;
+mod applying;
 mod calls;
-pub mod judging;
-pub mod line_reading;
-pub mod parsing;
-pub mod passes;
+mod judging;
+mod line_reading;
+mod parsing;
+mod passes;
 pub mod readers;
-pub mod rules;
-pub mod scopes;
+mod rules;
+mod scopes;
 
 pub use crate::parsing::parse;

@@ -21,8 +21,8 @@ pub mod definitions;
 pub mod environments;
 pub mod expressions;
 pub mod laws;
-pub mod names;
-pub mod pipelines;
+mod names;
+mod pipelines;
 pub mod words;
 
 pub use crate::definitions::{Func, Input, MOST_EXTENT, MOST_POINTS, Output, Reduction, Update};

@@ -10,9 +10,9 @@
 mod accesses;
 mod alu;
 mod element_accesses;
-pub mod execution;
+mod execution;
 pub mod harts;
-pub mod meanings;
+mod meanings;
 mod pieces;
 mod vectors;
 

@@ -6,8 +6,8 @@
 //! - [`faults`]: why words are refused ([`CommandLineFault`]), over `specs/Faults.antt`.
 #![tactic(auto)]
 
-pub mod command_lines;
-pub mod faults;
+mod command_lines;
+mod faults;
 pub mod laws;
 mod programs;
 

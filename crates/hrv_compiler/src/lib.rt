@@ -8,11 +8,11 @@
 //! - [`places`]: where buffers lie.
 #![tactic(auto)]
 
-pub mod compiled;
-pub mod compiling;
+mod compiled;
+mod compiling;
 mod data;
 pub mod faults;
-pub mod places;
+mod places;
 
 pub use crate::compiled::Compiled;
 pub use crate::compiling::compile;

@@ -26,26 +26,26 @@
 //! dump and of its picture.
 #![tactic(auto)]
 
-pub mod asm;
-pub mod blame;
+mod asm;
+mod blame;
 mod blame_texts;
 mod commands;
-pub mod compiling;
+mod compiling;
 mod cuts;
-pub mod debug;
+mod debug;
 pub mod devices;
-pub mod dis;
-pub mod drawing;
+mod dis;
+mod drawing;
 mod dumps;
 pub mod explain;
 pub mod faults;
 pub mod laws;
-pub mod mapping;
+mod mapping;
 mod pictures;
-pub mod questions;
-pub mod renew;
-pub mod replay;
-pub mod run;
+mod questions;
+mod renew;
+mod replay;
+mod run;
 mod talks;
 
 pub use crate::asm::asm_bytes;

@@ -8,11 +8,11 @@
 //! - [`stages`]: the lines of stages inside of phases (`specs/Stages.antt`).
 #![tactic(auto)]
 
-pub mod areas;
+mod areas;
 mod lines;
-pub mod maps;
-pub mod names;
-pub mod phases;
+mod maps;
+mod names;
+mod phases;
 mod stages;
 
 pub use crate::maps::map_text;

@@ -4,7 +4,7 @@
 //! - [`explanations`]: the lines that explain a refusal ([`push_explanation`]), over `specs/Explanations.antt`.
 #![tactic(auto)]
 
-pub mod explanations;
-pub mod table;
+mod explanations;
+mod table;
 
 pub use crate::explanations::{is_explained, push_explanation};

@@ -13,11 +13,11 @@
 
 mod comparisons;
 mod kernels;
-pub mod kinds;
+mod kinds;
 pub mod laws;
-pub mod masks;
+mod masks;
 mod operations;
-pub mod registers;
+mod registers;
 pub mod vectors;
 
 pub use crate::kinds::LaneKind;

@@ -13,7 +13,7 @@
 #![tactic(auto)]
 
 pub mod laws;
-pub mod line_readers;
+mod line_readers;
 pub mod lines;
 pub mod numbers;
 pub mod read_errors;

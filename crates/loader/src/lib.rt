@@ -9,11 +9,11 @@
 
 pub mod faults;
 pub mod formats;
-pub mod images;
-pub mod loading;
+mod images;
+mod loading;
 pub mod outputs;
-pub mod readings;
-pub mod spellings;
+mod readings;
+mod spellings;
 
 pub use crate::faults::LoadFault;
 pub use crate::formats::Format;

@@ -16,13 +16,13 @@
 //! store** (`specs/Stored.antt`), and how many registers they take (`specs/Registers.antt`).
 #![tactic(auto)]
 
-pub mod computed;
+mod computed;
 pub mod consuming;
-pub mod corners;
+mod corners;
 pub mod laws;
-pub mod nests;
+mod nests;
 pub mod phases;
-pub mod pure_phases;
-pub mod stores;
-pub mod update_stores;
-pub mod updates;
+mod pure_phases;
+mod stores;
+mod update_stores;
+mod updates;

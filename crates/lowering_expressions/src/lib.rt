@@ -8,7 +8,7 @@
 
 pub mod calls;
 pub mod lowering;
-pub mod parts;
+mod parts;
 
 pub use crate::calls::Corner;
 pub use crate::lowering::{Arguments, Callees, lowered};

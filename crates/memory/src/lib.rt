@@ -9,10 +9,10 @@
 //! `specs/Access.antt` says where text and data lie and what stands at an address, and has the numbers and the traps.
 #![tactic(auto)]
 
-pub mod bytes;
-pub mod laws;
-pub mod memories;
-pub mod numbers;
+mod bytes;
+mod laws;
+mod memories;
+mod numbers;
 
 pub use crate::bytes::{Bytes, DATA_START, MOST_BYTES, MOST_WORDS, TEXT_START};
 pub use crate::laws::{

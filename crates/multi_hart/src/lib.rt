@@ -9,10 +9,10 @@
 //!   turn leaves (`specs/Run.antt`).
 #![tactic(auto)]
 
-pub mod laws;
-pub mod machines;
-pub mod parts;
-pub mod snapshots;
+mod laws;
+mod machines;
+mod parts;
+mod snapshots;
 
 pub use crate::laws::{commute, frame, frame_within, turns_put_back};
 pub use crate::machines::{Machine, Stretch, UnknownHart};

@@ -10,7 +10,7 @@
 //!   instruction leaves, and each kind of vector row on lanes of 32 bits, in groups of up to four registers.
 #![tactic(auto)]
 
-pub mod laws;
+mod laws;
 
 pub use crate::laws::{
     any_group_is_written, bytes_are_extended, bytes_are_loaded, groups_hold_lanes, jumps_lead_on,

@@ -5,7 +5,7 @@
 //! - [`loops`]: what an operation makes of lists of words, place by place.
 #![tactic(auto)]
 
-pub mod loops;
+mod loops;
 pub mod rows;
 pub mod windows;
 

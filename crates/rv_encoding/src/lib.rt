@@ -12,11 +12,11 @@
 //! Set Listings".
 #![tactic(auto)]
 
-pub mod decoding;
-pub mod encoding;
+mod decoding;
+mod encoding;
 mod fields;
 mod keys;
-pub mod laws;
+mod laws;
 mod opcodes;
 mod packing;
 mod vector_decoding;

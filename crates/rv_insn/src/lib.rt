@@ -8,11 +8,11 @@
 //! what it is for a word to mean an instruction. The crate `rv_encoding` computes both directions.
 #![tactic(auto)]
 
-pub mod immediates;
+mod immediates;
 pub mod instructions;
 pub mod operations;
 pub mod outcomes;
-pub mod registers;
+mod registers;
 pub mod vector_instructions;
 pub mod vector_operations;
 

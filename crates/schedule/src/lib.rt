@@ -9,10 +9,10 @@
 //! - [`schedules`]: the whole (`specs/Reading.antt`).
 #![tactic(auto)]
 
-pub mod calls;
+mod calls;
 pub mod legality;
 pub mod plans;
-pub mod readers;
+mod readers;
 pub mod schedules;
 pub mod standings;
 

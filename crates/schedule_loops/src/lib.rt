@@ -15,7 +15,7 @@
 
 pub mod extents;
 pub mod laws;
-pub mod reach;
+mod reach;
 pub mod sizes;
 
 pub use crate::extents::Extents;

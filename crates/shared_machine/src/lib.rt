@@ -10,21 +10,21 @@
 //! - [`refusals`]: why a turn is refused ([`Refusal`]).
 #![tactic(auto)]
 
-pub mod books;
-pub mod driving;
+mod books;
+mod driving;
 mod ending;
-pub mod gates;
+mod gates;
 mod guarded;
-pub mod ledgers;
-pub mod locked;
+mod ledgers;
+mod locked;
 mod meetings;
 mod opening;
-pub mod origins;
+mod origins;
 pub mod refusals;
 mod replaying;
-pub mod running;
-pub mod seats;
-pub mod shared;
+mod running;
+mod seats;
+mod shared;
 mod waiting;
 
 pub use crate::books::Blanks;

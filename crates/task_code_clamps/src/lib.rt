@@ -6,5 +6,5 @@
 #![tactic(auto)]
 
 pub mod clamps;
-pub mod ranges;
+mod ranges;
 mod steps;

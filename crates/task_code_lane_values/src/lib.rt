@@ -12,12 +12,12 @@
 //! - [`values`]: appends what leaves an expression's values in a group (`specs/Leaving.antt`).
 #![tactic(auto)]
 
-pub mod loads;
+mod loads;
 mod needs;
-pub mod operations;
-pub mod points;
-pub mod scalars;
+mod operations;
+mod points;
+mod scalars;
 pub mod sharing;
-pub mod sums;
+mod sums;
 pub mod values;
 pub mod vectorized;

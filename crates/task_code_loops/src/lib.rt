@@ -17,7 +17,7 @@ pub mod beginning;
 pub mod bounds;
 pub mod ending;
 pub mod guards;
-pub mod holding;
+mod holding;
 pub mod known;
 pub mod laws;
 pub mod sums;

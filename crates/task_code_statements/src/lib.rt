@@ -8,7 +8,7 @@
 //! - [`tasks`]: appends what does one task of a phase (`specs/Tasks.antt`).
 #![tactic(auto)]
 
-pub mod contexts;
+mod contexts;
 mod guards;
 mod guessing;
 mod lacking;
@@ -17,11 +17,11 @@ mod mentions;
 mod names;
 mod plain;
 mod replacing;
-pub mod rewriting;
+mod rewriting;
 mod room;
 mod splits;
 pub mod stages;
 mod starts;
-pub mod statements;
+mod statements;
 pub mod tasks;
 mod vectorizing;

@@ -18,16 +18,16 @@
 #![tactic(auto)]
 
 pub mod accesses;
-pub mod depths;
+mod depths;
 pub mod expressions;
-pub mod frames;
-pub mod immediates;
+mod frames;
+mod immediates;
 pub mod needs;
 pub mod operands;
 pub mod operations;
-pub mod points;
-pub mod scatters;
+mod points;
+mod scatters;
 pub mod sites;
-pub mod spilling;
+mod spilling;
 pub mod stores;
 pub mod updates;

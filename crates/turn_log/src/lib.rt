@@ -10,13 +10,13 @@
 #![tactic(auto)]
 
 mod finding;
-pub mod laws;
+mod laws;
 pub mod log_faults;
 mod log_reading;
 mod log_writing;
 mod runs;
 mod stretches;
-pub mod turn_logs;
+mod turn_logs;
 
 pub use crate::laws::{one_spelling, runs_stand};
 pub use crate::log_faults::LogFault;

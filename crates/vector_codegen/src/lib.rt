@@ -8,9 +8,9 @@
 #![tactic(auto)]
 
 mod generation;
-pub mod phase_laws;
+mod phase_laws;
 mod phases;
-pub mod program_laws;
+mod program_laws;
 
 pub use crate::generation::{Program, generate};
 pub use crate::phase_laws::programs_share;

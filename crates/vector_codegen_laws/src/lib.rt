@@ -11,9 +11,9 @@
 //!   (`specs/Whole.antt`).
 #![tactic(auto)]
 
-pub mod memory_laws;
-pub mod sharing_laws;
-pub mod stage_laws;
+mod memory_laws;
+mod sharing_laws;
+mod stage_laws;
 
 pub use crate::memory_laws::{
     memory_holds_funcs, points_are_there, tasks_are_laid, turns_write_runs,

@@ -14,9 +14,9 @@
 //!   elsewhere, a task that can't be given to another hart, two tasks that can't be given to two.
 #![tactic(auto)]
 
-pub mod example;
-pub mod laws;
-pub mod refutations;
+mod example;
+mod laws;
+mod refutations;
 
 pub use crate::example::{example_machine, example_words, two_phases, waits_for_ever};
 pub use crate::laws::{

@@ -15,13 +15,13 @@ mod bits;
 mod comparisons;
 pub mod configuration;
 mod elements;
-pub mod execution;
-pub mod numbers;
+mod execution;
+mod numbers;
 mod operands;
 mod operations;
-pub mod singles;
-pub mod states;
-pub mod vtypes;
+mod singles;
+mod states;
+mod vtypes;
 
 pub use crate::accesses::Spacing;
 pub use crate::configuration::Asked;
