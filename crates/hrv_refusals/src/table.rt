@@ -102,7 +102,7 @@ asm 3\n\
 \x20\x20cure: `x0` to `x31`, `v0` to `v31`\n\
 asm 4\n\
 \x20\x20cause: a number outside of what its place takes\n\
-\x20\x20cure: `li` and `la` take any word\n\
+\x20\x20cure: `li` takes any word\n\
 asm 5\n\
 \x20\x20cause: a label that no line defines\n\
 \x20\x20cure: `NAME:` in front of a line\n\
