@@ -35,9 +35,15 @@ newline = 10 ∷ []
 abbrev pub line_if : Bool → List ℕ → List ℕ
 line_if is_chosen line = if is_chosen then line ++ newline else []
 
+-- A line is what stands in front of the first blank: the family alone, of a family and a code in one word.
+unfoldable pub is_front : List ℕ → List ℕ → Bool
+is_front [] line = bytes_eq line []
+is_front (byte ∷ word) [] = byte == 32
+is_front (byte ∷ word) (first ∷ line) = not (byte == 32) && (first == byte && is_front word line)
+
 -- the heading is that of the refusal, or of its family alone
 abbrev pub chooses : List ℕ → List ℕ → List ℕ → Bool
-chooses family code line = is_heading family [] line || is_heading family code line
+chooses family code line = not (is_indented line) && is_front family line || is_heading family code line
 
 -- the indented lines below such headings
 unfoldable pub chosen : Bool → List ℕ → List ℕ → List (List ℕ) → List ℕ

@@ -77,11 +77,25 @@ fn push_if(out: &mut Vec<u8>, is_chosen: bool, line: &[u8]) -> Result<(), AllocE
     Ok(())
 }
 
+/// Whether a line is what stands in front of the first blank: the family alone, of a family and a code in one word.
+#[tactic(auto, unfolding(crate::specs::Explanations::is_front))]
+fn is_front(line: &[u8], word: &[u8]) -> bool
+    ensures { result ≡ spec.is_front word.now line.now }
+{
+    match word {
+        [] => line.is_empty(),
+        [byte, word @ ..] => match line {
+            [] => *byte == b' ',
+            [first, line @ ..] => *byte != b' ' && (first == byte && is_front(line, word)),
+        },
+    }
+}
+
 /// Whether the lines below a heading are chosen.
 fn chooses(line: &[u8], family: &str, code: &str) -> bool
     ensures { result ≡ spec.chooses family.now code.now line.now }
 {
-    is_heading(line, family, "") || is_heading(line, family, code)
+    (!is_indented(line) && is_front(line, family.as_bytes())) || is_heading(line, family, code)
 }
 
 /// Whether a line begins with a blank.

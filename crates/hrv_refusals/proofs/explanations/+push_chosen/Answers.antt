@@ -1,4 +1,4 @@
-use Rattle.std.proofs.Common.{◌≡◌, ◌≢◌, ◌∙◌, [], ap, arith, false, sym, true}
+use Rattle.std.proofs.Common.{◌≡◌, ◌≢◌, [], arith, false, true}
 use Rattle.std.proofs.lemmas.Grind.{common_steps}
 use Rattle.hrv_refusals.specs.Explanations.{is_indented}
 use Rattle.hrv_refusals.proofs.ChosenLines.{at_heading, below_heading, none_chosen}
