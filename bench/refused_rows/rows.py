@@ -281,10 +281,12 @@ def thread_rows(stored):
 
 
 def test_rows(tests):
-    """The test of the calls that take no memory: where an allocation is refused, it ends as values are made."""
-    row = Row("calls that take no memory", ["shared_machines::no_memory_is_taken"], {})
-    row.program = tests
-    return [row]
+    """The tests of the calls that take no memory, and of calls that want it, each made again where it is refused."""
+    rows = [Row("calls that take no memory", ["shared_machines::no_memory_is_taken"], {}),
+            Row("calls that want memory", ["wanting::want_of_memory_is_answered"], {})]
+    for row in rows:
+        row.program = tests
+    return rows
 
 
 def all_rows(program, folder):
