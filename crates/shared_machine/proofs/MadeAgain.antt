@@ -1,30 +1,27 @@
 -- Turns that are made again, and what is counted of them.
 use Rattle.std.proofs.Common.{◌≡◌, ◌≢◌, ℕ, zero, suc, ◌+◌, ◌-◌, ◌*◌, ◌<◌, ◌≤◌, ◌==◌, Bool, true, false, if◌then◌else◌, List, [], ◌∷◌, ◌++◌, length, take, drop}
-use Rattle.std.proofs.Common.{set, replicate, Some, refl, sym, ap, ◌∙◌, arith, ne_eqb}
+use Rattle.std.proofs.Common.{set, replicate, Some, refl, sym, ap, ◌∙◌, subst, arith, ne_eqb}
 use Rattle.std.specs.Prelude.{slice_index}
 use Rattle.std.specs.List.{AllByRecursion}
 use Rattle.std.proofs.Math.Seq.{take-add}
-use Rattle.std.proofs.lemmas.List.{length-replicate, take-append-le, take-replicate, replicate_more, replicate-append-replicate}
+use Rattle.std.proofs.lemmas.List.{length-replicate, take-append-le, take-replicate, replicate-append-replicate}
 use Rattle.std.proofs.lemmas.List.Elements.{recursion_from_All}
 use Rattle.rv_insn.specs.declared.outcomes.Outcome.{Outcome}
 use Rattle.rv_insn.specs.declared.outcomes.Outcome.TheVariants.{Stepped, Finished, Trapped, Idle}
 use Rattle.hart_core.specs.declared.harts.Status.TheVariants.{Running}
 use Rattle.multi_hart.specs.Run.{State, turn, outcome, run, hart_at}
+use Rattle.multi_hart.specs.Stretches.{IsStretch}
+use Rattle.multi_hart.proofs.Resting.{run-same-more, run-stayed, turn-resting}
 use Rattle.turn_log.specs.TurnLog.{LogState, IsLog, count_of}
 use Rattle.turn_log.specs.RunAt.{Stand, run_at}
 use Rattle.turn_log.proofs.RunAtLaws.{run_at-stands, run_at-below}
 use Rattle.shared_machine.specs.Log.{after_turns, code_of, tally_from, tally_more}
 use Rattle.shared_machine.specs.Tallies.{each, zeros}
-use Rattle.shared_machine.proofs.Batches.{count-one, tally-append}
+use Rattle.shared_machine.proofs.Batches.{count-one, length-run, tally-append, tally-more-here}
 use Rattle.shared_machine.proofs.Eight.{write-each}
-use Rattle.shared_machine.proofs.Pushing.{tally-push-here}
-use Rattle.shared_machine.proofs.Stopping.{stopped-adds, tally-apart, trap-few}
+use Rattle.shared_machine.proofs.Stopping.{stopped-adds, stops-behind, tally-apart, trap-few}
 
 -- ---- tallies of turns of one hart
-
-pub tally-one-more : (state : State) (hart made : ℕ) → tally_more state hart (made + 1) ≡ tally_more state hart made + code_of
-    (outcome (after_turns state hart made) hart)
-tally-one-more state hart made = ap (λ turns. tally_from state turns hart) (sym (replicate_more made hart)) ∙ tally-push-here state (replicate made hart) hart
 
 pub tally-resting : (state : State) (hart made turns : ℕ) → made ≤ turns → hart < length (after_turns state hart made).harts
     → (hart_at (after_turns state hart made) hart).status ≢ Running → tally_more state hart turns ≡ tally_more state hart made
@@ -35,6 +32,41 @@ tally-resting state hart made turns within below rests =
     let a = tally-append state (replicate made hart) (replicate (turns - made) hart) hart in
     let z = (stopped-adds (after_turns state hart made) (replicate (turns - made) hart) hart below rests).0 in
     let e = ap (λ ts. tally_from state ts hart) whole in omega (arith, a, z, e)
+
+-- all turns of a hart come to those up to the first that isn't a step
+pub stretch-made : (state : State) (hart turns made : ℕ) (last : Outcome) → hart < length state.harts → IsStretch state hart turns made last
+    → (after_turns state hart turns ≡ after_turns state hart made) × (tally_more state hart turns ≡ 16 * (made - 1) + code_of last)
+stretch-made state hart turns made last below is = by last refl
+  where
+    here : tally_more state hart made ≡ 16 * (made - 1) + code_of last
+    here = let t = tally-more-here state [] hart made last is.some is.steps is.last_is in omega (arith, t)
+
+    before : State
+    before = after_turns state hart (made - 1)
+
+    there : hart < length before.harts
+    there = let l = length-run state (replicate (made - 1) hart) in omega (arith, l, below)
+
+    one-more : after_turns state hart made ≡ turn before hart
+    one-more = ap (after_turns state hart) (let e : made ≡ made - 1 + 1 = let s = is.some in omega (arith, s) in e) ∙ run-same-more state hart (made - 1)
+
+    beyond : hart < length (after_turns state hart made).harts
+    beyond = let l = length-run state (replicate made hart) in omega (arith, l, below)
+
+    rested : last ≢ Stepped → (after_turns state hart turns ≡ after_turns state hart made) × (tally_more state hart turns ≡ 16 * (made - 1) + code_of last)
+    rested apart =
+        let rests : (hart_at (after_turns state hart made) hart).status ≢ Running =
+        subst (λ s. (hart_at s hart).status ≢ Running) (sym one-more) (stops-behind before hart there (λ steps. apart (is.last_is ∙ steps))) in (
+          run-stayed state hart made turns is.few (turn-resting (after_turns state hart made) hart beyond rests),
+          tally-resting state hart made turns is.few beyond rests ∙ here,
+        )
+
+    by : (o : Outcome) → last ≡ o
+        → (after_turns state hart turns ≡ after_turns state hart made) × (tally_more state hart turns ≡ 16 * (made - 1) + code_of last)
+    by Stepped e = let same = is.whole e in (ap (after_turns state hart) (sym same), ap (tally_more state hart) (sym same) ∙ here)
+    by Finished e = rested (λ s. let q = sym e ∙ s in cc q)
+    by (Trapped trap) e = rested (λ s. let q = sym e ∙ s in cc q)
+    by Idle e = rested (λ s. let q = sym e ∙ s in cc q)
 
 -- turns of one hart add nothing to another's tally
 tally-others : (state : State) (one made other : ℕ) → one ≢ other → tally_from state (replicate made one) other ≡ 0

@@ -7,8 +7,8 @@ ghost use Rattle.shared_machine.specs.Log.{after_turns, tally_more, tally_from};
 ghost use Rattle.shared_machine.specs.Tallies.{each};
 
 use crate::guarded::code;
-use hart_core::Status;
-use multi_hart::Machine;
+use multi_hart::{Machine, Stretch};
+use rv_insn::Outcome;
 use turn_log::TurnLog;
 
 /// Makes the turns of a log. For each hart the sum of the codes of its turns, 0 where there is no hart.
@@ -36,13 +36,9 @@ fn replay_run(machine: &mut Machine, hart: usize, turns: u64) -> u64
     ensures shape { KeepsShape machine.old machine.new }
     ensures sum { result ≡ tally_more machine.old hart turns }
 {
-    let mut sum = 0;
-    for _made in 0..turns {
-        let Status::Running = machine.status(hart) else {
-            return sum;
-        };
-        let outcome = machine.turn(hart);
-        sum += code(outcome);
+    if turns == 0 {
+        return 0;
     }
-    sum
+    let Stretch { made, last } = machine.step_on(hart, turns);
+    code(Outcome::Stepped) * (made - 1) + code(last)
 }
