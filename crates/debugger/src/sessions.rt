@@ -42,9 +42,24 @@ impl Model for Session {
 
     ghost Value = { CountedSession };
 
-    ghost view = { λ s. record { state = record { image = s.image; log = s.log; place = s.place; breaks = s.breaks.items; watches = s.watches.items }; steps = s.steps } };
+    ghost view = { λ s. record {
+      state = record {
+        image = s.image;
+        log = s.log;
+        place = s.place;
+        breaks = s.breaks.items;
+        watches = s.watches.items;
+      };
+      steps = s.steps;
+    } };
 
-    ghost invariant = { λ s. Held (record { image = s.image; log = s.log; place = s.place; breaks = s.breaks.items; watches = s.watches.items }) s.machine s.opening.items s.insns.items s.kept };
+    ghost invariant = { λ s. Held (record {
+      image = s.image;
+      log = s.log;
+      place = s.place;
+      breaks = s.breaks.items;
+      watches = s.watches.items;
+    }) s.machine s.opening.items s.insns.items s.kept };
 }
 
 /// Written out, so that a check sees a call wherever one is dropped, and not the drops of its parts.

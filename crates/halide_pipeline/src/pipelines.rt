@@ -33,7 +33,12 @@ impl Model for Pipeline {
 
     ghost view = { λ p. record { names = p.names; inputs = p.inputs; funcs = p.funcs; output = p.output } };
 
-    ghost invariant = { λ p. IsWellFormed (record { names = p.names; inputs = p.inputs; funcs = p.funcs; output = p.output }) };
+    ghost invariant = { λ p. IsWellFormed (record {
+      names = p.names;
+      inputs = p.inputs;
+      funcs = p.funcs;
+      output = p.output;
+    }) };
 }
 
 /// Written out, so that a check sees a call wherever one is dropped, and not the drops of its parts.

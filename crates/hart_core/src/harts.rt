@@ -39,7 +39,14 @@ impl Model for Hart {
 
     ghost Value = { HartState };
 
-    ghost view = { λ h. record { pc = h.pc; registers = h.registers; vectors = h.unit.registers; vl = h.unit.vl; vtype = h.unit.vtype; status = h.status } };
+    ghost view = { λ h. record {
+      pc = h.pc;
+      registers = h.registers;
+      vectors = h.unit.registers;
+      vl = h.unit.vl;
+      vtype = h.unit.vtype;
+      status = h.status;
+    } };
 
     ghost invariant = { λ h. slice_index h.registers 0 ≡ 0 };
 }

@@ -56,9 +56,23 @@ impl Model for Compiled {
 
     ghost coded = { Prim.hlevel (codes, e.the_row.coded) };
 
-    ghost view = { λ c. record { pipeline = c.pipeline; schedule = c.schedule; boxes = c.boxes; words = c.words.items; ends = c.ends.items; stages = c.stages.items } };
+    ghost view = { λ c. record {
+      pipeline = c.pipeline;
+      schedule = c.schedule;
+      boxes = c.boxes;
+      words = c.words.items;
+      ends = c.ends.items;
+      stages = c.stages.items;
+    } };
 
-    ghost invariant = { λ c. IsHeld (record { pipeline = c.pipeline; schedule = c.schedule; boxes = c.boxes; words = c.words.items; ends = c.ends.items; stages = c.stages.items }) };
+    ghost invariant = { λ c. IsHeld (record {
+      pipeline = c.pipeline;
+      schedule = c.schedule;
+      boxes = c.boxes;
+      words = c.words.items;
+      ends = c.ends.items;
+      stages = c.stages.items;
+    }) };
 }
 
 /// Written out, so that a check sees a call wherever one is dropped, and not the drops of its parts.

@@ -121,7 +121,8 @@ parse 1\n\
 \x20\x20cause: syntax; it hides all else of its line\n\
 \x20\x20cure: the grammar of algorithms\n\
 parse 2\n\
-\x20\x20cause: an unknown name; a Func in its own pure definition; a call of a variable; an update or output of what is no Func\n\
+\x20\x20cause: an unknown name; a Func in its own pure definition; a call of a variable; \
+an update or output of what is no Func\n\
 \x20\x20cure: names are defined on an earlier line; an update may call its own Func\n\
 parse 3\n\
 \x20\x20cause: a name that is taken: an input or Func twice, an argument or reduction variable twice in a definition\n\
@@ -177,7 +178,8 @@ schedule 10\n\
 \x20\x20cause: a parallel loop comes from either loop of a shift split\n\
 \x20\x20cure: `guard`: shifted iterations write points twice\n\
 schedule 11\n\
-\x20\x20cause: a vectorized loop isn't the innermost, isn't the vi of a split by 4, 8 or 16, or is over a reduction variable\n\
+\x20\x20cause: a vectorized loop isn't the innermost, isn't the vi of a split by 4, 8 or 16, \
+or is over a reduction variable\n\
 \x20\x20cure: `reorder` it innermost; split by 4, 8 or 16 first; mark a loop over an argument\n\
 schedule 12\n\
 \x20\x20cause: an unrolled loop isn't the vi of a split\n\

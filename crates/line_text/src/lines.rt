@@ -34,17 +34,3 @@ pub fn first_line(text: &[u8]) -> (&[u8], &[u8])
     let (line, rest) = text.split_at(line_len(text));
     (line, after_first(rest))
 }
-
-/// How many lines there are. An empty text has none, and a final line feed opens none.
-pub fn count_lines(text: &[u8]) -> u64
-    ensures { result ≡ length (spec.lines_of text.now) }
-{
-    let mut count = 0;
-    let mut rest = text;
-    'lines: while !rest.is_empty() {
-        let (_, after) = first_line(rest);
-        rest = after;
-        count += 1;
-    }
-    count
-}

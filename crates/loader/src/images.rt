@@ -25,7 +25,12 @@ impl Model for Image {
 
     ghost view = { λ i. record { entry = i.entry; words = i.words.items; bytes = i.bytes.items; output = i.output } };
 
-    ghost invariant = { λ i. IsImage (record { entry = i.entry; words = i.words.items; bytes = i.bytes.items; output = i.output }) };
+    ghost invariant = { λ i. IsImage (record {
+      entry = i.entry;
+      words = i.words.items;
+      bytes = i.bytes.items;
+      output = i.output;
+    }) };
 }
 
 /// Written out, so that a check sees a call wherever one is dropped, and not the drops of its parts.

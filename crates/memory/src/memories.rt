@@ -24,7 +24,8 @@ impl Model for Memory {
 
     ghost view = { λ m. record { text = boxed_slice_items m.words; memory = boxed_slice_items m.bytes } };
 
-    ghost invariant = { λ m. (length (boxed_slice_items m.words) ≤ most_words) × (length (boxed_slice_items m.bytes) ≤ most_bytes) };
+    ghost invariant = { λ m. (length (boxed_slice_items m.words) ≤ most_words) ×
+        (length (boxed_slice_items m.bytes) ≤ most_bytes) };
 }
 
 /// Written out, so that a check sees a call wherever one is dropped, and not the drops of its parts.

@@ -54,7 +54,8 @@ impl Model for Machine {
 
     ghost view = { λ m. record { text = m.memory.text; memory = m.memory.memory; harts = boxed_slice_items m.harts } };
 
-    ghost invariant = { λ m. (boxed_slice_items m.meanings ≡ map word_meaning m.memory.text) × (length (boxed_slice_items m.meanings) ≤ most_words) };
+    ghost invariant = { λ m. (boxed_slice_items m.meanings ≡ map word_meaning m.memory.text) ×
+        (length (boxed_slice_items m.meanings) ≤ most_words) };
 }
 
 /// Written out, so that a check sees a call wherever one is dropped, and not the drops of its parts.
