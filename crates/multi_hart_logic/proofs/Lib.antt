@@ -15,3 +15,4 @@ pub mod ByteRows
 pub mod ByteLoads
 pub mod FirstGroup
 pub mod FirstRows
+pub mod FirstLanes

@@ -1,6 +1,6 @@
 -- The run of one hart alone, told forwards from where it begins: what each of its turns may touch, and what it has come to after so
 -- many turns. Nothing of other harts enters here. This project's own.
-use Rattle.std.specs.Prelude.{◌≡◌, ◌⊎◌, ℕ, zero, suc, ◌||◌, Bool, true, false, List, [], ◌∷◌, Some}
+use Rattle.std.specs.Prelude.{◌≡◌, ◌⊎◌, ℕ, zero, suc, ◌||◌, Bool, true, false, List, Some}
 use Rattle.rv_insn.specs.declared.instructions.Insn.{Insn}
 use Rattle.rv_encoding.specs.Decoding.{decoded}
 use Rattle.memory.specs.Access.{fetched}

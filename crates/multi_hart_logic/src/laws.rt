@@ -9,6 +9,7 @@ ghost use Rattle.rv_insn.specs.declared.vector_instructions.VectorInsn.TheVarian
 ghost use Rattle.rv_insn.specs.declared.vector_instructions.VectorInsn.TheVariants.{ArithmeticVx, ArithmeticVi};
 ghost use Rattle.rv_insn.specs.declared.vector_instructions.VectorInsn.TheVariants.{ShiftVi, MultiplyVv, MultiplyVx};
 ghost use Rattle.rv_insn.specs.declared.vector_instructions.VectorInsn.TheVariants.{MoveVv, MoveVx, MoveVi};
+ghost use Rattle.rv_insn.specs.declared.vector_instructions.VectorInsn.TheVariants.{MoveToScalar};
 ghost use Rattle.rv_insn.specs.declared.vector_instructions.VectorInsn.TheVariants.{ElementNumbers, CompareVv};
 ghost use Rattle.rv_insn.specs.declared.vector_instructions.VectorInsn.TheVariants.{CompareVx, CompareVi, MergeVv};
 ghost use Rattle.rv_insn.specs.declared.vector_instructions.VectorInsn.TheVariants.{MergeVx, MergeVi, LoadElements};
@@ -183,6 +184,13 @@ pub fn lanes_are_copied()
         → Line w (Vector (MoveVi d z) ∷ []) f m (write_lanes f d (f vl_number) (λ k. wrapped 32 z)) m }
     ensures numbers { (w : World) (f : ℕ → ℕ) (m : List ℕ) → length m ≡ w.size → (g : ℕ) → LanesConfigured f g → (d : ℕ)
         → IsGroup g d → Line w (Vector (ElementNumbers d true) ∷ []) f m (write_lanes f d (f vl_number) (λ k. k)) m }
+{}
+
+/// The first lane of a vector register, which a register is given.
+pub fn first_lanes_are_read()
+    ensures { (w : World) (f : ℕ → ℕ) (m : List ℕ) → length m ≡ w.size → (g : ℕ) → LanesConfigured f g
+        → (r u : ℕ) → 1 ≤ r → r < 32 → 1 ≤ u → u < 32
+        → Line w (Vector (MoveToScalar r u) ∷ []) f m (update f r (f (lane u 0))) m }
 {}
 
 /// Tests of lanes, into the mask: each is a bit that is 1 where it holds.

@@ -13,8 +13,8 @@
 mod laws;
 
 pub use crate::laws::{
-    any_group_is_written, bytes_are_extended, bytes_are_loaded, groups_hold_lanes, jumps_lead_on,
-    lanes_are_chosen, lanes_are_compared, lanes_are_copied, lanes_are_given, lanes_are_loaded,
-    lanes_are_paired, lanes_are_stored, lanes_meet_a_number, lengths_are_set, numbers_are_moved,
-    paths_follow, registers_are_given, words_stand,
+    any_group_is_written, bytes_are_extended, bytes_are_loaded, first_lanes_are_read,
+    groups_hold_lanes, jumps_lead_on, lanes_are_chosen, lanes_are_compared, lanes_are_copied,
+    lanes_are_given, lanes_are_loaded, lanes_are_paired, lanes_are_stored, lanes_meet_a_number,
+    lengths_are_set, numbers_are_moved, paths_follow, registers_are_given, words_stand,
 };

@@ -12,12 +12,14 @@ ghost use Rattle.rv_insn.specs.declared.vector_operations.CompareViOp.TheVariant
 ghost use Rattle.rv_insn.specs.declared.vector_operations.ArithmeticViOp.TheVariants.{Vadd as plus_number};
 ghost use Rattle.rv_insn.specs.declared.vector_operations.ArithmeticViOp.TheVariants.{Vand as both_bits};
 ghost use Rattle.task_code_lanes.specs.Groups as spec;
+ghost use Rattle.task_code_lanes.specs.declared.groups.Group.TheVariants as groups;
 ghost use Rattle.task_code_scalar.specs.Words.{Emits};
 
 use crate::groups::Group;
 use rv_insn::{
     Addressing, ArithmeticViOp, ArithmeticVvOp, ArithmeticVxOp, CompareViOp, CompareVvOp,
-    ElementWidth, Imm5, Insn, MultiplyOp, ShiftAmount, ShiftViOp, VReg, VectorInsn,
+    ElementWidth, Imm5, Insn, Length5, MultiplyOp, ShiftAmount, ShiftViOp, VReg, VectorInsn,
+    Vtype10,
 };
 use std::alloc::AllocError;
 use task_code_scalar::instructions::{put, register};
@@ -289,6 +291,19 @@ pub fn lane_numbers(code: &mut Vec<u32>, d: u8) -> Result<(), AllocError>
     Ok(())
 }
 
+/// Appends what gives a register the first lane.
+pub fn read_first(code: &mut Vec<u32>, r: u8, s: u8) -> Result<(), AllocError>
+    requires { (r < 32) × (s < 32) }
+    ensures { OnOk result (Emits code.old.items code.new.items (Vector (v.MoveToScalar r s) ∷ [])) }
+{
+    let insn = VectorInsn::MoveToScalar {
+        rd: register(r),
+        vs2: vector(s),
+    };
+    put_vector(code, insn)?;
+    Ok(())
+}
+
 /// Appends a load of words one behind the other.
 pub fn load_row(code: &mut Vec<u32>, d: u8, r: u8) -> Result<(), AllocError>
     requires { (d < 32) × (r < 32) }
@@ -430,6 +445,20 @@ pub fn store_at(code: &mut Vec<u32>, s: u8, r: u8, offsets: u8) -> Result<(), Al
             vs2: vector(offsets),
         },
         vm: true,
+    };
+    put_vector(code, insn)?;
+    Ok(())
+}
+
+/// Appends a configuration of one lane.
+pub fn configure_one(code: &mut Vec<u32>) -> Result<(), AllocError>
+    ensures { OnOk result (Emits code.old.items code.new.items
+        (Vector (v.Vsetivli 0 1 (spec.vtype_of groups.One)) ∷ [])) }
+{
+    let insn = VectorInsn::Vsetivli {
+        rd: register(0),
+        length: Length5::new(1).unwrap(),
+        vtype: Vtype10::new(16).unwrap(),
     };
     put_vector(code, insn)?;
     Ok(())
