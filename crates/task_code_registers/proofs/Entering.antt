@@ -1,5 +1,5 @@
 -- Scopes that are made before a loop's first iteration.
-use Rattle.std.proofs.Common.{◌≡◌, ℕ, ◌+◌, ◌*◌, ◌<◌, ◌≤◌, List, [], ◌∷◌, ◌++◌, length, refl, ap, ◌∙◌, sym, subst, arith, inl}
+use Rattle.std.proofs.Common.{◌≡◌, ℕ, ◌+◌, ◌<◌, ◌≤◌, List, [], ◌∷◌, ◌++◌, length, refl, ap, ◌∙◌, sym, subst, arith, inl}
 use Rattle.std.proofs.Common.{append_assoc}
 use Rattle.loop_ir.specs.declared.expressions.Counter.{Counter}
 use Rattle.loop_ir.specs.Counters.{with}
@@ -7,7 +7,7 @@ use Rattle.multi_hart_logic.proofs.Paths.{line-then}
 use Rattle.task_code_scalar.proofs.Spelling.{emits_then}
 use Rattle.task_code_registers.specs.declared.scopes.Form.{Form}
 use Rattle.task_code_registers.specs.declared.scopes.Held.{Held}
-use Rattle.task_code_registers.specs.Emitting.{MakesValue}
+use Rattle.task_code_registers.specs.Emitting.{MakesValue, base_words, sum_words}
 use Rattle.task_code_registers.specs.Scopes.{IsKept, IsLeft, left_count}
 use Rattle.task_code_registers.specs.Holding.{IsAt, Enters, Takes, ScopesNest}
 use Rattle.task_code_registers.proofs.Advancing.{kept-more}
@@ -20,7 +20,7 @@ use Rattle.task_code_registers.proofs.Striding.{others-fewer}
 
 enters-one : (counter : Counter) (scope : List Held) (form start : Form) (r : ℕ) (c0 c1 : List ℕ) → IsLeft scope r → IsAt counter 0 form start
     → MakesValue c0 c1 scope start r
-    → Enters c0 c1 (2 + 4 * (length form.sum.terms + 1)) counter scope (record { register = r; form = form } ∷ scope)
+    → Enters c0 c1 (sum_words form.per_hart form.sum.terms) counter scope (record { register = r; form = form } ∷ scope)
 enters-one counter scope form start r c0 c1 is at x = record {
   insns = x.insns;
   emits = x.emits;
@@ -28,7 +28,8 @@ enters-one counter scope form start r c0 c1 is at x = record {
       let k = x.short in
       let n : length start.sum.terms ≤ length form.sum.terms =
       subst (λ ts. length ts ≤ length form.sum.terms) (sym at.terms) (others-fewer counter form.sum.terms) in
-      omega (arith, k, n);
+      let p : base_words start.per_hart ≡ base_words form.per_hart = ap base_words at.per_hart in
+      omega (arith, k, n, p);
   extends = record { added = record { register = r; form = form } ∷ []; is = refl };
   holders = λ holders. (inl is.0, (is.1, holders));
   does = λ w m hart values f l holders knows.
@@ -46,7 +47,7 @@ pub takes-one : (counter : Counter) (scope made : List Held) (form start : Form)
     → IsLeft scope r × (reserved < left_count scope) → IsAt counter 0 form start
     → MakesValue c0 c1 scope start r → made ≡ record { register = r; form = form } ∷ scope → Takes c0 c1 counter scope form reserved r made
 takes-one counter scope made form start reserved r c0 c1 is at x e = record {
-  enters = subst (Enters c0 c1 (2 + 4 * (length form.sum.terms + 1)) counter scope) (sym e) (enters-one counter scope form start r c0 c1 is.0 at x);
+  enters = subst (Enters c0 c1 (sum_words form.per_hart form.sum.terms) counter scope) (sym e) (enters-one counter scope form start r c0 c1 is.0 at x);
   is = e;
   may = is.0.0;
   left = subst (λ s. reserved ≤ left_count s) (sym e) (still-left scope (record { register = r; form = form }) reserved is.1);

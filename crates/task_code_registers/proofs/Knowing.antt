@@ -11,7 +11,7 @@ use Rattle.task_code_registers.specs.declared.scopes.Form.{Form}
 use Rattle.task_code_registers.specs.declared.scopes.Held.{Held}
 use Rattle.task_code_registers.specs.Registers.{zero_register, hart_number, scratch, second_scratch, address_register, first_value, may_hold, is_reserved}
 use Rattle.task_code_registers.specs.Registers.{IsWorking}
-use Rattle.task_code_registers.specs.Scopes.{Knows, AreHolders, IsHolder, IsKept, form_value, WorkingRegistersAreFree}
+use Rattle.task_code_registers.specs.Scopes.{Knows, AreHolders, IsHolder, IsKept, are_registers, form_value, WorkingRegistersAreFree}
 
 -- ---- registers that may hold forms
 
@@ -79,6 +79,15 @@ pub working-free : WorkingRegistersAreFree
 working-free [] r holders work q h e = omega (arith, h, work, e)
 working-free (own ∷ others) r holders work q (inl is) e = holder-rests own.register r holders.0 work (sym is ∙ e)
 working-free (own ∷ others) r holders work q (inr h) e = working-free others r holders.1.1 work q h e
+
+-- where registers hold all forms, no others are kept
+pub kept-low : (scope : List Held) (q : ℕ) → are_registers scope ≡ true → IsKept scope q → q < 32
+kept-low [] q all kept = omega (arith, kept)
+kept-low (own ∷ others) q all (inl e) =
+    let m = may-hold own.register (and_parts (may_hold own.register) (are_registers others) all).0 in
+    let high = m.high in
+    omega (arith, e, high)
+kept-low (own ∷ others) q all (inr h) = kept-low others q (and_parts (may_hold own.register) (are_registers others) all).1 h
 
 -- the first of a list, and those behind it
 pub others-are : {A : Type 0} (xs : List A) (other : A) → 1 ≤ length xs → xs ≡ get_or xs 0 other ∷ take (length xs - 1) (drop 1 xs)

@@ -1,7 +1,7 @@
 -- Numbers made in registers.
-use Rattle.std.proofs.Common.{◌≡◌, ℕ, ◌+◌, ◌*◌, ◌%◌, ◌^◌, ◌<◌, ◌≤◌, List, [], ◌∷◌, ◌++◌, length, true, false, refl, ap, ◌∙◌, sym}
+use Rattle.std.proofs.Common.{◌≡◌, ℕ, ◌+◌, ◌*◌, ◌%◌, ◌^◌, ◌<◌, ◌≤◌, List, [], ◌∷◌, ◌++◌, length, Bool, true, false, refl, ap, ◌∙◌, sym}
 use Rattle.std.proofs.Common.{subst, arith, inl, inr, length-append}
-use Rattle.std.specs.Prelude.{◌≢◌, ◌⊎◌, nat_lt}
+use Rattle.std.specs.Prelude.{◌≢◌, ◌⊎◌, ◌==◌, if◌then◌else◌, nat_lt}
 use Rattle.std.proofs.lemmas.Bool.Decides.{nat_tests}
 use Rattle.std.proofs.Math.Nat.{mod-eq_of_lt, add-mod-mod}
 use Rattle.rv_insn.specs.declared.instructions.Insn.{Insn}
@@ -20,7 +20,7 @@ use Rattle.task_code_scalar.specs.Words.{Emits}
 use Rattle.task_code_scalar.proofs.Spelling.{emits_then, emits-none}
 use Rattle.task_code_scalar.proofs.Values.{Sets, alu-sets, imm-sets, shift-sets, literal-sets}
 use Rattle.task_code_registers.specs.Registers.{zero_register, scratch, second_scratch}
-use Rattle.task_code_registers.specs.Emitting.{Fits, Puts, Makes, MakesOf}
+use Rattle.task_code_registers.specs.Emitting.{Fits, Puts, Makes, MakesOf, base_words}
 
 -- ---- immediates
 
@@ -65,6 +65,28 @@ module _ (w : World) (m : List ℕ) (l : length m ≡ w.size) where
 pub short-then : (is js : List Insn) (a b n : ℕ) → length is ≤ a → length js ≤ b → a + b ≤ n → length (is ++ js) ≤ n
 short-then is js a b n x y s = let e : length (is ++ js) ≡ length is + length js = length-append is js in omega (arith, x, y, s, e)
 
+-- ---- how many instructions a number and a part of the hart's number take
+
+pub base-least : (n : ℕ) → 2 ≤ base_words n
+base-least n = by-test (n == 0)
+  where
+    by-test : (t : Bool) → 2 ≤ (if t then 2 else 6)
+    by-test true = omega arith
+    by-test false = omega arith
+
+pub base-most : (n : ℕ) → base_words n ≤ 6
+base-most n = by-test (n == 0)
+  where
+    by-test : (t : Bool) → (if t then 2 else 6) ≤ 6
+    by-test true = omega arith
+    by-test false = omega arith
+
+pub base-some : (n : ℕ) → n ≢ 0 → base_words n ≡ 6
+base-some n some = ap (λ t. if t then 2 else 6) none
+  where
+    none : (n == 0) ≡ false
+    none = grind (arith, nat_tests, some)
+
 -- ---- a number
 
 pub number-small : (r n : ℕ) (c0 c1 : List ℕ) → 1 ≤ r → r < 32 → Fits n → n < 2 ^ 32 → Emits c0 c1 (AluImm alu_imms.Addi r zero_register (lower n) ∷ [])
@@ -102,22 +124,23 @@ number-literal r n c0 c1 low high small x = record {
 
 -- ---- a register plus a number
 
-pub plus-none : (r s n : ℕ) (c : List ℕ) → n ≡ 0 → r ≡ s → MakesOf c c 3 r s (λ v. (v + n) % 2 ^ 32)
-plus-none r s n c none same = record {
+pub plus-none : (r s n most : ℕ) (c : List ℕ) → n ≡ 0 → r ≡ s → MakesOf c c most r s (λ v. (v + n) % 2 ^ 32)
+plus-none r s n most c none same = record {
   insns = [];
   emits = emits-none c;
-  short = omega arith;
+  short = let z : 0 ≤ most = omega arith in z;
   does = λ w m f l zero word.
       let g : f s ≡ (f s + n) % 2 ^ 32 = omega (arith, word, none) in
       puts-none w m l f r ((f s + n) % 2 ^ 32) (ap f same ∙ g);
 }
 
-pub plus-small : (r s n : ℕ) (c0 c1 : List ℕ) → 1 ≤ r → r < 32 → s < 32 → Fits n → n < 2 ^ 32 → Emits c0 c1 (AluImm alu_imms.Addi r s (lower n) ∷ [])
-    → MakesOf c0 c1 3 r s (λ v. (v + n) % 2 ^ 32)
-plus-small r s n c0 c1 low high ls fit small x = record {
+pub plus-small : (r s n most : ℕ) (c0 c1 : List ℕ) → 1 ≤ r → r < 32 → s < 32 → Fits n → n < 2 ^ 32 → 1 ≤ most
+    → Emits c0 c1 (AluImm alu_imms.Addi r s (lower n) ∷ [])
+    → MakesOf c0 c1 most r s (λ v. (v + n) % 2 ^ 32)
+plus-small r s n most c0 c1 low high ls fit small some x = record {
   insns = AluImm alu_imms.Addi r s (lower n) ∷ [];
   emits = x;
-  short = omega arith;
+  short = some;
   does = λ w m f l zero word.
       puts-set w m l (ap (lanes.add 32 (f s)) (small-lower n fit small)) (imm-sets w m l alu_imms.Addi f r s (lower n) (f s) low high ls refl);
 }
@@ -232,12 +255,18 @@ module _ (r s n k : ℕ) (c0 c1 c2 : List ℕ) (apart : 1 ≤ r) where
   pub product-more : Makes c0 c1 3 r (λ f. (f s * n) % 2 ^ 32) → MakesOf c1 c2 3 r r (λ v. (v + k) % 2 ^ 32) → MakesOf c0 c2 6 r s (λ v. (k + v * n) % 2 ^ 32)
   product-more x y = let z = product-then x y in record { insns = z.insns; emits = z.emits; short = z.short; does = λ w m f l zero word. z.does w m f l zero }
 
+-- so it is of so much times the hart's number
+pub base-more : (r s n k : ℕ) (c0 c1 c2 : List ℕ) → 1 ≤ r → n ≢ 0 → Makes c0 c1 3 r (λ f. (f s * n) % 2 ^ 32) → MakesOf c1 c2 3 r r (λ v. (v + k) % 2 ^ 32)
+    → Makes c0 c2 (base_words n) r (λ f. (k + f s * n) % 2 ^ 32)
+base-more r s n k c0 c1 c2 apart some x y =
+    subst (λ most. Makes c0 c2 most r (λ f. (k + f s * n) % 2 ^ 32)) (sym (base-some n some)) (product-then r s n k c0 c1 c2 apart x y)
+
 -- no part of the second number
-pub base-none : (r s n k : ℕ) (c0 c1 : List ℕ) → n ≡ 0 → k < 2 ^ 32 → Makes c0 c1 2 r (λ f. k) → Makes c0 c1 6 r (λ f. (k + f s * n) % 2 ^ 32)
+pub base-none : (r s n k : ℕ) (c0 c1 : List ℕ) → n ≡ 0 → k < 2 ^ 32 → Makes c0 c1 2 r (λ f. k) → Makes c0 c1 (base_words n) r (λ f. (k + f s * n) % 2 ^ 32)
 base-none r s n k c0 c1 none small x = record {
   insns = x.insns;
   emits = x.emits;
-  short = let j = x.short in omega (arith, j);
+  short = let j = x.short in let b = base-least n in omega (arith, j, b);
   does = λ w m f l zero.
       let g : k ≡ (k + f s * 0) % 2 ^ 32 = omega (arith, small) in
       puts-is w m l (g ∙ ap (λ i. (k + f s * i) % 2 ^ 32) (sym none)) (x.does w m f l zero);

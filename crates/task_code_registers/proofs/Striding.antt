@@ -135,6 +135,7 @@ pub form-at : (counter : Counter) (value stride : ℕ) (own made : Form) → str
 unfolding form_value
 form-at counter value stride own made es et en eh = record {
   terms = et;
+  per_hart = eh;
   value = λ hart v values.
       ap (λ k. (linear_value (with counter v values) made.sum + hart * k) % 2 ^ 32) eh
       ∙ ap (λ n. (n + hart * own.per_hart) % 2 ^ 32) (linear-at counter v value stride values own.sum made.sum es et en);

@@ -1,6 +1,7 @@
 -- Forms made in registers.
 use Rattle.std.proofs.Common.{◌≡◌, ℕ, suc, ◌+◌, ◌-◌, ◌*◌, ◌%◌, ◌^◌, ◌<◌, ◌≤◌, List, [], ◌∷◌, ◌++◌, length, get_or, take, drop, true}
 use Rattle.std.proofs.Common.{refl, ap, ◌∙◌, sym, subst, arith, inl, inr}
+use Rattle.std.specs.Prelude.{◌≢◌, ◌⊎◌}
 use Rattle.std.proofs.Math.Nat.{mod-add-mod, add-mod-mod}
 use Rattle.std.proofs.lemmas.Nat.{mul-mod_first}
 use Rattle.halide_pipeline.specs.Words as word
@@ -12,11 +13,12 @@ use Rattle.multi_hart_logic.proofs.Paths.{stay}
 use Rattle.task_code_scalar.proofs.Spelling.{emits_then, emits-none}
 use Rattle.task_code_registers.specs.declared.scopes.Form.{Form}
 use Rattle.task_code_registers.specs.declared.scopes.Held.{Held}
-use Rattle.task_code_registers.specs.Emitting.{Fits, Makes, MakesOf, MakesForm, MakesAddress, IsNear, IsRest, HoldsVariable, sum_value}
+use Rattle.task_code_registers.specs.Emitting.{Fits, Makes, MakesOf, MakesForm, MakesAddress, IsNear, IsRest, IsWorth, HoldsVariable}
+use Rattle.task_code_registers.specs.Emitting.{base_words, sum_words, sum_value}
 use Rattle.task_code_registers.specs.Registers.{hart_number, may_hold}
 use Rattle.task_code_registers.specs.Scopes.{Knows, form_value}
 use Rattle.task_code_registers.proofs.Knowing.{may-hold, knows-zero, knows-hart, knows-still, kept-apart, others-are, linear-small, form-small}
-use Rattle.task_code_registers.proofs.Making.{puts-then, puts-is, short-then}
+use Rattle.task_code_registers.proofs.Making.{puts-then, puts-is, short-then, base-least, base-some}
 
 -- ---- distances
 
@@ -104,20 +106,34 @@ form-is scope n most r c0 c1 of other fits x e = record {
   does = λ w m hart values f l holders free knows. puts-is w m l (e hart values) (x.does w m hart values f l holders free knows);
 }
 
-pub near-form : (scope : List Held) (own : Form) (s n r : ℕ) (c0 c1 : List ℕ) → IsNear scope own s n → MakesOf c0 c1 3 r s (λ v. (v + n) % 2 ^ 32)
-    → MakesForm c0 c1 (2 + 4 * (length own.sum.terms + 1)) scope r (λ hart values. form_value hart values own)
-near-form scope own s n r c0 c1 near x =
-    let l = length own.sum.terms in
-    makes-form-of scope 3 (2 + 4 * (l + 1)) r s c0 c1 (λ v. (v + n) % 2 ^ 32) (λ hart values. form_value hart values own) (omega arith) x
-    (λ hart values f knows. (near.small hart values f knows, sym (near.value hart values f knows)))
+-- what is longer than a number and no more
+pub long-enough : (own : Form) → (own.per_hart ≢ 0) ⊎ (1 ≤ length own.sum.terms) → 6 ≤ sum_words own.per_hart own.sum.terms
+long-enough own (inl some) = let b = base-some own.per_hart some in omega (arith, b)
+long-enough own (inr some) = let b = base-least own.per_hart in omega (arith, b, some)
+
+pub near-form : (scope : List Held) (own : Form) (s n r : ℕ) (c0 c1 : List ℕ) → IsNear scope own s n → IsWorth own n
+    → MakesOf c0 c1 3 r s (λ v. (v + n) % 2 ^ 32) → (Fits n → MakesOf c0 c1 1 r s (λ v. (v + n) % 2 ^ 32))
+    → MakesForm c0 c1 (sum_words own.per_hart own.sum.terms) scope r (λ hart values. form_value hart values own)
+near-form scope own s n r c0 c1 near worth x one = by-worth worth
+  where
+    in-most : (k : ℕ) → k ≤ sum_words own.per_hart own.sum.terms → MakesOf c0 c1 k r s (λ v. (v + n) % 2 ^ 32)
+        → MakesForm c0 c1 (sum_words own.per_hart own.sum.terms) scope r (λ hart values. form_value hart values own)
+    in-most k few y =
+        makes-form-of scope k (sum_words own.per_hart own.sum.terms) r s c0 c1 (λ v. (v + n) % 2 ^ 32) (λ hart values. form_value hart values own) few y
+        (λ hart values f knows. (near.small hart values f knows, sym (near.value hart values f knows)))
+
+    by-worth : IsWorth own n → MakesForm c0 c1 (sum_words own.per_hart own.sum.terms) scope r (λ hart values. form_value hart values own)
+    by-worth (inl fit) = in-most 1 (let b = base-least own.per_hart in omega (arith, b)) (one fit)
+    by-worth (inr long) = in-most 3 (omega (arith, long)) x
 
 -- ---- sums, term by term
 
 pub sum-none : (scope : List Held) (form : Form) (terms : List Term) (r : ℕ) (c0 c1 : List ℕ) → length terms < 1
-    → Makes c0 c1 6 r (λ f. (form.sum.number + f hart_number * form.per_hart) % 2 ^ 32)
-    → MakesForm c0 c1 (2 + 4 * (length terms + 1)) scope r (sum_value form terms)
+    → Makes c0 c1 (base_words form.per_hart) r (λ f. (form.sum.number + f hart_number * form.per_hart) % 2 ^ 32)
+    → MakesForm c0 c1 (sum_words form.per_hart terms) scope r (sum_value form terms)
 sum-none scope form [] r c0 c1 none x =
-    makes-form scope 6 6 r c0 c1 (λ f. (form.sum.number + f hart_number * form.per_hart) % 2 ^ 32) (sum_value form []) (omega arith) x (λ hart values f knows.
+    makes-form scope (base_words form.per_hart) (sum_words form.per_hart []) r c0 c1 (λ f. (form.sum.number + f hart_number * form.per_hart) % 2 ^ 32)
+    (sum_value form []) (omega arith) x (λ hart values f knows.
     let g : (form.sum.number + hart * form.per_hart) % 2 ^ 32 ≡ (form.sum.number + hart * form.per_hart + 0) % 2 ^ 32 = omega arith in
     ap (λ h. (form.sum.number + h * form.per_hart) % 2 ^ 32) (knows-hart hart scope values f knows) ∙ g)
 sum-none scope form (first ∷ others) r c0 c1 none x = absurd (omega (arith, none))
@@ -139,10 +155,10 @@ module _ (scope : List Held) (form : Form) (terms : List Term) (other : Term) (r
   base hart = form.sum.number + hart * form.per_hart
 
   -- a term that is 0
-  pub sum-skip : (c0 c1 : List ℕ) → first.stride ≡ 0 → MakesForm c0 c1 (2 + 4 * (length rest + 1)) scope r (sum_value form rest)
-      → MakesForm c0 c1 (2 + 4 * (length terms + 1)) scope r (sum_value form terms)
+  pub sum-skip : (c0 c1 : List ℕ) → first.stride ≡ 0 → MakesForm c0 c1 (sum_words form.per_hart rest) scope r (sum_value form rest)
+      → MakesForm c0 c1 (sum_words form.per_hart terms) scope r (sum_value form terms)
   sum-skip c0 c1 z x =
-      form-is scope (2 + 4 * (length rest + 1)) (2 + 4 * (length terms + 1)) r c0 c1 (sum_value form rest) (sum_value form terms) (let n = one-less in
+      form-is scope (sum_words form.per_hart rest) (sum_words form.per_hart terms) r c0 c1 (sum_value form rest) (sum_value form terms) (let n = one-less in
       omega (arith, n)) x (λ hart values.
       let g : sum_of values rest ≡ values first.counter * 0 + sum_of values rest = omega arith in
       ap (λ k. (base hart + k) % 2 ^ 32) (g ∙ ap (λ s. values first.counter * s + sum_of values rest) (sym z) ∙ sym (parts values)))
@@ -155,10 +171,11 @@ module _ (scope : List Held) (form : Form) (terms : List Term) (other : Term) (r
 
   -- a sum of one term
   pub sum-first : (s : ℕ) (c0 c1 : List ℕ) → form.per_hart ≡ 0 → ((values : Values) → sum_of values rest ≡ 0) → HoldsVariable scope first.counter s
-      → MakesOf c0 c1 6 r s (λ v. (form.sum.number + v * first.stride) % 2 ^ 32) → MakesForm c0 c1 (2 + 4 * (length terms + 1)) scope r (sum_value form terms)
+      → MakesOf c0 c1 6 r s (λ v. (form.sum.number + v * first.stride) % 2 ^ 32)
+      → MakesForm c0 c1 (sum_words form.per_hart terms) scope r (sum_value form terms)
   sum-first s c0 c1 z none holds x =
-      makes-form-of scope 6 (2 + 4 * (length terms + 1)) r s c0 c1 (λ v. (form.sum.number + v * first.stride) % 2 ^ 32) (sum_value form terms) (let n =
-      one-less in omega (arith, n)) x (λ hart values f knows.
+      makes-form-of scope 6 (sum_words form.per_hart terms) r s c0 c1 (λ v. (form.sum.number + v * first.stride) % 2 ^ 32) (sum_value form terms)
+      (let n = one-less in let b = base-least form.per_hart in omega (arith, n, b)) x (λ hart values f knows.
       let v = values first.counter in
       let n = form.sum.number in
       let e = holds.value hart values f knows in
@@ -170,12 +187,13 @@ module _ (scope : List Held) (form : Form) (terms : List Term) (other : Term) (r
       ))
 
   -- one more term
-  pub sum-more : (s : ℕ) (c0 c1 c2 : List ℕ) → HoldsVariable scope first.counter s → MakesForm c0 c1 (2 + 4 * (length rest + 1)) scope r (sum_value form rest)
-      → Makes c1 c2 4 r (λ f. (f r + f s * first.stride) % 2 ^ 32) → MakesForm c0 c2 (2 + 4 * (length terms + 1)) scope r (sum_value form terms)
+  pub sum-more : (s : ℕ) (c0 c1 c2 : List ℕ) → HoldsVariable scope first.counter s
+      → MakesForm c0 c1 (sum_words form.per_hart rest) scope r (sum_value form rest)
+      → Makes c1 c2 4 r (λ f. (f r + f s * first.stride) % 2 ^ 32) → MakesForm c0 c2 (sum_words form.per_hart terms) scope r (sum_value form terms)
   sum-more s c0 c1 c2 holds x y = record {
     insns = x.insns ++ y.insns;
     emits = emits_then x.emits y.emits;
-    short = let n = one-less in short-then x.insns y.insns (2 + 4 * (length rest + 1)) 4 (2 + 4 * (length terms + 1)) x.short y.short (omega (arith, n));
+    short = let n = one-less in short-then x.insns y.insns (sum_words form.per_hart rest) 4 (sum_words form.per_hart terms) x.short y.short (omega (arith, n));
     does = λ w m hart values f l holders free knows.
         let a = x.does w m hart values f l holders free knows in
         let k = knows-still hart scope values f a.after (λ q h. let t = kept-apart scope q holders h in a.others q (free q h) t.0 t.1) knows in
@@ -203,10 +221,11 @@ sum-is form terms hart values e =
     ap (λ ts. (n + h + sum_of values ts) % 2 ^ 32) e ∙ g
 
 pub whole-form : (scope : List Held) (form : Form) (terms : List Term) (r : ℕ) (c0 c1 : List ℕ) → terms ≡ form.sum.terms
-    → MakesForm c0 c1 (2 + 4 * (length terms + 1)) scope r (sum_value form terms)
-    → MakesForm c0 c1 (2 + 4 * (length form.sum.terms + 1)) scope r (λ hart values. form_value hart values form)
+    → MakesForm c0 c1 (sum_words form.per_hart terms) scope r (sum_value form terms)
+    → MakesForm c0 c1 (sum_words form.per_hart form.sum.terms) scope r (λ hart values. form_value hart values form)
 whole-form scope form terms r c0 c1 e x =
-    form-is scope (2 + 4 * (length terms + 1)) (2 + 4 * (length form.sum.terms + 1)) r c0 c1 (sum_value form terms) (λ hart values. form_value hart values form)
+    form-is scope (sum_words form.per_hart terms) (sum_words form.per_hart form.sum.terms) r c0 c1 (sum_value form terms)
+    (λ hart values. form_value hart values form)
     (let n : length terms ≡ length form.sum.terms = ap length e in omega (arith, n)) x (λ hart values. sum-is form terms hart values e)
 
 -- ---- addresses
@@ -232,12 +251,16 @@ address-near scope own s n most r c near fit = record {
 
 -- and where the rest of the form is made
 pub address-made : (scope : List Held) (own rest : Form) (offset r : ℕ) (c0 c1 : List ℕ) → r < 32 → IsRest own rest offset
-    → MakesForm c0 c1 (2 + 4 * (length rest.sum.terms + 1)) scope r (λ hart values. form_value hart values rest)
-    → MakesAddress c0 c1 (2 + 4 * (length own.sum.terms + 1)) scope r r offset (λ hart values. form_value hart values own)
+    → MakesForm c0 c1 (sum_words rest.per_hart rest.sum.terms) scope r (λ hart values. form_value hart values rest)
+    → MakesAddress c0 c1 (sum_words own.per_hart own.sum.terms) scope r r offset (λ hart values. form_value hart values own)
 address-made scope own rest offset r c0 c1 low is x = record {
   insns = x.insns;
   emits = x.emits;
-  short = let k = x.short in let n : length rest.sum.terms ≡ length own.sum.terms = ap length is.terms in omega (arith, k, n);
+  short =
+      let k = x.short in
+      let n : length rest.sum.terms ≡ length own.sum.terms = ap length is.terms in
+      let p : base_words rest.per_hart ≡ base_words own.per_hart = ap base_words is.per_hart in
+      omega (arith, k, n, p);
   low = low;
   which = inl refl;
   fits = is.fits;
@@ -259,6 +282,7 @@ rest-is form rest offset fit small terms part e = record {
   fits = fit;
   small = small;
   terms = terms;
+  per_hart = part;
   value = λ hart values.
       let s = sum_of values form.sum.terms in
       let h = hart * form.per_hart in

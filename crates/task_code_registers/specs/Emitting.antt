@@ -1,5 +1,5 @@
 -- What appended code does, whatever its instructions are. This project's own.
-use Rattle.std.specs.Prelude.{◌≡◌, ◌≢◌, ◌⊎◌, ◌<◌, ◌≤◌, ℕ, ◌+◌, ◌*◌, ◌%◌, ◌^◌, true, List, length}
+use Rattle.std.specs.Prelude.{◌≡◌, ◌≢◌, ◌⊎◌, ◌<◌, ◌≤◌, ℕ, ◌+◌, ◌*◌, ◌%◌, ◌^◌, ◌==◌, if◌then◌else◌, true, List, length}
 use Rattle.rv_insn.specs.declared.instructions.Insn.{Insn}
 use Rattle.loop_ir.specs.declared.expressions.Counter.{Counter}
 use Rattle.loop_ir.specs.declared.expressions.Term.{Term}
@@ -50,13 +50,18 @@ pub record MakesForm (old new : List ℕ) (most : ℕ) (scope : List Held) (r : 
   pub does : (world : World) (memory : List ℕ) (hart : ℕ) (values : Values) (f : ℕ → ℕ) → length memory ≡ world.size → AreHolders scope
       → IsFree scope r → Knows hart scope values f → Puts world memory insns f r (says hart values)
 
--- how many instructions make a sum of these terms
-abbrev pub sum_words : List Term → ℕ
-sum_words terms = 2 + 4 * (length terms + 1)
+-- how many instructions make a number and so much times the hart's number
+abbrev pub base_words : ℕ → ℕ
+base_words per_hart = if per_hart == 0 then 2 else 6
+
+-- so many make that and a sum of these terms
+abbrev pub sum_words : ℕ → List Term → ℕ
+sum_words per_hart terms = base_words per_hart + 4 * length terms
 
 -- so it is of a form's value
 abbrev pub MakesValue : List ℕ → List ℕ → List Held → Form → ℕ → Type 0
-MakesValue old new scope form r = MakesForm old new (sum_words form.sum.terms) scope r (λ hart values. form_value hart values form)
+MakesValue old new scope form r =
+    MakesForm old new (sum_words form.per_hart form.sum.terms) scope r (λ hart values. form_value hart values form)
 
 -- ---- what is near
 
@@ -72,6 +77,11 @@ pub record IsNear (scope : List Held) (form : Form) (r d : ℕ) : Type 0 where
   pub word : d < 2 ^ 32
   pub value : (hart : ℕ) (values : Values) (f : ℕ → ℕ) → Knows hart scope values f → form_value hart values form ≡ (f r + d) % 2 ^ 32
   pub small : (hart : ℕ) (values : Values) (f : ℕ → ℕ) → Knows hart scope values f → f r < 2 ^ 32
+
+-- Code that adds so much to a register is no longer than code that makes the form: an immediate stands for the number, or the form isn't a
+-- number alone.
+abbrev pub IsWorth : Form → ℕ → Type 0
+IsWorth form d = Fits d ⊎ (6 ≤ sum_words form.per_hart form.sum.terms)
 
 -- ---- addresses
 
@@ -97,13 +107,14 @@ pub record MakesAddress (old new : List ℕ) (most : ℕ) (scope : List Held) (r
 -- so it is of an address that is a form
 abbrev pub MakesFormAddress : List ℕ → List ℕ → List Held → Form → ℕ → At → Type 0
 MakesFormAddress old new scope form r at =
-    MakesAddress old new (sum_words form.sum.terms) scope r at.register at.offset (λ hart values. form_value hart values form)
+    MakesAddress old new (sum_words form.per_hart form.sum.terms) scope r at.register at.offset (λ hart values. form_value hart values form)
 
--- a form is another one and an offset, which fits an immediate, and both have the same terms
+-- a form is another one and an offset, which fits an immediate, and both have the same terms and part of the hart's number
 pub record IsRest (form rest : Form) (offset : ℕ) : Type 0 where
   pub fits : Fits offset
   pub small : offset < 2 ^ 32
   pub terms : rest.sum.terms ≡ form.sum.terms
+  pub per_hart : rest.per_hart ≡ form.per_hart
   pub value : (hart : ℕ) (values : Values) → form_value hart values form ≡ (form_value hart values rest + offset) % 2 ^ 32
 
 -- ---- sums, term by term
@@ -115,7 +126,7 @@ pub record HoldsVariable (scope : List Held) (counter : Counter) (r : ℕ) : Typ
 
 -- a number and so much times the hart's number is made
 abbrev pub MakesBase : List ℕ → List ℕ → ℕ → ℕ → ℕ → Type 0
-MakesBase old new r number per_hart = Makes old new 6 r (λ f. (number + f hart_number * per_hart) % 2 ^ 32)
+MakesBase old new r number per_hart = Makes old new (base_words per_hart) r (λ f. (number + f hart_number * per_hart) % 2 ^ 32)
 
 -- a form's number, its part of the hart's number, and these terms
 abbrev pub sum_value : Form → List Term → ℕ → Values → ℕ
@@ -123,4 +134,4 @@ sum_value form terms hart values = (form.sum.number + hart * form.per_hart + sum
 
 -- they are made
 abbrev pub MakesSum : List ℕ → List ℕ → List Held → Form → List Term → ℕ → Type 0
-MakesSum old new scope form terms r = MakesForm old new (sum_words terms) scope r (sum_value form terms)
+MakesSum old new scope form terms r = MakesForm old new (sum_words form.per_hart terms) scope r (sum_value form terms)

@@ -25,6 +25,7 @@ pub record Stepped (world : World) (memory : List ℕ) (insns : List Insn) (f : 
 -- a form where a variable stands at a number
 pub record IsAt (counter : Counter) (n : ℕ) (form made : Form) : Type 0 where
   pub terms : made.sum.terms ≡ others_of counter form.sum.terms
+  pub per_hart : made.per_hart ≡ form.per_hart
   pub value : (hart v : ℕ) (values : Values) → form_value hart (with counter v values) made ≡ form_value hart (with counter n values) form
 
 -- ---- before the first iteration
@@ -46,7 +47,7 @@ pub record Enters (old new : List ℕ) (most : ℕ) (counter : Counter) (scope i
 
 -- a register is given to a form, and so many stay free
 pub record Takes (old new : List ℕ) (counter : Counter) (scope : List Held) (form : Form) (reserved r : ℕ) (inner : List Held) : Type 0 where
-  pub enters : Enters old new (sum_words form.sum.terms) counter scope inner
+  pub enters : Enters old new (sum_words form.per_hart form.sum.terms) counter scope inner
   pub is : inner ≡ record { register = r; form = form } ∷ scope
   pub may : may_hold r ≡ true
   pub left : reserved ≤ left_count inner

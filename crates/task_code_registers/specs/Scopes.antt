@@ -36,6 +36,11 @@ abbrev pub AreHolders : List Held → Type 0
 AreHolders [] = Unit {0}
 AreHolders (own ∷ others) = IsHolder own.register × (IsFree others own.register × AreHolders others)
 
+-- registers hold all forms, and neither the number of lanes nor their configuration does
+abbrev pub are_registers : List Held → Bool
+are_registers [] = true
+are_registers (own ∷ others) = may_hold own.register && are_registers others
+
 -- ---- what they hold
 
 -- x0 is 0, x10 is the hart's number, and each register of the scope has its form's value

@@ -98,7 +98,9 @@ pub fn emit_number(code: &mut Vec<u32>, r: u8, number: u32) -> Result<(), AllocE
 /// Memory ran out.
 pub fn emit_plus(code: &mut Vec<u32>, r: u8, s: u8, number: u32) -> Result<(), AllocError>
     requires { IsTarget r × IsSource s }
-    ensures { OnOk result (MakesOf code.old.items code.new.items 3 r s (λ v. (v + number) % 2 ^ 32)) }
+    ensures any { OnOk result (MakesOf code.old.items code.new.items 3 r s (λ v. (v + number) % 2 ^ 32)) }
+    ensures small { Fits number → OnOk result (MakesOf code.old.items code.new.items 1 r s
+        (λ v. (v + number) % 2 ^ 32)) }
 {
     if number == 0 && r == s {
         return Ok(());

@@ -100,6 +100,16 @@ pub fn with_held(
     Ok(made)
 }
 
+/// Whether registers hold all forms of a scope, and neither the number of lanes nor their configuration does.
+pub fn are_registers(scope: &[Held]) -> bool
+    ensures { result ≡ spec.are_registers scope.now }
+{
+    match scope {
+        [] => true,
+        [first, others @ ..] => may_hold(first.register) && are_registers(others),
+    }
+}
+
 /// Whether a register of the scope is this one.
 fn is_held(scope: &[Held], register: u8) -> bool
     ensures { result ≡ spec.is_held scope.now register }

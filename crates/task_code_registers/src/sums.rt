@@ -1,9 +1,9 @@
 //! Forms and addresses, from what registers hold.
 
-ghost use Rattle.std.specs.Prelude.{◌≡◌, ◌+◌, ◌*◌, ◌%◌, ◌^◌, IfOk, IfSome, OnOk, true};
+ghost use Rattle.std.specs.Prelude.{◌≡◌, ◌+◌, ◌*◌, ◌%◌, ◌^◌, ◌≤◌, IfOk, IfSome, OnOk, false, length, true};
 ghost use Rattle.loop_ir.specs.Counters.{Values};
 ghost use Rattle.loop_ir.specs.Expressions.{sum_of};
-ghost use Rattle.task_code_registers.specs.Emitting.{Fits, HoldsVariable, IsApart, IsNear, IsRest};
+ghost use Rattle.task_code_registers.specs.Emitting.{Fits, HoldsVariable, IsApart, IsNear, IsRest, IsWorth};
 ghost use Rattle.task_code_registers.specs.Emitting.{Makes, MakesBase, MakesFormAddress, MakesOf, MakesSum, MakesValue};
 ghost use Rattle.task_code_registers.specs.Registers.{IsPlace, IsSource};
 ghost use Rattle.task_code_registers.specs.Scopes as spec;
@@ -21,7 +21,8 @@ use task_code_scalar::instructions::alu;
 
 /// Whether all strides are 0.
 fn all_zero(terms: &[Term]) -> bool
-    ensures { result ≡ true → (values : Values) → sum_of values terms.now ≡ 0 }
+    ensures yes { result ≡ true → (values : Values) → sum_of values terms.now ≡ 0 }
+    ensures otherwise { result ≡ false → 1 ≤ length terms.now }
 {
     match terms {
         [] => true,
@@ -91,7 +92,8 @@ pub fn find(
 
 /// The nearest of them. For a number alone only a small difference counts, since a literal takes two instructions.
 pub fn nearest(alloc: Global, scope: &[Held], form: &Form) -> Result<Option<Near>, AllocError>
-    ensures { IfOk result (λ found. IfSome found (λ near. IsNear scope.now form.now near.register near.number)) }
+    ensures near { IfOk result (λ found. IfSome found (λ near. IsNear scope.now form.now near.register near.number)) }
+    ensures worth { IfOk result (λ found. IfSome found (λ near. IsWorth form.now near.number)) }
 {
     match find(alloc, scope, form, true)? {
         Some(found) => Ok(Some(found)),
@@ -153,7 +155,7 @@ pub fn have_registers(scope: &[Held], terms: &[Term]) -> bool
 }
 
 /// The register that holds a loop variable alone.
-fn register_of(scope: &[Held], counter: Counter) -> u8
+pub fn register_of(scope: &[Held], counter: Counter) -> u8
     requires { spec.has_variable scope.now counter ≡ true }
     ensures { HoldsVariable scope.now counter result }
 {

@@ -2,7 +2,6 @@
 use Rattle.std.proofs.Common.{◌≡◌, ℕ, ◌*◌, ◌<◌, List, [], ◌∷◌, ◌++◌, true, refl, ap, ◌∙◌, sym, subst, arith, inl, inr}
 use Rattle.std.specs.Prelude.{min, ◌^◌, ◌==◌, if◌then◌else◌, Bool, false, Option, Some, None}
 use Rattle.std.proofs.lemmas.Bool.Decides.{nat_tests}
-use Rattle.std.proofs.lemmas.Bool.{and_parts}
 use Rattle.rv_insn.specs.declared.instructions.Insn.TheVariants.{Vector}
 use Rattle.rv_insn.specs.declared.vector_instructions.VectorInsn.TheVariants as v
 use Rattle.vector_unit.specs.Vector.{most_elements}
@@ -16,9 +15,9 @@ use Rattle.multi_hart_logic.proofs.Paths.{line-then}
 use Rattle.task_code_scalar.specs.Words.{Emits}
 use Rattle.task_code_scalar.proofs.Spelling.{emits_then}
 use Rattle.task_code_registers.specs.declared.scopes.Held.{Held}
-use Rattle.task_code_registers.specs.Registers.{first_value, may_hold, zero_register}
-use Rattle.task_code_registers.specs.Scopes.{IsKept}
-use Rattle.task_code_registers.proofs.Knowing.{kept-apart, knows-still, knows-zero, may-hold}
+use Rattle.task_code_registers.specs.Registers.{first_value, zero_register}
+use Rattle.task_code_registers.specs.Scopes.{IsKept, are_registers}
+use Rattle.task_code_registers.proofs.Knowing.{kept-apart, kept-low, knows-still, knows-zero}
 use Rattle.task_code_values.specs.Making.{MakesOfTwo}
 use Rattle.task_code_lanes.specs.declared.groups.Group.{Group}
 use Rattle.task_code_lanes.specs.declared.groups.Group.TheVariants as groups
@@ -29,17 +28,8 @@ use Rattle.task_code_lanes.proofs.Configured.{supported, most, has-lanes, config
 use Rattle.task_code_runs.proofs.Pointing.{address-free}
 use Rattle.task_code_runs.specs.declared.left.Left.{Left}
 use Rattle.task_code_runs.specs.Runs.{all_lanes, least_left, left_by, left_lanes}
-use Rattle.task_code_runs.specs.inner.Making.{are_registers, group_lanes, Configures, MakesLeast, MakesLeft}
+use Rattle.task_code_runs.specs.inner.Making.{group_lanes, Configures, MakesLeast, MakesLeft}
 use Rattle.task_code_runs.proofs.Sharing.{left-small, value-free}
-
--- registers that are kept
-pub kept-low : (scope : List Held) (q : ℕ) → are_registers scope ≡ true → IsKept scope q → q < 32
-kept-low [] q all kept = omega (arith, kept)
-kept-low (own ∷ others) q all (inl e) =
-    let m = may-hold own.register (and_parts (may_hold own.register) (are_registers others) all).0 in
-    let high = m.high in
-    omega (arith, e, high)
-kept-low (own ∷ others) q all (inr h) = kept-low others q (and_parts (may_hold own.register) (are_registers others) all).1 h
 
 all-of : (group : Group) → min (group_lanes group) (most_elements (vtype_of group)) ≡ 4 * registers group
 all-of groups.One = refl

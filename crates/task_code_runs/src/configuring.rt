@@ -5,6 +5,7 @@ ghost use Rattle.rv_insn.specs.declared.instructions.Insn.TheVariants.{Vector as
 ghost use Rattle.rv_insn.specs.declared.vector_instructions.VectorInsn.TheVariants as v;
 ghost use Rattle.task_code_lanes.specs.Groups as groups;
 ghost use Rattle.task_code_scalar.specs.Words.{Emits};
+ghost use Rattle.task_code_registers.specs.Scopes.{are_registers};
 ghost use Rattle.task_code_runs.specs.Runs.{left_lanes};
 ghost use Rattle.task_code_runs.specs.inner.Making as spec;
 ghost use Rattle.task_code_runs.specs.inner.Making.{Configures, MakesLeast};
@@ -17,21 +18,11 @@ use std::alloc::{AllocError, Global};
 use task_code_lane_values::vectorized::Lanes;
 use task_code_lanes::groups::Group;
 use task_code_lanes::vectors::configure;
-use task_code_registers::registers::{FIRST_VALUE, may_hold};
+use task_code_registers::registers::FIRST_VALUE;
 use task_code_registers::scopes::Held;
 use task_code_scalar::CodeFault;
 use task_code_scalar::instructions::{put, register};
 use task_code_values::operations::emit_operation;
-
-/// Whether registers hold all forms of a scope, and neither the number of lanes nor their configuration does.
-pub fn are_registers(scope: &[Held]) -> bool
-    ensures { result ≡ spec.are_registers scope.now }
-{
-    match scope {
-        [] => true,
-        [first, others @ ..] => may_hold(first.register) && are_registers(others),
-    }
-}
 
 /// The configuration of lanes of 32 bits in such groups.
 fn vtype(group: Group) -> Vtype10
@@ -106,7 +97,7 @@ pub fn emit_left_lanes(
     own: Lanes,
     left: &[Left],
 ) -> Result<(), CodeFault>
-    requires { spec.are_registers scope.now ≡ true }
+    requires { are_registers scope.now ≡ true }
     ensures { OnOk result (Configures code.old.items code.new.items scope.now own (left_lanes own left.now)) }
 {
     match left {

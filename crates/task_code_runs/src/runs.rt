@@ -5,7 +5,7 @@ ghost use Rattle.task_code_values.specs.Operands.{IsSum};
 ghost use Rattle.task_code_runs.specs.Runs.{EmitsRun, left_lanes};
 ghost use Rattle.task_code_runs.specs.inner.Making.{StoresLanes};
 
-use crate::configuring::{are_registers, emit_left_lanes};
+use crate::configuring::emit_left_lanes;
 use crate::left::Left;
 use crate::pointers::emit_pointer;
 use halide_pipeline::Source;
@@ -20,6 +20,7 @@ use task_code_registers::holding::stride_of;
 use task_code_registers::numbers::emit_number;
 use task_code_registers::points::point_form;
 use task_code_registers::registers::FIRST_VALUE;
+use task_code_registers::scopes::are_registers;
 use task_code_scalar::CodeFault;
 use task_code_scalar::expressions::place_of;
 use task_code_values::expressions::sum_of;

@@ -30,11 +30,6 @@ group_lanes groups.One = 4
 group_lanes groups.Two = 8
 group_lanes groups.Four = 16
 
--- registers hold all forms of a scope, and neither the number of lanes nor their configuration does
-abbrev pub are_registers : List Held → Bool
-are_registers [] = true
-are_registers (own ∷ others) = may_hold own.register && are_registers others
-
 -- ---- how many lanes
 
 -- straight code that configures so many lanes; registers that the scope doesn't keep may change

@@ -8,7 +8,7 @@ returns-then-first-eq0 t c = sum-skip c.args.scope.now c.args.form.now c.args.te
 pub returns-then-all_zero : goal.returns-then-all_zero
 returns-then-all_zero t c =
     sum-first c.args.scope.now c.args.form.now c.args.terms.now _ c.args.r c.in-len1-up.len_at_least c.register_of-s.result _ _ c.if-form-eq0.true
-    (c.all_zero.ensures c.if-all_zero.true)
+    (c.all_zero.ensures.yes c.if-all_zero.true)
     c.register_of-s.ensures c.in_ok-emit_product-in-len1-up.ensures
 
 pub returns-in_ok-emit_base-in-empty : goal.returns-in_ok-emit_base-in-empty
