@@ -46,8 +46,10 @@ size e = (size_of e).words
 
 -- ---- statements
 
+-- An index and then the address may have to be kept while what comes next is made: 5 words for both, 12 for the address of two values, and the
+-- store.
 abbrev pub store_size : Store → ℕ
-store_size store = size store.x + size store.y + size store.value + 14
+store_size store = size store.x + size store.y + size store.value + 18
 
 -- whether a loop is laid out, one copy of its body a round
 abbrev pub is_laid_out : LoopKind → Bool

@@ -262,7 +262,7 @@ same-nest extents splits others own all whole store es el is =
     ∙ ap (λ (ls : List Loop). nest_size (loops.counts extents others) ls (25 * length others + store)) el
 
 -- 64 words for each unit of the weight, with 24 to spare
-pub is-light : (whole copied splits store nodes count produced : ℕ) → 1 ≤ copied → splits + 1 ≤ count → store + 12 ≤ 64 * nodes
+pub is-light : (whole copied splits store nodes count produced : ℕ) → 1 ≤ copied → splits + 1 ≤ count → store + 8 ≤ 64 * nodes
     → whole ≤ copied * (25 * splits + store + 39 * count) + 64 * produced
     → whole + 24 ≤ 64 * ((nodes + count) * copied + produced)
 is-light whole copied splits store nodes count produced some more given few =
@@ -273,7 +273,7 @@ is-light whole copied splits store nodes count produced some more given few =
     omega (arith, t, d, c, a, some, few)
 
 module _ (func : Func) (update : Option Update) (extents : Extents) (stage : Stage) (is : IsStageOf func update stage) (store nodes : ℕ)
-    (more : length stage.splits + 1 ≤ length stage.loops) (given : store + 12 ≤ 64 * nodes) where
+    (more : length stage.splits + 1 ≤ length stage.loops) (given : store + 8 ≤ 64 * nodes) where
   abbrev counted : loops.Values
   counted = loops.counts extents stage.splits
 

@@ -40,7 +40,7 @@ use Rattle.lowering.proofs.Registers.{count-same, at-most}
 
 -- at a point of two loops
 pub pure-size : (place : ℕ) (x y : Linear) (value : loop.Expr) (nodes : ℕ) → length x.terms ≡ 1 → length y.terms ≡ 1 → IsGiven (size value) nodes
-    → whole_size (s.Store (record { func = place; x = e.Linear x; y = e.Linear y; value = value })) + 12 ≤ 64 * nodes
+    → whole_size (s.Store (record { func = place; x = e.Linear x; y = e.Linear y; value = value })) + 8 ≤ 64 * nodes
 pure-size place x y value nodes ex ey given =
     let own : Store = record { func = place; x = e.Linear x; y = e.Linear y; value = value } in
     let w = whole_store own in
@@ -59,7 +59,7 @@ pub update-size : (flags : List Bool) (funcs : List Func) (place : ℕ) (update 
     → IsGiven (size column) (counted flags funcs place update.left_x)
     → size store.x ≤ size column + 26 → IsGivenIndex flags funcs place update.left_y row → size store.y ≤ size row + 26 → ((n : ℕ) → row ≡ e.Number n
     → (kept (size_of store.y) ≡ 0) × (size store.y ≤ 22))
-    → IsGiven (size store.value) (counted flags funcs (place + 1) update.right) → whole_size (s.Store store) + 12 ≤ 64 * update_counted flags funcs place update
+    → IsGiven (size store.value) (counted flags funcs (place + 1) update.right) → whole_size (s.Store store) + 8 ≤ 64 * update_counted flags funcs place update
 update-size flags funcs place update store column row fx ex fy ey alone fv =
     let w = whole_store store in
     let y = index-size flags funcs place update.left_y row store.y fy ey alone in

@@ -42,7 +42,7 @@ pub(crate) fn store_of(
     ensures depth { IfOk result (λ made. depth made ≡ 0) }
     ensures needs { IfOk result (λ made. greatest_need made ≤ max 1 (taken (flags_of plan.now.schedule.standings)
         plan.now.pipeline.funcs computed.now.place computed.now.func.now.pure)) }
-    ensures sizes { IfOk result (λ made. whole_size made + 12 ≤ 64 * counted
+    ensures sizes { IfOk result (λ made. whole_size made + 8 ≤ 64 * counted
         (flags_of plan.now.schedule.standings) plan.now.pipeline.funcs computed.now.place
         computed.now.func.now.pure) }
 {

@@ -111,7 +111,7 @@ pub fn pure_store(
     ensures needs { IfOk result (λ made. greatest_need made ≤ max 1 (taken reader.now.flags.now reader.now.funcs.now
         reader.now.place pure.now)) }
     ensures sizes { IfOk result (λ made. AreShort reader.now.corners.now → IsShort corner.now
-        → whole_size made + 12 ≤ 64 * counted reader.now.flags.now reader.now.funcs.now reader.now.place pure.now) }
+        → whole_size made + 8 ≤ 64 * counted reader.now.flags.now reader.now.funcs.now reader.now.place pure.now) }
 {
     let arguments = arguments_of(alloc, reader.place, corner)?;
     let callees = Callees {

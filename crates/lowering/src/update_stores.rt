@@ -143,7 +143,7 @@ pub fn update_store(
     ensures needs { IfOk result (λ made. greatest_need made ≤ update_taken reader.now.flags.now reader.now.funcs.now
         reader.now.place update.now) }
     ensures sizes { IfOk result (λ made. AreShort reader.now.corners.now → IsShort corner.now
-        → whole_size made + 12 ≤ 64 * update_counted reader.now.flags.now reader.now.funcs.now reader.now.place
+        → whole_size made + 8 ≤ 64 * update_counted reader.now.flags.now reader.now.funcs.now reader.now.place
         update.now) }
 {
     let arguments = arguments_of(alloc, reader.place, corner, update)?;

@@ -107,7 +107,7 @@ fn store_at(
     ensures needs { IfOk result (λ made. greatest_need made ≤ update_taken (flags_of plan.now.schedule.standings)
         plan.now.pipeline.funcs of.now.computed.place of.now.update.now) }
     ensures sizes { IfOk result (λ made. AreShort corners.now → IsShort corner.now
-        → whole_size made + 12 ≤ 64 * update_counted (flags_of plan.now.schedule.standings)
+        → whole_size made + 8 ≤ 64 * update_counted (flags_of plan.now.schedule.standings)
         plan.now.pipeline.funcs of.now.computed.place of.now.update.now) }
 {
     let flags = inlined_flags(alloc, plan.schedule().standings.as_slice())?;
@@ -130,7 +130,7 @@ fn root_store(alloc: Global, plan: &Plan<'_>, of: &UpdateOf<'_>) -> Result<Stmt,
     ensures depth { IfOk result (λ made. depth made ≡ 0) }
     ensures needs { IfOk result (λ made. greatest_need made ≤ update_taken (flags_of plan.now.schedule.standings)
         plan.now.pipeline.funcs of.now.computed.place of.now.update.now) }
-    ensures sizes { IfOk result (λ made. whole_size made + 12 ≤ 64 * update_counted
+    ensures sizes { IfOk result (λ made. whole_size made + 8 ≤ 64 * update_counted
         (flags_of plan.now.schedule.standings) plan.now.pipeline.funcs of.now.computed.place
         of.now.update.now) }
 {

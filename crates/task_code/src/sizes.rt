@@ -75,7 +75,7 @@ fn store_size(store: &Store) -> u32
 {
     plus(
         plus(plus(size(&store.x), size(&store.y)), size(&store.value)),
-        14,
+        18,
     )
 }
 

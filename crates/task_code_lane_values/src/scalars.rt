@@ -131,7 +131,7 @@ pub(crate) fn emit_form_operand(
     scope: &[Held],
     form: &Form,
 ) -> Result<u8, CodeFault>
-    ensures { IfOk result (λ s. MakesHeld code.old.items code.new.items (sum_words form.now.sum.terms)
+    ensures { IfOk result (λ s. MakesHeld code.old.items code.new.items (sum_words form.now.per_hart form.now.sum.terms)
         scope.now address_register s (λ hart values. form_value hart values form.now)) }
 {
     match find(alloc, scope, form, true)? {

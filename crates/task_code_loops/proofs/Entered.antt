@@ -55,9 +55,9 @@ gains-none counter scope most reserved c0 c1 e = record {
 }
 
 pub gains-one : (counter : Counter) (scope scope' inner : List Held) (form : Form) (r reserved : ℕ) (c0 c1 : List ℕ) → scope' ≡ scope
-    → Takes c0 c1 counter scope' form reserved r inner → Gains c0 c1 (sum_words form.sum.terms) counter reserved scope inner
+    → Takes c0 c1 counter scope' form reserved r inner → Gains c0 c1 (sum_words form.per_hart form.sum.terms) counter reserved scope inner
 gains-one counter scope scope' inner form r reserved c0 c1 e x =
-    subst (λ s. Gains c0 c1 (sum_words form.sum.terms) counter reserved s inner) e (record {
+    subst (λ s. Gains c0 c1 (sum_words form.per_hart form.sum.terms) counter reserved s inner) e (record {
       enters = x.enters;
       can = can-taken counter scope' inner form r reserved c0 c1 x;
       left = λ left. x.left;
@@ -75,12 +75,12 @@ gains-then counter scope next inner n k most reserved c0 c1 c2 fits x y = record
 
 pub gains-first : (counter : Counter) (scope next inner : List Held) (wanted : List Form) (first other : Form) (reserved : ℕ) (c0 c1 c2 : List ℕ)
     → 1 ≤ length wanted → first ≡ get_or wanted 0 other
-    → Gains c0 c1 (sum_words first.sum.terms) counter reserved scope next
+    → Gains c0 c1 (sum_words first.per_hart first.sum.terms) counter reserved scope next
     → Gains c1 c2 (forms_words (take (length wanted - 1) (drop 1 wanted))) counter reserved next inner
     → Gains c0 c2 (forms_words wanted) counter reserved scope inner
 gains-first counter scope next inner wanted first other reserved c0 c1 c2 some is x y =
     let rest = take (length wanted - 1) (drop 1 wanted) in
     let e : first ∷ rest ≡ wanted = ap (λ h. h ∷ rest) is ∙ sym (others-are wanted other some) in
-    let n = sum_words first.sum.terms in
+    let n = sum_words first.per_hart first.sum.terms in
     subst (λ fs. Gains c0 c2 (forms_words fs) counter reserved scope inner) e
     (gains-then counter scope next inner n (forms_words rest) (n + forms_words rest) reserved c0 c1 c2 (omega arith) x y)

@@ -1,7 +1,7 @@
 -- What tells when a loop ends.
-use Rattle.std.proofs.Common.{◌≡◌, ℕ, suc, ◌+◌, ◌-◌, ◌*◌, ◌^◌, ◌<◌, ◌≤◌, List, ◌∷◌, length, get_or, take, drop, true, false}
+use Rattle.std.proofs.Common.{◌≡◌, ℕ, suc, ◌+◌, ◌-◌, ◌*◌, ◌^◌, ◌<◌, ◌≤◌, List, [], ◌∷◌, length, get_or, take, drop, Bool, true, false}
 use Rattle.std.proofs.Common.{refl, ap, ◌∙◌, sym, subst, arith, inl, inr}
-use Rattle.std.specs.Prelude.{◌==◌, ◌⊎◌, not, nat_lt}
+use Rattle.std.specs.Prelude.{◌==◌, ◌⊎◌, ◌&&◌, not, nat_lt, if◌then◌else◌}
 use Rattle.std.proofs.lemmas.Bool.{cases_lt, ltb-true}
 use Rattle.std.proofs.lemmas.Bool.Decides.{nat_tests}
 use Rattle.rv_insn.specs.declared.operations.BranchOp.TheVariants as branches
@@ -10,11 +10,12 @@ use Rattle.loop_ir.specs.declared.expressions.Counter.{Counter}
 use Rattle.loop_ir.specs.Counters.{with}
 use Rattle.task_code_registers.specs.declared.scopes.Form.{Form}
 use Rattle.task_code_registers.specs.declared.scopes.Held.{Held}
-use Rattle.task_code_registers.specs.Emitting.{sum_words}
-use Rattle.task_code_registers.specs.Holding.{Enters, Extends, Takes, IsAt, can_advance, mentions}
+use Rattle.task_code_registers.specs.Emitting.{base_words, sum_words}
+use Rattle.task_code_registers.specs.Holding.{Enters, Extends, Takes, IsAt, can_advance, mentions, moving}
 use Rattle.task_code_registers.specs.Looping as looping
 use Rattle.task_code_registers.specs.Registers.{may_hold}
-use Rattle.task_code_registers.specs.Scopes.{Knows, form_value, has_variable, left_count}
+use Rattle.task_code_registers.specs.Scopes.{Knows, are_registers, form_value, has_variable, left_count}
+use Rattle.task_code_registers.specs.Strides.{has_counter}
 use Rattle.task_code_registers.proofs.Ending.{limits-tell}
 use Rattle.task_code_registers.proofs.Knowing.{others-are}
 use Rattle.task_code_registers.proofs.Striding.{others-fewer}
@@ -22,7 +23,8 @@ use Rattle.task_code_loops.specs.declared.beginning.Begun.{Begun}
 use Rattle.task_code_loops.specs.declared.tests.Limit.{Limit}
 use Rattle.task_code_loops.specs.declared.tests.Limit.TheVariants.{Register, Number}
 use Rattle.task_code_loops.specs.declared.tests.Tested.{Tested}
-use Rattle.task_code_loops.specs.Beginning.{variable, number, forms_words, may_be_limit, IsTest, Gains, Tests, Betters, begin_words, IsBegun}
+use Rattle.task_code_loops.specs.Beginning.{variable, number, forms_words, may_be_limit, IsTest, HoldsPlainly}
+use Rattle.task_code_loops.specs.Beginning.{Gains, Tests, Betters, begin_words, IsBegun}
 use Rattle.task_code_loops.proofs.Entered.{enters-none, enters-more, enters-then, can-taken}
 use Rattle.task_code_loops.proofs.Knowledge.{can-unmentioned, knows-more, number-value, variable-more, variable-there, variable-value}
 
@@ -94,40 +96,53 @@ module _ (counter : Counter) (count : ℕ) (scope : List Held) (reserved : ℕ) 
       → Tests c0 c1 10 counter count scope reserved tested
   tests-variable form inner r c0 c1 small ef x tested ei er el =
       let s : inner ≡ record { register = r; form = variable counter } ∷ scope = x.is ∙ ap (λ (g : Form). record { register = r; form = g } ∷ scope) ef in
-      let z : sum_words form.sum.terms ≡ 10 = ap (λ (g : Form). sum_words g.sum.terms) ef in
+      let z : sum_words form.per_hart form.sum.terms ≡ 6 = ap (λ (g : Form). sum_words g.per_hart g.sum.terms) ef in
       let test : IsTest counter count inner r (Number count) =
       subst (λ k. IsTest counter count k r (Number count)) (sym s) (test-variable counter count r scope small x.may) in
       record {
-        enters = subst (λ k. Enters c0 c1 10 counter scope k) (sym ei) (subst (λ n. Enters c0 c1 n counter scope inner) z x.enters);
+        enters = subst (λ k. Enters c0 c1 10 counter scope k) (sym ei)
+            (enters-more counter scope inner (sum_words form.per_hart form.sum.terms) 10 c0 c1 (omega (arith, z)) x.enters);
         can = λ can. subst (λ k. can_advance counter k ≡ true) (sym ei) (can-taken counter scope inner form r reserved c0 c1 x can);
         left = subst (λ k. reserved ≤ left_count k) (sym ei) x.left;
         test = subst (λ k. IsTest counter count k tested.register tested.limit) (sym ei)
             (subst (λ q. IsTest counter count inner q tested.limit) (sym er) (subst (λ o. IsTest counter count inner r o) (sym el) test));
       }
 
-  -- the variable has a register
-  pub has-taken : (form : Form) (inner : List Held) (r : ℕ) (c0 c1 : List ℕ) → form ≡ variable counter → Takes c0 c1 counter scope form reserved r inner
-      → has_variable inner counter ≡ true
-  has-taken form inner r c0 c1 ef x =
-      subst (λ k. has_variable k counter ≡ true) (sym x.is) (variable-there counter (record { register = r; form = form }) scope x.may ef)
+  one-at-most : (t : Bool) (n : ℕ) → (if t then suc n else n) ≤ suc n
+  one-at-most true n = omega arith
+  one-at-most false n = omega arith
+
+  -- the variable has a register, and nothing else is held
+  pub plain-taken : (form : Form) (inner : List Held) (r : ℕ) (c0 c1 : List ℕ) → form ≡ variable counter → Takes c0 c1 counter scope form reserved r inner
+      → HoldsPlainly counter scope inner
+  plain-taken form inner r c0 c1 ef x = record {
+    variable = subst (λ k. has_variable k counter ≡ true) (sym x.is) (variable-there counter (record { register = r; form = form }) scope x.may ef);
+    others = λ other apart.
+        ap (mentions other) x.is ∙ ap (λ (g : Form). if has_counter other g.sum.terms then true else mentions other scope) ef
+        ∙ ap (λ t. if (if t then true else false) then true else mentions other scope) apart;
+    registers = λ are. ap are_registers x.is ∙ ap (λ m. m && are_registers scope) x.may ∙ are;
+    moves = subst (λ k. moving counter k ≤ suc (moving counter scope)) (sym x.is)
+        (one-at-most (has_counter counter form.sum.terms) (moving counter scope));
+  }
 
   pub tests-form : (form limit : Form) (first first' inner : List Held) (a b : ℕ) (c0 c1 c2 : List ℕ) → first' ≡ first → IsAt counter count form limit
       → looping.is_test counter count form ≡ true → Takes c0 c1 counter scope form (reserved + 1) a first
       → Takes c1 c2 counter first' limit reserved b inner → (tested : Tested) → tested.scope.items ≡ inner → tested.register ≡ a → tested.limit ≡ Register b
-      → Tests c0 c2 (10 + 2 * sum_words form.sum.terms) counter count scope reserved tested
+      → Tests c0 c2 (10 + 2 * sum_words form.per_hart form.sum.terms) counter count scope reserved tested
   tests-form form limit first first' inner a b c0 c1 c2 ef at tells x y' tested ei er el =
       let y = subst (λ k. Takes c1 c2 counter k limit reserved b inner) ef y' in
       let s : inner ≡ record { register = b; form = limit } ∷ (record { register = a; form = form } ∷ scope) =
       y.is ∙ ap (λ k. record { register = b; form = limit } ∷ k) x.is in
       let few : length limit.sum.terms ≤ length form.sum.terms =
       subst (λ ts. length ts ≤ length form.sum.terms) (sym at.terms) (others-fewer counter form.sum.terms) in
-      let n = sum_words form.sum.terms in
-      let k = sum_words limit.sum.terms in
+      let part : base_words limit.per_hart ≡ base_words form.per_hart = ap base_words at.per_hart in
+      let n = sum_words form.per_hart form.sum.terms in
+      let k = sum_words limit.per_hart limit.sum.terms in
       let test : IsTest counter count inner a (Register b) =
       subst (λ z. IsTest counter count z a (Register b)) (sym s) (test-form counter count a b scope form limit x.may y.may at tells) in
       record {
         enters = subst (λ z. Enters c0 c2 (10 + 2 * n) counter scope z) (sym ei)
-            (enters-then counter scope first inner n k (10 + 2 * n) c0 c1 c2 (omega (arith, few)) x.enters y.enters);
+            (enters-then counter scope first inner n k (10 + 2 * n) c0 c1 c2 (omega (arith, few, part)) x.enters y.enters);
         can = λ can. subst (λ z. can_advance counter z ≡ true) (sym ei)
             (can-taken counter first inner limit b reserved c1 c2 y (can-taken counter scope first form a (reserved + 1) c0 c1 x can));
         left = subst (λ z. reserved ≤ left_count z) (sym ei) y.left;
@@ -147,10 +162,10 @@ module _ (counter : Counter) (count : ℕ) (scope : List Held) (reserved : ℕ) 
 -- A form is held, and yet the variable tells.
 pub tests-later : (counter : Counter) (count : ℕ) (scope first first' : List Held) (form : Form) (reserved a : ℕ) (c0 c1 c1' c2 : List ℕ) (tested : Tested)
     → first' ≡ first → c1' ≡ c1 → Takes c0 c1 counter scope form (reserved + 1) a first → Tests c1' c2 10 counter count first' reserved tested
-    → Tests c0 c2 (10 + 2 * sum_words form.sum.terms) counter count scope reserved tested
+    → Tests c0 c2 (10 + 2 * sum_words form.per_hart form.sum.terms) counter count scope reserved tested
 tests-later counter count scope first first' form reserved a c0 c1 c1' c2 tested ef ec x y' =
     let y = subst (λ k. Tests c1 c2 10 counter count k reserved tested) ef (subst (λ c. Tests c c2 10 counter count first' reserved tested) ec y') in
-    let n = sum_words form.sum.terms in
+    let n = sum_words form.per_hart form.sum.terms in
     record {
       enters = enters-then counter scope first tested.scope.items n 10 (10 + 2 * n) c0 c1 c2 (omega arith) x.enters y.enters;
       can = λ can. y.can (can-taken counter scope first form a (reserved + 1) c0 c1 x can);
@@ -161,18 +176,19 @@ tests-later counter count scope first first' form reserved a c0 c1 c1' c2 tested
 -- ---- as the emitters call them
 
 first-fewer : (wanted : List Form) (first other : Form) → 1 ≤ length wanted → first ≡ get_or wanted 0 other
-    → forms_words wanted ≡ sum_words first.sum.terms + forms_words (take (length wanted - 1) (drop 1 wanted))
+    → forms_words wanted ≡ sum_words first.per_hart first.sum.terms + forms_words (take (length wanted - 1) (drop 1 wanted))
 first-fewer wanted first other some is =
     let rest = take (length wanted - 1) (drop 1 wanted) in
-    ap forms_words (others-are wanted other some) ∙ ap (λ (f : Form). sum_words f.sum.terms + forms_words rest) (sym is)
+    ap forms_words (others-are wanted other some) ∙ ap (λ (f : Form). sum_words f.per_hart f.sum.terms + forms_words rest) (sym is)
 
 pub tests-first : (counter : Counter) (count : ℕ) (scope : List Held) (reserved : ℕ) (wanted : List Form) (first other : Form) (c0 c1 : List ℕ)
     (tested : Tested)
-    → 1 ≤ length wanted → first ≡ get_or wanted 0 other → Tests c0 c1 (10 + 2 * sum_words first.sum.terms) counter count scope reserved tested
+    → 1 ≤ length wanted → first ≡ get_or wanted 0 other → Tests c0 c1 (10 + 2 * sum_words first.per_hart first.sum.terms) counter count scope reserved tested
     → Tests c0 c1 (10 + 2 * forms_words wanted) counter count scope reserved tested
 tests-first counter count scope reserved wanted first other c0 c1 tested some is x =
     let e = first-fewer wanted first other some is in
-    tests-fewer counter count scope reserved (10 + 2 * sum_words first.sum.terms) (10 + 2 * forms_words wanted) c0 c1 c0 tested (omega (arith, e)) refl x
+    tests-fewer counter count scope reserved (10 + 2 * sum_words first.per_hart first.sum.terms) (10 + 2 * forms_words wanted) c0 c1 c0 tested
+    (omega (arith, e)) refl x
 
 pub tests-others : (counter : Counter) (count : ℕ) (scope : List Held) (reserved : ℕ) (wanted : List Form) (first other : Form) (c0 c1 : List ℕ)
     (tested : Tested)
@@ -194,6 +210,7 @@ betters-none counter reserved tested c0 c1 e = record {
     left = λ left. left;
   };
   test = λ count test. test;
+  plain = λ whole plain. plain;
 }
 
 pub betters-held : (counter : Counter) (reserved n b : ℕ) (tested made : Tested) (form : Form) (scope' inner : List Held) (c0 c1 : List ℕ)
@@ -203,10 +220,11 @@ betters-held counter reserved n b tested made form scope' inner c0 c1 en ef es x
     let scope = tested.scope.items in
     let x = subst (λ k. Takes c0 c1 counter k form reserved b inner) es x' in
     let s : inner ≡ record { register = b; form = number n } ∷ scope = x.is ∙ ap (λ (g : Form). record { register = b; form = g } ∷ scope) ef in
-    let z : sum_words form.sum.terms ≡ 6 = ap (λ (g : Form). sum_words g.sum.terms) ef in
+    let z : sum_words form.per_hart form.sum.terms ≡ 2 = ap (λ (g : Form). sum_words g.per_hart g.sum.terms) ef in
     record {
       gains = record {
-        enters = subst (λ k. Enters c0 c1 6 counter scope k) (sym ei) (subst (λ m. Enters c0 c1 m counter scope inner) z x.enters);
+        enters = subst (λ k. Enters c0 c1 6 counter scope k) (sym ei)
+            (enters-more counter scope inner (sum_words form.per_hart form.sum.terms) 6 c0 c1 (omega (arith, z)) x.enters);
         can = λ can. subst (λ k. can_advance counter k ≡ true) (sym ei) (can-taken counter scope inner form b reserved c0 c1 x can);
         left = λ left. subst (λ k. reserved ≤ left_count k) (sym ei) x.left;
       };
@@ -216,6 +234,13 @@ betters-held counter reserved n b tested made form scope' inner c0 c1 en ef es x
           subst (λ k. IsTest counter count k made.register made.limit) (sym (ei ∙ s))
           (subst (λ q. IsTest counter count (record { register = b; form = number n } ∷ scope) q made.limit) (sym er)
           (subst (λ o. IsTest counter count (record { register = b; form = number n } ∷ scope) tested.register o) (sym el) held));
+      plain = λ whole plain. record {
+        variable = subst (λ k. has_variable k counter ≡ true) (sym (ei ∙ s))
+            (variable-more counter (record { register = b; form = number n } ∷ []) scope plain.variable);
+        others = λ other apart. ap (mentions other) (ei ∙ s) ∙ plain.others other apart;
+        registers = λ are. ap are_registers (ei ∙ s) ∙ ap (λ m. m && are_registers scope) x.may ∙ plain.registers are;
+        moves = subst (λ k. moving counter k ≤ suc (moving counter whole)) (sym (ei ∙ s)) plain.moves;
+      };
     }
 
 -- ---- a loop is begun
@@ -254,15 +279,8 @@ begun-is counter count reserved scope wanted first middle last begun c0 c1 c2 c3
       left = subst (λ k. reserved ≤ left_count k) (sym ei) (gains.left (y.left x.left));
     }
 
--- what has a register keeps it
-pub has-begun : (counter : Counter) (count reserved : ℕ) (scope : List Held) (wanted : List Form) (first middle last : Tested) (c0 c1 c2 : List ℕ)
-    → Gains c0 c1 (forms_words wanted) counter reserved first.scope.items middle.scope.items → Betters c1 c2 6 counter reserved middle last
-    → has_variable first.scope.items counter ≡ true → has_variable last.scope.items counter ≡ true
-has-begun counter count reserved scope wanted first middle last c0 c1 c2 y z has =
-    let enters-y = y.enters in
-    let a = enters-y.extends in
-    let gains = z.gains in
-    let enters-z = gains.enters in
-    let b = enters-z.extends in
-    subst (λ k. has_variable k counter ≡ true) (sym b.is) (variable-more counter b.added middle.scope.items
-    (subst (λ k. has_variable k counter ≡ true) (sym a.is) (variable-more counter a.added first.scope.items has)))
+-- of no forms
+pub plain-begun : (counter : Counter) (reserved : ℕ) (scope : List Held) (first middle last : Tested) (c0 c1 : List ℕ)
+    → middle.scope.items ≡ first.scope.items → Betters c0 c1 6 counter reserved middle last → HoldsPlainly counter scope first.scope.items
+    → HoldsPlainly counter scope last.scope.items
+plain-begun counter reserved scope first middle last c0 c1 same z plain = z.plain scope (subst (HoldsPlainly counter scope) (sym same) plain)

@@ -149,7 +149,7 @@ module _ (scope : List Held) (form : Form) (extent : ℕ) (body : List Insn) (c0
         (done less (go less m.after (knows-still hart scope values f m.after m.keeps knows)))
     by-cases go false is = passed (not-below v extent is)
 
-  pub guards : Guards c0 c5 (sum_words form.sum.terms + 4) scope form extent body
+  pub guards : Guards c0 c5 (sum_words form.per_hart form.sum.terms + 4) scope form extent body
   guards = record {
     insns = whole;
     emits = emits_then (emits_then x.emits y.emits) (emits_then z (emits_then j (emits-apart c4 c5 words body b e)));

@@ -4,13 +4,13 @@ use Rattle.std.specs.Prelude.{◌≡◌, ◌<◌, ◌≤◌, ℕ, suc, ◌+◌, 
 use Rattle.rv_insn.specs.declared.operations.BranchOp.TheVariants as branches
 use Rattle.hart_core.specs.Scalar.{is_taken}
 use Rattle.loop_ir.specs.declared.expressions.Counter.{Counter}
-use Rattle.loop_ir.specs.Counters.{Values, with}
+use Rattle.loop_ir.specs.Counters.{Values, same_counter, with}
 use Rattle.task_code_registers.specs.declared.scopes.Form.{Form}
 use Rattle.task_code_registers.specs.declared.scopes.Held.{Held}
 use Rattle.task_code_registers.specs.Emitting.{MakesValue, sum_words}
-use Rattle.task_code_registers.specs.Holding.{Enters, can_advance}
+use Rattle.task_code_registers.specs.Holding.{Enters, can_advance, mentions, moving}
 use Rattle.task_code_registers.specs.Registers.{may_hold}
-use Rattle.task_code_registers.specs.Scopes.{Knows, have_registers, left_count}
+use Rattle.task_code_registers.specs.Scopes.{Knows, are_registers, has_variable, have_registers, left_count}
 use Rattle.task_code_loops.specs.declared.beginning.Begun.{Begun}
 use Rattle.task_code_loops.specs.declared.tests.Limit.{Limit}
 use Rattle.task_code_loops.specs.declared.tests.Limit.TheVariants.{Register, Number}
@@ -30,7 +30,7 @@ number n = record { sum = record { number = n; terms = [] }; per_hart = 0 }
 -- how many instructions at most make each of these forms
 abbrev pub forms_words : List Form → ℕ
 forms_words [] = 0
-forms_words (form ∷ others) = sum_words form.sum.terms + forms_words others
+forms_words (form ∷ others) = sum_words form.per_hart form.sum.terms + forms_words others
 
 -- a form's value is made in a register, if it says so
 abbrev pub MakesIf : List ℕ → List ℕ → List Held → Form → ℕ → Bool → Type 0
@@ -62,6 +62,16 @@ pub record IsTest (counter : Counter) (count : ℕ) (inner : List Held) (registe
   pub differs : (hart i : ℕ) (values : Values) (f : ℕ → ℕ) → i < count → Knows hart inner (with counter (suc i) values) f
       → is_taken branches.Bne (f register) (limit_of f limit) ≡ nat_lt (suc i) count
 
+-- ---- what a loop holds for which no forms are wanted
+
+-- The loop's variable has a register, which alone goes along with it beside those of the scope around, and there is no term of another variable
+-- that this scope lacks.
+pub record HoldsPlainly (counter : Counter) (scope inner : List Held) : Type 0 where
+  pub variable : has_variable inner counter ≡ true
+  pub others : (other : Counter) → same_counter counter other ≡ false → mentions other inner ≡ mentions other scope
+  pub registers : are_registers scope ≡ true → are_registers inner ≡ true
+  pub moves : moving counter inner ≤ suc (moving counter scope)
+
 -- ---- before a loop
 
 -- One scope is made of another, and in that one code can go along with the loop, and as many registers are left.
@@ -72,7 +82,7 @@ pub record Gains (old new : List ℕ) (most : ℕ) (counter : Counter) (reserved
 
 -- so it is for one form, and for several
 abbrev pub GainsForm : List ℕ → List ℕ → Counter → Form → ℕ → List Held → List Held → Type 0
-GainsForm old new counter form reserved scope inner = Gains old new (sum_words form.sum.terms) counter reserved scope inner
+GainsForm old new counter form reserved scope inner = Gains old new (sum_words form.per_hart form.sum.terms) counter reserved scope inner
 
 abbrev pub GainsOf : List ℕ → List ℕ → Counter → List Form → ℕ → List Held → List Held → Type 0
 GainsOf old new counter forms reserved scope inner = Gains old new (forms_words forms) counter reserved scope inner
@@ -86,16 +96,17 @@ pub record Tests (old new : List ℕ) (most : ℕ) (counter : Counter) (count : 
 
 -- by a form, or by one of several
 abbrev pub TestsForm : List ℕ → List ℕ → Form → Counter → ℕ → List Held → ℕ → Tested → Type 0
-TestsForm old new form counter count scope reserved tested = Tests old new (10 + 2 * sum_words form.sum.terms) counter count scope reserved tested
+TestsForm old new form counter count scope reserved tested = Tests old new (10 + 2 * sum_words form.per_hart form.sum.terms) counter count scope reserved tested
 
 abbrev pub TestsForms : List ℕ → List ℕ → List Form → Counter → ℕ → List Held → ℕ → Tested → Type 0
 TestsForms old new wanted counter count scope reserved tested = Tests old new (10 + 2 * forms_words wanted) counter count scope reserved tested
 
--- Another scope, in which there is a test wherever there is one in this scope.
+-- Another scope, in which there is a test wherever there is one in this scope, and which holds no more than a limit beside it.
 pub record Betters (old new : List ℕ) (most : ℕ) (counter : Counter) (reserved : ℕ) (tested made : Tested) : Type 0 where
   pub gains : Gains old new most counter reserved tested.scope.items made.scope.items
   pub test : (count : ℕ) → IsTest counter count tested.scope.items tested.register tested.limit
       → IsTest counter count made.scope.items made.register made.limit
+  pub plain : (scope : List Held) → HoldsPlainly counter scope tested.scope.items → HoldsPlainly counter scope made.scope.items
 
 -- how many instructions at most stand in front of a loop for which these forms are wanted
 abbrev pub begin_words : List Form → ℕ

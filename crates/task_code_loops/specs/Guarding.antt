@@ -38,7 +38,7 @@ pub record Guards (old new : List ℕ) (most : ℕ) (scope : List Held) (form : 
 -- so it is of a body whose words were made apart
 abbrev pub GuardsWords : List ℕ → List ℕ → List Held → Form → ℕ → List ℕ → Type 0
 GuardsWords old new scope form extent words =
-    (insns : List Insn) → Emits [] words insns → Guards old new (sum_words form.sum.terms + 4) scope form extent insns
+    (insns : List Insn) → Emits [] words insns → Guards old new (sum_words form.per_hart form.sum.terms + 4) scope form extent insns
 
 -- ---- code behind other code
 

@@ -1,10 +1,10 @@
 //! What stands in front of a loop.
 
-ghost use Rattle.std.specs.Prelude.{◌≡◌, [], ◌<◌, ◌≤◌, ◌^◌, IfErr, IfOk, false, true};
+ghost use Rattle.std.specs.Prelude.{◌≡◌, [], ◌<◌, ◌≤◌, ◌^◌, IfErr, IfOk, false};
 ghost use Rattle.task_code_scalar.specs.Faults.{IsFault};
 ghost use Rattle.task_code_registers.specs.Holding.{mentions};
-ghost use Rattle.task_code_registers.specs.Scopes.{has_variable, left_count};
-ghost use Rattle.task_code_loops.specs.Beginning.{Begins};
+ghost use Rattle.task_code_registers.specs.Scopes.{left_count};
+ghost use Rattle.task_code_loops.specs.Beginning.{Begins, HoldsPlainly};
 
 use crate::bounds::Bound;
 use crate::holding::hold_all;
@@ -41,7 +41,7 @@ impl Drop for Begun {
 
 /// Appends what stands in front of a loop of so many iterations: what holds these forms, as far as registers go with so
 /// many left for what is inside, and what tells when the loop ends, the first of these forms that does, or else
-/// the loop variable. With no forms wanted the loop variable is held.
+/// the loop variable. With no forms wanted it is held, and but for it no more than a number.
 ///
 /// # Errors
 ///
@@ -59,7 +59,7 @@ pub fn begin_loop(
     requires few { reserved < 2 ^ 32 }
     ensures ok { IfOk result (Begins code.old.items code.new.items wanted.now own.counter own.count scope.now
         reserved) }
-    ensures variable { wanted.now ≡ [] → IfOk result (λ begun. has_variable begun.inner.items own.counter ≡ true) }
+    ensures plain { wanted.now ≡ [] → IfOk result (λ begun. HoldsPlainly own.counter scope.now begun.inner.items) }
     ensures err { IfErr result (IsFault ⊥ (left_count scope.now ≤ reserved)) }
 {
     let Tested {

@@ -1,6 +1,6 @@
 //! Forms that registers hold in a loop, where there is room.
 
-ghost use Rattle.std.specs.Prelude.{◌≡◌, None, IfOk};
+ghost use Rattle.std.specs.Prelude.{◌≡◌, [], None, IfOk};
 ghost use Rattle.task_code_registers.specs.Holding.{TakesIf};
 ghost use Rattle.task_code_registers.specs.Registers.{IsPlace};
 ghost use Rattle.task_code_loops.specs.Beginning.{GainsForm, GainsOf, IsUnknownIf, MakesIf};
@@ -109,7 +109,9 @@ pub fn hold_all(
     forms: &[Form],
     reserved: usize,
 ) -> Result<Vec<Held>, AllocError>
-    ensures { IfOk result (λ s. GainsOf code.old.items code.new.items counter forms.now reserved scope.items s.items) }
+    ensures gains { IfOk result (λ s. GainsOf code.old.items code.new.items counter forms.now reserved scope.items
+        s.items) }
+    ensures none { forms.now ≡ [] → IfOk result (λ s. s.items ≡ scope.items) }
 {
     match forms {
         [] => Ok(scope),

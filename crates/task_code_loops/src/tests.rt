@@ -3,9 +3,9 @@
 ghost use Rattle.std.specs.Prelude.{◌≡◌, [], ◌<◌, ◌≤◌, ◌^◌, IfErr, IfOk, true};
 ghost use Rattle.task_code_scalar.specs.Faults.{IsFault};
 ghost use Rattle.task_code_registers.specs.Looping as looping;
-ghost use Rattle.task_code_registers.specs.Scopes.{has_variable, left_count};
+ghost use Rattle.task_code_registers.specs.Scopes.{left_count};
 ghost use Rattle.task_code_loops.specs.Beginning as spec;
-ghost use Rattle.task_code_loops.specs.Beginning.{Betters, Tests, TestsForm, TestsForms};
+ghost use Rattle.task_code_loops.specs.Beginning.{Betters, HoldsPlainly, Tests, TestsForm, TestsForms};
 
 use crate::bounds::Bound;
 use crate::holding::hold_known;
@@ -71,7 +71,7 @@ fn by_variable(
     reserved: usize,
 ) -> Result<Tested, CodeFault>
     ensures ok { IfOk result (Tests code.old.items code.new.items 10 counter count scope.now reserved) }
-    ensures variable { IfOk result (λ tested. has_variable tested.scope.items counter ≡ true) }
+    ensures plain { IfOk result (λ tested. HoldsPlainly counter scope.now tested.scope.items) }
     ensures err { IfErr result (IsFault ⊥ (left_count scope.now ≤ reserved)) }
 {
     let form = variable(alloc, counter)?;
@@ -147,7 +147,7 @@ pub fn begin_test(
     requires { reserved < 2 ^ 32 }
     ensures ok { IfOk result (TestsForms code.old.items code.new.items wanted.now bound.counter bound.count scope.now
         reserved) }
-    ensures variable { wanted.now ≡ [] → IfOk result (λ tested. has_variable tested.scope.items bound.counter ≡ true) }
+    ensures plain { wanted.now ≡ [] → IfOk result (λ tested. HoldsPlainly bound.counter scope.now tested.scope.items) }
     ensures err { IfErr result (IsFault ⊥ (left_count scope.now ≤ reserved)) }
 {
     match wanted {

@@ -9,7 +9,8 @@ use Rattle.loop_ir.specs.declared.expressions.Expr.{Expr}
 use Rattle.loop_ir.specs.declared.expressions.Expr.TheVariants as e
 use Rattle.loop_ir.specs.Counters.{Values}
 use Rattle.loop_ir.specs.Expressions.{value, loads}
-use Rattle.loop_ir.specs.Sizes.{Size}
+use Rattle.loop_ir.specs.Sizes.{Size, size}
+use Rattle.loop_ir.proofs.Sizes.{size_select}
 use Rattle.multi_hart_logic.specs.Paths.{Line}
 use Rattle.multi_hart_logic.proofs.Paths.{line-then}
 use Rattle.task_code_scalar.specs.declared.places.Places.{Places}
@@ -24,11 +25,9 @@ use Rattle.task_code_registers.specs.Scopes.{Knows, AreHolders}
 use Rattle.task_code_registers.proofs.Knowing.{knows-zero}
 use Rattle.task_code_registers.proofs.Making.{short-then}
 use Rattle.task_code_values.specs.Making.{IsBelow, Selects}
-use Rattle.task_code_values.specs.Sizes.{value_words}
 use Rattle.task_code_values.specs.Spilling.{second_value, third_value, Spills, Unspills, Pairs}
 use Rattle.task_code_values.specs.Storing.{LeavesDeep, MakesValue}
 use Rattle.task_code_values.proofs.Standing.{below-apart, below-more}
-use Rattle.task_code_values.proofs.Parts.{words_select}
 use Rattle.task_code_values.proofs.Evaluating.{value_select}
 use Rattle.task_code_values.proofs.Evaluating.{loads_select}
 use Rattle.task_code_values.proofs.Waiting.{there-still}
@@ -196,14 +195,14 @@ module _ (places : Places) (scope : List Held) where
     insns = ((x.insns ++ k.insns) ++ (y.insns ++ j.insns)) ++ (u.insns ++ o.insns);
     emits = emits_then (emits_then (emits_then x.emits k.emits) (emits_then y.emits j.emits)) (emits_then u.emits o.emits);
     short =
-        let n = ap (λ (z : Size). z.words) (words_select c a b) in
-        let one = short-then x.insns k.insns (value_words c) 7 (value_words c + 7) x.short k.short (omega arith) in
-        let two = short-then y.insns j.insns (value_words a) (value_words b + 15) (value_words a + (value_words b + 15)) y.short j.short (omega arith) in
-        let all = short-then (x.insns ++ k.insns) (y.insns ++ j.insns) (value_words c + 7) (value_words a + (value_words b + 15))
-        (value_words c + 7 + (value_words a + (value_words b + 15))) one two (omega arith) in
+        let n = ap (λ (z : Size). z.words) (size_select c a b) in
+        let one = short-then x.insns k.insns (size c) 7 (size c + 7) x.short k.short (omega arith) in
+        let two = short-then y.insns j.insns (size a) (size b + 15) (size a + (size b + 15)) y.short j.short (omega arith) in
+        let all = short-then (x.insns ++ k.insns) (y.insns ++ j.insns) (size c + 7) (size a + (size b + 15))
+        (size c + 7 + (size a + (size b + 15))) one two (omega arith) in
         let last = short-then u.insns o.insns 7 4 11 u.short o.short (omega arith) in
-        short-then ((x.insns ++ k.insns) ++ (y.insns ++ j.insns)) (u.insns ++ o.insns) (value_words c + 7 + (value_words a + (value_words b + 15))) 11
-        (value_words (e.Select c a b)) all last (omega (arith, n));
+        short-then ((x.insns ++ k.insns) ++ (y.insns ++ j.insns)) (u.insns ++ o.insns) (size c + 7 + (size a + (size b + 15))) 11
+        (size (e.Select c a b)) all last (omega (arith, n));
     source = source-20;
     which = inl refl;
     does = λ own good at values holders f memory funcs holds knows may.

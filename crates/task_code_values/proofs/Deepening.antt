@@ -15,7 +15,8 @@ use Rattle.loop_ir.specs.declared.expressions.Expr.TheVariants as e
 use Rattle.loop_ir.specs.declared.expressions.Linear.{Linear}
 use Rattle.loop_ir.specs.Counters.{Values}
 use Rattle.loop_ir.specs.Expressions.{value, loads}
-use Rattle.loop_ir.specs.Sizes.{Size, kept}
+use Rattle.loop_ir.specs.Sizes.{Size, kept, size_of, size}
+use Rattle.loop_ir.proofs.Sizes.{size_binary, size_divide, size_remainder, size_load}
 use Rattle.multi_hart_logic.proofs.Paths.{line-then, stay}
 use Rattle.task_code_scalar.specs.declared.places.Place.{Place}
 use Rattle.task_code_scalar.specs.declared.places.Places.{Places}
@@ -35,11 +36,9 @@ use Rattle.task_code_values.specs.declared.spilling.Both.{Both}
 use Rattle.task_code_values.specs.declared.points.PointIndexes.{PointIndexes}
 use Rattle.task_code_values.specs.Making.{IsBelow, MakesOfTwo, MakesFrom}
 use Rattle.task_code_values.specs.Operands.{IsOperand, IsSum, IsIndex, MakesOperand, MakesPixel}
-use Rattle.task_code_values.specs.Sizes.{words_of, value_words}
 use Rattle.task_code_values.specs.Spilling.{second_value, Pairs, IsFirst, MakesBoth, MakesRow}
 use Rattle.task_code_values.specs.Storing.{MakesValue}
 use Rattle.task_code_values.proofs.Standing.{kept-below, below-apart, below-more}
-use Rattle.task_code_values.proofs.Parts.{words_binary, words_divide, words_remainder, words_load}
 use Rattle.task_code_values.proofs.Evaluating.{value_binary, value_divide, value_remainder, value_load, loads_binary, loads_divide}
 use Rattle.task_code_values.proofs.Evaluating.{loads_remainder, loads_load}
 
@@ -72,9 +71,9 @@ module _ (places : Places) (scope : List Held) where
     insns = x.insns ++ (y.insns ++ z.insns);
     emits = emits_then x.emits (emits_then y.emits z.emits);
     short =
-        let n = ap (λ (k : Size). k.words) (words_binary o a b) in
-        let rest = short-then y.insns z.insns (value_words b + kept (words_of b)) 4 (value_words b + kept (words_of b) + 4) y.short z.short (omega arith) in
-        short-then x.insns (y.insns ++ z.insns) (value_words a) (value_words b + kept (words_of b) + 4) (value_words (e.Binary o a b)) x.short rest
+        let n = ap (λ (k : Size). k.words) (size_binary o a b) in
+        let rest = short-then y.insns z.insns (size b + kept (size_of b)) 4 (size b + kept (size_of b) + 4) y.short z.short (omega arith) in
+        short-then x.insns (y.insns ++ z.insns) (size a) (size b + kept (size_of b) + 4) (size (e.Binary o a b)) x.short rest
         (omega (arith, n));
     source = source-20;
     which = inl refl;
@@ -105,14 +104,14 @@ module _ (places : Places) (scope : List Held) where
         };
   }
 
-  from-deep : (own a : Expr) (first s most : ℕ) (says : ℕ → ℕ) (c0 c1 c2 : List ℕ) → value_words a + most ≤ value_words own
+  from-deep : (own a : Expr) (first s most : ℕ) (says : ℕ → ℕ) (c0 c1 c2 : List ℕ) → size a + most ≤ size own
       → ((reads : Reads) (values : Values) → loads reads values own ≡ loads reads values a)
       → ((reads : Reads) (values : Values) → value reads values own ≡ says (value reads values a))
       → MakesValue c0 c1 places scope first s a → MakesFrom c1 c2 most scope first_value s says → MakesValue c0 c2 places scope first first_value own
   from-deep whole a first s most says c0 c1 c2 fits same is x z = record {
     insns = x.insns ++ z.insns;
     emits = emits_then x.emits z.emits;
-    short = short-then x.insns z.insns (value_words a) most (value_words whole) x.short z.short fits;
+    short = short-then x.insns z.insns (size a) most (size whole) x.short z.short fits;
     source = source-20;
     which = inl refl;
     does = λ own good at values holders f memory funcs holds knows may.
@@ -139,13 +138,13 @@ module _ (places : Places) (scope : List Held) where
       (λ v. word.divide v c)
       → MakesValue c0 c2 places scope first first_value (e.Divide a c)
   divide-deep a c first s c0 c1 c2 x z =
-      from-deep (e.Divide a c) a first s 6 (λ v. word.divide v c) c0 c1 c2 (let n = ap (λ (k : Size). k.words) (words_divide a c) in omega (arith, n))
+      from-deep (e.Divide a c) a first s 6 (λ v. word.divide v c) c0 c1 c2 (let n = ap (λ (k : Size). k.words) (size_divide a c) in omega (arith, n))
       (λ reads values. loads_divide reads values a c) (λ reads values. value_divide reads values a c) x z
 
   pub remainder-deep : (a : Expr) (c first s : ℕ) (c0 c1 c2 : List ℕ) → MakesValue c0 c1 places scope first s a
       → MakesFrom c1 c2 8 scope first_value s (λ v. word.remainder v c) → MakesValue c0 c2 places scope first first_value (e.Remainder a c)
   remainder-deep a c first s c0 c1 c2 x z =
-      from-deep (e.Remainder a c) a first s 8 (λ v. word.remainder v c) c0 c1 c2 (let n = ap (λ (k : Size). k.words) (words_remainder a c) in omega
+      from-deep (e.Remainder a c) a first s 8 (λ v. word.remainder v c) c0 c1 c2 (let n = ap (λ (k : Size). k.words) (size_remainder a c) in omega
       (arith, n))
       (λ reads values. loads_remainder reads values a c) (λ reads values. value_remainder reads values a c) x z
 
@@ -176,12 +175,12 @@ module _ (places : Places) (scope : List Held) where
     insns = p0.insns ++ (y0.insns ++ z.insns);
     emits = emits_then p0.emits (emits_then y0.emits z.emits);
     short =
-        let n = ap (λ (k : Size). k.words) (words_load source x y) in
+        let n = ap (λ (k : Size). k.words) (size_load source x y) in
         let ly = y0.short in
         let lz = z.short in
         let rest = short-then y0.insns z.insns (length y0.insns) (length z.insns) (length y0.insns + length z.insns) (omega arith) (omega arith)
         (omega arith) in
-        short-then p0.insns (y0.insns ++ z.insns) (value_words x) (length y0.insns + length z.insns) (value_words (e.Load source x y)) p0.short rest
+        short-then p0.insns (y0.insns ++ z.insns) (size x) (length y0.insns + length z.insns) (size (e.Load source x y)) p0.short rest
         (omega (arith, n, ly, lz));
     source = source-20;
     which = inl refl;
@@ -243,7 +242,7 @@ module _ (places : Places) (scope : List Held) where
       first-operand (inr h) = inr (inr h)
 
   -- and another one
-  pub row-paired : (own-row : Expr) (word s : ℕ) (c0 c1 : List ℕ) → kept (words_of own-row) ≡ 15 → Pairs c0 c1 places scope word s own-row
+  pub row-paired : (own-row : Expr) (word s : ℕ) (c0 c1 : List ℕ) → kept (size_of own-row) ≡ 15 → Pairs c0 c1 places scope word s own-row
       → MakesRow c0 c1 places scope word s (record { column = indexes.Register first_value; row = indexes.Register second_value }) own-row
   row-paired own-row word s c0 c1 waits x = record {
     insns = x.insns;
@@ -304,7 +303,7 @@ module _ (places : Places) (scope : List Held) where
       first-below (inl g) holders = (inr (omega (arith, g)), inl (omega (arith, g)))
       first-below (inr h) holders = kept-below scope s second_value (omega arith) holders h
 
-  pub both-paired : (own-second : Expr) (word s : ℕ) (c0 c1 : List ℕ) → kept (words_of own-second) ≡ 15 → Pairs c0 c1 places scope word s own-second
+  pub both-paired : (own-second : Expr) (word s : ℕ) (c0 c1 : List ℕ) → kept (size_of own-second) ≡ 15 → Pairs c0 c1 places scope word s own-second
       → MakesBoth c0 c1 places scope word s (record { first = first_value; second = second_value }) own-second
   both-paired own-second word s c0 c1 waits x = record {
     insns = x.insns;

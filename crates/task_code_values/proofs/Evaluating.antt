@@ -1,5 +1,5 @@
 -- The code of an expression leaves its value.
-use Rattle.std.proofs.Common.{◌≡◌, ℕ, ◌+◌, ◌^◌, ◌<◌, ◌≤◌, List, [], ◌∷◌, ◌++◌, length, refl, ap, ◌∙◌, sym, subst, arith, inl, inr}
+use Rattle.std.proofs.Common.{◌≡◌, ℕ, ◌+◌, ◌*◌, ◌^◌, ◌<◌, ◌≤◌, List, [], ◌∷◌, ◌++◌, length, refl, ap, ◌∙◌, sym, subst, arith, inl, inr}
 use Rattle.std.proofs.lemmas.List.{append-nil}
 use Rattle.std.specs.Prelude.{◌⊎◌, ◌==◌, if◌then◌else◌}
 use Rattle.std.specs.List.{AllByRecursion}
@@ -14,7 +14,8 @@ use Rattle.loop_ir.specs.declared.expressions.Expr.TheVariants as e
 use Rattle.loop_ir.specs.declared.expressions.Linear.{Linear}
 use Rattle.loop_ir.specs.Counters.{Values}
 use Rattle.loop_ir.specs.Expressions.{value, value_at, seen, seen_at, loads, linear_value}
-use Rattle.loop_ir.specs.Sizes.{Size}
+use Rattle.loop_ir.specs.Sizes.{Size, size}
+use Rattle.loop_ir.proofs.Sizes.{size_number, size_linear, size_binary, size_divide, size_remainder, size_select, size_load}
 use Rattle.loop_ir.proofs.Folds.{at_number, at_linear, at_binary, at_divide, at_remainder, at_select, at_load}
 use Rattle.loop_ir.proofs.Loads.{values_are_seen}
 use Rattle.multi_hart_logic.specs.Alone.{World}
@@ -26,7 +27,7 @@ use Rattle.task_code_scalar.specs.Evaluation.{Loads, LoadsAt}
 use Rattle.task_code_scalar.proofs.Evaluation.{applied-below, chosen-below}
 use Rattle.task_code_scalar.proofs.Spelling.{emits_then, emits-none}
 use Rattle.task_code_registers.specs.declared.scopes.Held.{Held}
-use Rattle.task_code_registers.specs.Emitting.{MakesOf, sum_words}
+use Rattle.task_code_registers.specs.Emitting.{MakesOf}
 use Rattle.task_code_registers.specs.Registers.{address_register}
 use Rattle.task_code_registers.specs.Scopes.{Knows, AreHolders, IsKept, IsFree}
 use Rattle.task_code_registers.proofs.Knowing.{knows-zero, knows-still, working-free, linear-small}
@@ -37,10 +38,8 @@ use Rattle.task_code_values.specs.declared.immediates.Immediate.{Immediate}
 use Rattle.task_code_values.specs.Immediates.{immediate_value, IsImmediateNumber, IsImmediate}
 use Rattle.task_code_values.specs.Making.{IsStack, IsBelow, MakesOfTwo, MakesFrom, MakesHeld, Selects}
 use Rattle.task_code_values.specs.Operands.{IsOperand, IsLeafPlace, MakesOperand, IsSum, IsIndex, StandsIn, MakesIndex, MakesPixel}
-use Rattle.task_code_values.specs.Sizes.{value_words}
 use Rattle.task_code_values.proofs.Standing.{kept-below, below-apart, below-more}
 use Rattle.task_code_values.proofs.Literals.{of-operand}
-use Rattle.task_code_values.proofs.Parts.{words_number, words_linear, words_binary, words_divide, words_remainder, words_select, words_load}
 
 -- ---- what an expression is worth, and what it loads
 
@@ -134,7 +133,7 @@ module _ (places : Places) (scope : List Held) where
   pub operand-as : (own x : Expr) (r leaf s : ℕ) (c0 c1 : List ℕ) → own ≡ x → Operand c0 c1 r leaf s x → Operand c0 c1 r leaf s own
   operand-as own x r leaf s c0 c1 eo z = subst (λ y. Operand c0 c1 r leaf s y) (sym eo) z
 
-  leaf-made : (own : Expr) (r leaf s most : ℕ) (c0 c1 : List ℕ) (says : Values → ℕ) → IsLeafPlace r leaf → most ≡ value_words own
+  leaf-made : (own : Expr) (r leaf s most : ℕ) (c0 c1 : List ℕ) (says : Values → ℕ) → IsLeafPlace r leaf → most ≡ size own
       → MakesHeld c0 c1 most scope leaf s (λ hart values. says values) → ((reads : Reads) (values : Values) → says values ≡ value reads values own)
       → ((values : Values) → says values < 2 ^ 32) → Operand c0 c1 r leaf s own
   leaf-made own r leaf s most c0 c1 says place words x is small = record {
@@ -158,15 +157,15 @@ module _ (places : Places) (scope : List Held) where
       → MakesHeld c0 c1 2 scope leaf s (λ hart values. n) → Operand c0 c1 r leaf s own
   number-operand own n r leaf s c0 c1 eo place small x =
       operand-as own (e.Number n) r leaf s c0 c1 eo
-      (leaf-made (e.Number n) r leaf s 2 c0 c1 (λ values. n) place (sym (ap (λ (z : Size). z.words) (words_number n))) x
+      (leaf-made (e.Number n) r leaf s 2 c0 c1 (λ values. n) place (sym (ap (λ (z : Size). z.words) (size_number n))) x
       (λ reads values. sym (value_number reads values n)) (λ values. small))
 
   pub linear-operand : (own : Expr) (sum : Linear) (r leaf s : ℕ) (c0 c1 : List ℕ) → own ≡ e.Linear sum → IsLeafPlace r leaf
-      → MakesHeld c0 c1 (sum_words sum.terms) scope leaf s (λ hart values. linear_value values sum) → Operand c0 c1 r leaf s own
+      → MakesHeld c0 c1 (2 + 4 * length sum.terms) scope leaf s (λ hart values. linear_value values sum) → Operand c0 c1 r leaf s own
   linear-operand own sum r leaf s c0 c1 eo place x =
       operand-as own (e.Linear sum) r leaf s c0 c1 eo
-      (leaf-made (e.Linear sum) r leaf s (sum_words sum.terms) c0 c1 (λ values. linear_value values sum) place
-      (sym (ap (λ (z : Size). z.words) (words_linear sum))) x
+      (leaf-made (e.Linear sum) r leaf s (2 + 4 * length sum.terms) c0 c1 (λ values. linear_value values sum) place
+      (sym (ap (λ (z : Size). z.words) (size_linear sum))) x
       (λ reads values. sym (value_linear reads values sum)) (λ values. linear-small values sum))
 
   -- ---- parts
@@ -191,9 +190,9 @@ module _ (places : Places) (scope : List Held) where
       insns = x.insns ++ (y.insns ++ z.insns);
       emits = emits_then x.emits (emits_then y.emits z.emits);
       short =
-          let rest = short-then y.insns z.insns (value_words b) 4 (value_words b + 4) y.short z.short (omega arith) in
-          let n = ap (λ (k : Size). k.words) (words_binary o a b) in
-          short-then x.insns (y.insns ++ z.insns) (value_words a) (value_words b + 4) (value_words (e.Binary o a b)) x.short rest (omega (arith, n));
+          let rest = short-then y.insns z.insns (size b) 4 (size b + 4) y.short z.short (omega arith) in
+          let n = ap (λ (k : Size). k.words) (size_binary o a b) in
+          short-then x.insns (y.insns ++ z.insns) (size a) (size b + 4) (size (e.Binary o a b)) x.short rest (omega (arith, n));
       source = (high, ((λ g. omega (arith, g, low)), (λ g. omega (arith, g, low))));
       which = inl refl;
       does = λ w m values reads f l holders knows may.
@@ -219,14 +218,14 @@ module _ (places : Places) (scope : List Held) where
     }
 
     -- of one operand
-    from-operand : (own a : Expr) (s most : ℕ) (says : ℕ → ℕ) (c0 c1 c2 : List ℕ) → value_words a + most ≤ value_words own
+    from-operand : (own a : Expr) (s most : ℕ) (says : ℕ → ℕ) (c0 c1 c2 : List ℕ) → size a + most ≤ size own
         → ((reads : Reads) (values : Values) → loads reads values own ≡ loads reads values a)
         → ((reads : Reads) (values : Values) → value reads values own ≡ says (value reads values a))
         → Operand c0 c1 r r s a → MakesFrom c1 c2 most scope r s says → Operand c0 c2 r r r own
     from-operand own a s most says c0 c1 c2 fits same is x z = record {
       insns = x.insns ++ z.insns;
       emits = emits_then x.emits z.emits;
-      short = short-then x.insns z.insns (value_words a) most (value_words own) x.short z.short fits;
+      short = short-then x.insns z.insns (size a) most (size own) x.short z.short fits;
       source = (high, ((λ g. omega (arith, g, low)), (λ g. omega (arith, g, low))));
       which = inl refl;
       does = λ w m values reads f l holders knows may.
@@ -247,8 +246,8 @@ module _ (places : Places) (scope : List Held) where
     immediate-operand : (o : Operation) (a : Expr) (n s : ℕ) (i : Immediate) (c0 c1 c2 : List ℕ) → n < 2 ^ 32 → IsImmediateNumber o n i
         → Operand c0 c1 r r s a → MakesOf c1 c2 3 r s (immediate_value i) → Operand c0 c2 r r r (e.Binary o a (e.Number n))
     immediate-operand o a n s i c0 c1 c2 small makes x z =
-        let w = ap (λ (k : Size). k.words) (words_binary o a (e.Number n)) in
-        let m = ap (λ (k : Size). k.words) (words_number n) in
+        let w = ap (λ (k : Size). k.words) (size_binary o a (e.Number n)) in
+        let m = ap (λ (k : Size). k.words) (size_number n) in
         from-operand (e.Binary o a (e.Number n)) a s 3 (λ v. word.applied o v n) c0 c1 c2 (omega (arith, w, m))
         (λ reads values. loads_binary reads values o a (e.Number n) ∙ ap (λ xs. loads reads values a ++ xs) (loads_number reads values n)
         ∙ append-nil (loads reads values a))
@@ -258,13 +257,13 @@ module _ (places : Places) (scope : List Held) where
     pub divide-operand : (a : Expr) (c s : ℕ) (c0 c1 c2 : List ℕ) → Operand c0 c1 r r s a → MakesFrom c1 c2 6 scope r s (λ v. word.divide v c)
         → Operand c0 c2 r r r (e.Divide a c)
     divide-operand a c s c0 c1 c2 x z =
-        from-operand (e.Divide a c) a s 6 (λ v. word.divide v c) c0 c1 c2 (let n = ap (λ (k : Size). k.words) (words_divide a c) in omega (arith, n))
+        from-operand (e.Divide a c) a s 6 (λ v. word.divide v c) c0 c1 c2 (let n = ap (λ (k : Size). k.words) (size_divide a c) in omega (arith, n))
         (λ reads values. loads_divide reads values a c) (λ reads values. value_divide reads values a c) x z
 
     pub remainder-operand : (a : Expr) (c s : ℕ) (c0 c1 c2 : List ℕ) → Operand c0 c1 r r s a → MakesFrom c1 c2 8 scope r s (λ v. word.remainder v c)
         → Operand c0 c2 r r r (e.Remainder a c)
     remainder-operand a c s c0 c1 c2 x z =
-        from-operand (e.Remainder a c) a s 8 (λ v. word.remainder v c) c0 c1 c2 (let n = ap (λ (k : Size). k.words) (words_remainder a c) in omega (arith, n))
+        from-operand (e.Remainder a c) a s 8 (λ v. word.remainder v c) c0 c1 c2 (let n = ap (λ (k : Size). k.words) (size_remainder a c) in omega (arith, n))
         (λ reads values. loads_remainder reads values a c) (λ reads values. value_remainder reads values a c) x z
 
     pub select-operand : (c a b : Expr) (s t u : ℕ) (c0 c1 c2 c3 c4 : List ℕ) → r + 2 < 32 → Operand c0 c1 r r s c → Operand c1 c2 (r + 1) (r + 1) t a
@@ -273,11 +272,11 @@ module _ (places : Places) (scope : List Held) where
       insns = x.insns ++ (y.insns ++ (z.insns ++ o.insns));
       emits = emits_then x.emits (emits_then y.emits (emits_then z.emits o.emits));
       short =
-          let n = ap (λ (k : Size). k.words) (words_select c a b) in
-          let last = short-then z.insns o.insns (value_words b) 4 (value_words b + 4) z.short o.short (omega arith) in
-          let rest = short-then y.insns (z.insns ++ o.insns) (value_words a) (value_words b + 4) (value_words a + (value_words b + 4)) y.short last
+          let n = ap (λ (k : Size). k.words) (size_select c a b) in
+          let last = short-then z.insns o.insns (size b) 4 (size b + 4) z.short o.short (omega arith) in
+          let rest = short-then y.insns (z.insns ++ o.insns) (size a) (size b + 4) (size a + (size b + 4)) y.short last
           (omega arith) in
-          short-then x.insns (y.insns ++ (z.insns ++ o.insns)) (value_words c) (value_words a + (value_words b + 4)) (value_words (e.Select c a b))
+          short-then x.insns (y.insns ++ (z.insns ++ o.insns)) (size c) (size a + (size b + 4)) (size (e.Select c a b))
           x.short rest
           (omega (arith, n));
       source = (high, ((λ g. omega (arith, g, low)), (λ g. omega (arith, g, low))));
@@ -330,13 +329,13 @@ module _ (places : Places) (scope : List Held) where
       insns = a.insns ++ (b.insns ++ z.insns);
       emits = emits_then a.emits (emits_then b.emits z.emits);
       short =
-          let n = ap (λ (k : Size). k.words) (words_load source x y) in
+          let n = ap (λ (k : Size). k.words) (size_load source x y) in
           let la = a.short in
           let lb = b.short in
           let lz = z.short in
           let rest = short-then b.insns z.insns (length b.insns) (length z.insns) (length b.insns + length z.insns) (omega arith) (omega arith)
           (omega arith) in
-          short-then a.insns (b.insns ++ z.insns) (length a.insns) (length b.insns + length z.insns) (value_words (e.Load source x y)) (omega arith) rest
+          short-then a.insns (b.insns ++ z.insns) (length a.insns) (length b.insns + length z.insns) (size (e.Load source x y)) (omega arith) rest
           (omega (arith, n, la, lb, lz));
       source = (high, ((λ g. omega (arith, g, low)), (λ g. omega (arith, g, low))));
       which = inl refl;

@@ -6,6 +6,7 @@ pub mod Evaluating
 pub mod FirstOperands
 pub mod Literals
 pub mod Operating
+pub mod Parked
 pub mod Parts
 pub mod Pointing
 pub mod Powers

@@ -15,17 +15,17 @@ use Rattle.loop_ir.specs.declared.expressions.Term.{Term}
 use Rattle.loop_ir.specs.Counters.{Values}
 use Rattle.loop_ir.specs.Expressions.{value, value_at, linear_value}
 use Rattle.loop_ir.specs.Needs.{Need, beside_first, divisor_need, need_at, need_of, need}
-use Rattle.loop_ir.specs.Sizes.{Size, kept, of_parts}
+use Rattle.loop_ir.specs.Sizes.{Size, size}
+use Rattle.loop_ir.proofs.Sizes.{size_number, size_linear}
 use Rattle.loop_ir.proofs.Folds.{Both, left_of, right_of, folds_related, at_number, at_linear, at_binary, at_divide, at_remainder, at_select, at_load}
 use Rattle.loop_ir.proofs.Needs.{need_binary, need_divide, need_remainder, need_select, need_load}
 use Rattle.task_code_scalar.specs.declared.CodeFault.{CodeFault}
 use Rattle.task_code_scalar.specs.Faults.{IsFault}
 use Rattle.task_code_scalar.proofs.Refusing.{passed}
 use Rattle.task_code_registers.specs.declared.scopes.Held.{Held}
-use Rattle.task_code_registers.specs.Emitting.{sum_words}
 use Rattle.task_code_registers.specs.Scopes.{have_registers}
 use Rattle.task_code_values.specs.Operands.{FitsOperand, IsSum}
-use Rattle.task_code_values.specs.Sizes.{leaf, words_at, words_of, value_words, are_held_at, are_held}
+use Rattle.task_code_values.specs.Variables.{are_held_at, are_held}
 
 -- ---- needs
 
@@ -112,36 +112,6 @@ fits-as x a r ex fits = subst (λ (y : Expr). FitsOperand y r) (sym ex) fits
 pub roomy : (own : Expr) (r : ℕ) → (need_of own).is_leaf ≡ false → FitsOperand own r → r < 32
 roomy own r leaf fits = let l = fits leaf in let s = need-some own in omega (arith, l, s)
 
--- ---- words
-
-pub words_number : (n : ℕ) → words_of (e.Number n) ≡ leaf 2
-unfolding words_of
-words_number n = at_number Size words_at n
-
-pub words_linear : (own : Linear) → words_of (e.Linear own) ≡ leaf (sum_words own.terms)
-unfolding words_of
-words_linear own = at_linear Size words_at own
-
-pub words_binary : (o : Operation) (a b : Expr) → words_of (e.Binary o a b) ≡ of_parts (value_words a + value_words b + kept (words_of b) + 4)
-unfolding words_of
-words_binary o a b = at_binary Size words_at o a b
-
-pub words_divide : (a : Expr) (c : ℕ) → words_of (e.Divide a c) ≡ of_parts (value_words a + 11)
-unfolding words_of
-words_divide a c = at_divide Size words_at a c
-
-pub words_remainder : (a : Expr) (c : ℕ) → words_of (e.Remainder a c) ≡ of_parts (value_words a + 13)
-unfolding words_of
-words_remainder a c = at_remainder Size words_at a c
-
-pub words_select : (c a b : Expr) → words_of (e.Select c a b) ≡ of_parts (value_words c + value_words a + value_words b + 33)
-unfolding words_of
-words_select c a b = at_select Size words_at c a b
-
-pub words_load : (source : Source) (x y : Expr) → words_of (e.Load source x y) ≡ of_parts (value_words x + value_words y + kept (words_of y) + 13)
-unfolding words_of
-words_load source x y = at_load Size words_at source x y
-
 -- ---- loop variables
 
 module _ (scope : List Held) where
@@ -194,7 +164,7 @@ unfolding value
 sum-number own n sum eo is few = record {
   value_is = λ reads values. ap (value reads values) eo ∙ at_number ℕ (value_at reads values) n ∙ sym (is values);
   held = λ scope held. none scope sum.terms few;
-  short = let w = ap value_words eo ∙ ap (λ (z : Size). z.words) (words_number n) in omega (arith, w, few);
+  short = let w = ap size eo ∙ ap (λ (z : Size). z.words) (size_number n) in omega (arith, w, few);
 }
   where
     none : (scope : List Held) (terms : List Term) → length terms ≡ 0 → have_registers scope terms ≡ true
@@ -206,7 +176,7 @@ unfolding value
 sum-linear own l sum eo same = record {
   value_is = λ reads values. ap (value reads values) eo ∙ at_linear ℕ (value_at reads values) l ∙ ap (linear_value values) (sym same);
   held = λ scope held. ap (λ (k : Linear). have_registers scope k.terms) same ∙ held-linear scope own l eo held;
-  short = let w = ap value_words eo ∙ ap (λ (z : Size). z.words) (words_linear l) in let n = ap (λ (k : Linear). length k.terms) same in omega (arith, w, n);
+  short = let w = ap size eo ∙ ap (λ (z : Size). z.words) (size_linear l) in let n = ap (λ (k : Linear). length k.terms) same in omega (arith, w, n);
 }
 
 through : (own whole : Expr) (n : Need) → own ≡ whole → need_of whole ≡ n → n.is_leaf ≡ false → (need_of own).is_leaf ≡ false

@@ -30,12 +30,12 @@ use Rattle.task_code_scalar.proofs.Spelling.{emits_then}
 use Rattle.task_code_scalar.proofs.Values.{alu-sets, imm-sets, shift-sets}
 use Rattle.task_code_registers.specs.declared.scopes.Form.{Form}
 use Rattle.task_code_registers.specs.declared.scopes.Held.{Held}
-use Rattle.task_code_registers.specs.Emitting.{Fits, Makes, MakesFormAddress}
+use Rattle.task_code_registers.specs.Emitting.{Fits, Makes, MakesFormAddress, sum_words}
 use Rattle.task_code_registers.specs.Points.{IsPoint}
 use Rattle.task_code_registers.specs.Registers.{scratch, second_scratch, address_register, IsPlace, IsSource}
 use Rattle.task_code_registers.specs.Scopes.{Knows, AreHolders, have_registers}
 use Rattle.task_code_registers.proofs.Knowing.{knows-zero, knows-still, working-free}
-use Rattle.task_code_registers.proofs.Making.{puts-set, short-then}
+use Rattle.task_code_registers.proofs.Making.{puts-set, short-then, base-most}
 use Rattle.task_code_values.specs.declared.points.Index.{Index}
 use Rattle.task_code_values.specs.declared.points.Index.TheVariants as indexes
 use Rattle.task_code_values.specs.Making.{IsStack, IsBelow, Leaves}
@@ -102,8 +102,9 @@ module _ (scope : List Held) (place : Place) (x y : Linear) (form : Form) (r bas
     emits = emits_then a.emits z;
     short =
         let few = point.few in
-        short-then a.insns (Load (load_op place.pixels) r base (lower offset) ∷ []) (2 + 4 * (length form.sum.terms + 1)) 1
-        (7 + 4 * (length x.terms + length y.terms)) a.short (omega arith) (omega (arith, few));
+        let most = base-most form.per_hart in
+        short-then a.insns (Load (load_op place.pixels) r base (lower offset) ∷ []) (sum_words form.per_hart form.sum.terms) 1
+        (7 + 4 * (length x.terms + length y.terms)) a.short (omega arith) (omega (arith, few, most));
     does = λ w m values f pixel l holders knows has.
         let free = working-free scope r holders (inr is) in
         let t = a.does w m w.hart values f l holders free knows in
@@ -122,8 +123,9 @@ module _ (scope : List Held) (place : Place) (x y : Linear) (form : Form) (r bas
     emits = emits_then a.emits (emits_then y1 z);
     short =
         let few = point.few in
-        short-then a.insns (Alu alus.Add r r base ∷ Load (load_op place.pixels) r r (lower offset) ∷ []) (2 + 4 * (length form.sum.terms + 1)) 2
-        (8 + 4 * (length x.terms + length y.terms)) a.short (omega arith) (omega (arith, few));
+        let most = base-most form.per_hart in
+        short-then a.insns (Alu alus.Add r r base ∷ Load (load_op place.pixels) r r (lower offset) ∷ []) (sum_words form.per_hart form.sum.terms) 2
+        (8 + 4 * (length x.terms + length y.terms)) a.short (omega arith) (omega (arith, few, most));
     does = λ w m values f at pixel l holders knows eat has.
         let low = is.0 in
         let high = is.1 in

@@ -10,14 +10,13 @@ use Rattle.loop_ir.specs.declared.expressions.Expr.TheOpen as layer
 use Rattle.loop_ir.specs.declared.expressions.Expr.TheVariants as e
 use Rattle.loop_ir.specs.declared.expressions.Linear.{Linear}
 use Rattle.loop_ir.specs.Needs.{Need, beside_first, divisor_need, need_at, need_of, need}
-use Rattle.loop_ir.specs.Sizes.{Size, kept}
+use Rattle.loop_ir.specs.Sizes.{Size, kept, size_at, size_of}
 use Rattle.loop_ir.proofs.Folds.{Both, left_of, right_of, folds_related}
 use Rattle.loop_ir.proofs.Needs.{need_number, need_linear, need_binary, need_divide, need_remainder, need_select, need_load}
 use Rattle.task_code_scalar.specs.Code.{frame_words}
 use Rattle.task_code_scalar.specs.Faults.{LieLow, HasRoom, FitsFrame}
 use Rattle.task_code_registers.specs.Registers.{first_value}
 use Rattle.task_code_values.specs.Operands.{FitsOperand}
-use Rattle.task_code_values.specs.Sizes.{words_at, words_of}
 use Rattle.task_code_values.specs.Spilling.{HasSlot, IsDeep, FitsPair, FitsSecond, room_limit}
 use Rattle.task_code_values.specs.Depths.{depth}
 use Rattle.task_code_values.proofs.FirstOperands.{depth-over}
@@ -32,7 +31,7 @@ few-words (Some start) = omega arith
 abbrev SameLeaf : Size → Need → Type 0
 SameLeaf w n = w.is_leaf ≡ n.is_leaf
 
-same-level : (y : Expr-F (Both SameLeaf)) → SameLeaf (words_at (left_of SameLeaf y)) (need_at (right_of SameLeaf y))
+same-level : (y : Expr-F (Both SameLeaf)) → SameLeaf (size_at (left_of SameLeaf y)) (need_at (right_of SameLeaf y))
 same-level (layer.Number n) = refl
 same-level (layer.Linear own) = refl
 same-level (layer.Binary o a b) = refl
@@ -42,9 +41,9 @@ same-level (layer.Select c a b) = refl
 same-level (layer.Load source x y) = refl
 
 -- what is no leaf counts what it takes to keep a first operand
-pub waits : (own : Expr) → (need_of own).is_leaf ≡ false → kept (words_of own) ≡ 15
-unfolding words_of need_of
-waits own leaf = ap (λ (t : Bool). if t then 0 else 15) (folds_related SameLeaf words_at need_at same-level own ∙ leaf)
+pub waits : (own : Expr) → (need_of own).is_leaf ≡ false → kept (size_of own) ≡ 15
+unfolding size_of need_of
+waits own leaf = ap (λ (t : Bool). if t then 0 else 15) (folds_related SameLeaf size_at need_at same-level own ∙ leaf)
 
 -- ---- on the stack, or in the frame
 

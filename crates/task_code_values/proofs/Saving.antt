@@ -22,6 +22,7 @@ use Rattle.loop_ir.specs.Expressions.{value, loads, linear_value}
 use Rattle.loop_ir.specs.Running.{stored}
 use Rattle.loop_ir.specs.Runs.{Runs}
 use Rattle.loop_ir.specs.Soundness.{store_loads}
+use Rattle.loop_ir.specs.Sizes.{size}
 use Rattle.loop_ir.proofs.Runs.{runs_store}
 use Rattle.loop_ir.proofs.Sound.{sound_store}
 use Rattle.loop_ir.proofs.Trees.{run_store}
@@ -44,20 +45,19 @@ use Rattle.task_code_registers.specs.declared.scopes.Form.{Form}
 use Rattle.task_code_registers.specs.declared.scopes.Held.{Held}
 use Rattle.task_code_registers.specs.declared.sums.At.{At}
 use Rattle.task_code_registers.specs.Doing.{Did}
-use Rattle.task_code_registers.specs.Emitting.{MakesFormAddress}
+use Rattle.task_code_registers.specs.Emitting.{MakesFormAddress, sum_words}
 use Rattle.task_code_registers.specs.Points.{IsPoint}
 use Rattle.task_code_registers.specs.Registers.{address_register, first_value}
 use Rattle.task_code_registers.specs.Scopes.{AreHolders, IsKept, have_registers}
 use Rattle.task_code_registers.proofs.Going.{Hits, no_hits, Went, Does, went-then, went-hits, went-is, within, still}
 use Rattle.task_code_registers.proofs.Knowing.{knows-still, kept-apart, working-free}
-use Rattle.task_code_registers.proofs.Making.{short-then}
+use Rattle.task_code_registers.proofs.Making.{short-then, base-most}
 use Rattle.task_code_values.specs.declared.points.Index.{Index}
 use Rattle.task_code_values.specs.declared.points.Index.TheVariants as indexes
 use Rattle.task_code_values.specs.Making.{IsBelow}
 use Rattle.task_code_values.specs.Operands.{IsSum, IsIndex, IsOperand, StandsIn, MakesIndex, MakesOperand}
 use Rattle.task_code_values.specs.Scattering.{ReachesPoint}
 use Rattle.task_code_values.specs.Spilling.{second_value, third_value}
-use Rattle.task_code_values.specs.Sizes.{value_words}
 use Rattle.task_code_values.specs.Storing.{LeavesDeep, MakesValue, FitsDirect, MakesStore, store_words}
 use Rattle.task_code_values.proofs.Standing.{kept-below, below-more}
 use Rattle.task_code_values.proofs.Pointing.{at-offset, own-word}
@@ -187,7 +187,7 @@ module _ (own : Setting) (good : IsSetting own) (values : Values) where
       within own (λ at. end at is) (λ at. end at (is ++ js)) (λ at s. stand-back w.text at is js s) (λ at. sym (end-append at is js)) b in
       went-hits own (λ func x y h. inr h) (went-then own first second)
 
-  abbrev deep-does : {is : List Insn} {f : ℕ → ℕ} {memory : List ℕ} {funcs : Planes} {r v : ℕ} (scope : List Held) → AreHolders scope
+  abbrev pub deep-does : {is : List Insn} {f : ℕ → ℕ} {memory : List ℕ} {funcs : Planes} {r v : ℕ} (scope : List Held) → AreHolders scope
       → (a : LeavesDeep own funcs is 0 f memory first_value r v) → Does own is (length is) f memory (IsKept scope) funcs no_hits
   deep-does scope holders a = record {
     after = a.after;
@@ -200,7 +200,7 @@ module _ (own : Setting) (good : IsSetting own) (values : Values) where
     writes = λ func x y byte at hit of s. absurd hit;
   }
 
-did-went : {own : Setting} {is : List Insn} {n : ℕ} {f : ℕ → ℕ} {memory : List ℕ} {keeps_it : ℕ → Type 0} {funcs : Planes} {stored : ℕ → ℕ → ℕ → Bool}
+pub did-went : {own : Setting} {is : List Insn} {n : ℕ} {f : ℕ → ℕ} {memory : List ℕ} {keeps_it : ℕ → Type 0} {funcs : Planes} {stored : ℕ → ℕ → ℕ → Bool}
     → Does own is n f memory keeps_it funcs (λ func x y. stored func x y ≡ true) → Did own is n f memory keeps_it funcs stored
 did-went a = record {
   after = a.after;
@@ -226,10 +226,10 @@ store-made places scope store x y form place at r c0 c1 c2 c3 ex ey ep point v t
       let few = point.few in
       let nx = ex.short in
       let ny = ey.short in
-      let rest = short-then t.insns (Save save_ops.Sw at.register r (lower at.offset) ∷ []) (2 + 4 * (length form.sum.terms + 1)) 1 (7 + 4 * (length
-      x.terms + length y.terms)) t.short
-      (omega arith) (omega (arith, few)) in
-      short-then v.insns (t.insns ++ (Save save_ops.Sw at.register r (lower at.offset) ∷ [])) (value_words store.value) (7 + 4 * (length x.terms +
+      let most = base-most form.per_hart in
+      let rest = short-then t.insns (Save save_ops.Sw at.register r (lower at.offset) ∷ []) (sum_words form.per_hart form.sum.terms) 1
+      (7 + 4 * (length x.terms + length y.terms)) t.short (omega arith) (omega (arith, few, most)) in
+      short-then v.insns (t.insns ++ (Save save_ops.Sw at.register r (lower at.offset) ∷ [])) (size store.value) (7 + 4 * (length x.terms +
       length y.terms))
       (store_words store) v.short rest (omega (arith, nx, ny));
   does = λ own good at-places values sound sure holders f memory funcs holds knows.

@@ -1,6 +1,6 @@
 -- Addresses of points whose indexes may be computed, and stores there.
 use Rattle.std.proofs.Common.{◌≡◌, ℕ, ◌+◌, ◌*◌, ◌%◌, ◌^◌, ◌<◌, List, [], ◌∷◌, ◌++◌, length, refl, ap, ◌∙◌, sym, subst, arith, inl, inr}
-use Rattle.std.specs.Prelude.{◌≢◌}
+use Rattle.std.specs.Prelude.{◌≢◌, ◌⊎◌}
 use Rattle.rv_insn.specs.declared.instructions.Insn.TheVariants.{Alu}
 use Rattle.rv_insn.specs.declared.operations.AluOp.TheVariants as alus
 use Rattle.halide_pipeline.specs.Words as word
@@ -15,17 +15,18 @@ use Rattle.task_code_scalar.proofs.Spelling.{emits_then, emits-none}
 use Rattle.task_code_scalar.proofs.Values.{alu-sets}
 use Rattle.task_code_registers.specs.declared.scopes.Form.{Form}
 use Rattle.task_code_registers.specs.declared.scopes.Held.{Held}
-use Rattle.task_code_registers.specs.Emitting.{Makes, MakesFormAddress}
+use Rattle.task_code_registers.specs.Emitting.{Makes, MakesFormAddress, sum_words}
 use Rattle.task_code_registers.specs.Points.{IsPoint}
 use Rattle.task_code_registers.specs.Registers.{scratch, second_scratch, address_register, IsSource}
-use Rattle.task_code_registers.specs.Scopes.{Knows, AreHolders}
+use Rattle.task_code_registers.specs.Scopes.{Knows, AreHolders, IsKept}
 use Rattle.task_code_registers.proofs.Knowing.{knows-zero, knows-still, working-free}
-use Rattle.task_code_registers.proofs.Making.{puts-none, short-then, term-more}
+use Rattle.task_code_registers.proofs.Making.{puts-none, short-then, term-more, base-most}
 use Rattle.task_code_values.specs.declared.points.Index.{Index}
 use Rattle.task_code_values.specs.declared.points.Index.TheVariants as indexes
 use Rattle.task_code_values.specs.Making.{IsStack}
 use Rattle.task_code_values.specs.Operands.{IsIndex, StandsIn, IsOperand, index_words}
-use Rattle.task_code_values.specs.Scattering.{register_part, sum_part, HasSource, IsSumPart, row_bytes, with_rows, ReachesBehind, ReachesPoint}
+use Rattle.task_code_values.specs.Scattering.{register_part, sum_part, column_words, HasSource, IsSumPart, StandsBeside, row_bytes, with_rows}
+use Rattle.task_code_values.specs.Scattering.{ReachesBehind, ReachesPoint}
 use Rattle.task_code_values.proofs.Pointing.{zero-held, row-bytes, stack-place}
 use Rattle.task_code_values.proofs.Standing.{kept-below, below-apart}
 
@@ -35,6 +36,7 @@ pub sum-itself : (index : Index) (own made : Linear) → index ≡ indexes.Sum o
 sum-itself index own made ei em = subst (λ i. IsSumPart i made) (sym ei) (subst (λ m. IsSumPart (indexes.Sum own) m) (sym em) (record {
   value_is = λ values. refl;
   few = omega arith;
+  few_columns = omega arith;
   have = λ scope have. have;
 }))
 
@@ -43,6 +45,7 @@ pub sum-none : (index : Index) (s : ℕ) (made : Linear) → index ≡ indexes.R
 sum-none index s made ei none few = subst (λ i. IsSumPart i made) (sym ei) (record {
   value_is = none;
   few = omega (arith, few);
+  few_columns = omega (arith, few);
   have = λ scope have. zero-held scope made few;
 })
 
@@ -54,19 +57,14 @@ both-parts (indexes.Register s) values f v is = let g : f s + 0 ≡ f s = omega 
 -- ---- bytes
 
 pub columns-none : (index : Index) (own : Linear) (r b : ℕ) (c0 c1 : List ℕ) → index ≡ indexes.Sum own → Makes c0 c1 2 r (λ f. 0)
-    → Makes c0 c1 2 r (λ f. (register_part index f * b) % 2 ^ 32)
+    → Makes c0 c1 (column_words index) r (λ f. (register_part index f * b) % 2 ^ 32)
 columns-none index own r b c0 c1 ei x =
     let z : 0 ≡ (0 * b) % 2 ^ 32 = omega arith in
-    subst (λ i. Makes c0 c1 2 r (λ f. (register_part i f * b) % 2 ^ 32)) (sym ei) (subst (λ n. Makes c0 c1 2 r (λ f. n)) z x)
+    subst (λ i. Makes c0 c1 (column_words i) r (λ f. (register_part i f * b) % 2 ^ 32)) (sym ei) (subst (λ n. Makes c0 c1 2 r (λ f. n)) z x)
 
 pub columns-some : (index : Index) (s r b : ℕ) (c0 c1 : List ℕ) → index ≡ indexes.Register s → Makes c0 c1 1 r (λ f. (f s * b) % 2 ^ 32)
-    → Makes c0 c1 2 r (λ f. (register_part index f * b) % 2 ^ 32)
-columns-some index s r b c0 c1 ei x = subst (λ i. Makes c0 c1 2 r (λ f. (register_part i f * b) % 2 ^ 32)) (sym ei) (record {
-  insns = x.insns;
-  emits = x.emits;
-  short = let k = x.short in omega (arith, k);
-  does = x.does;
-})
+    → Makes c0 c1 (column_words index) r (λ f. (register_part index f * b) % 2 ^ 32)
+columns-some index s r b c0 c1 ei x = subst (λ i. Makes c0 c1 (column_words i) r (λ f. (register_part i f * b) % 2 ^ 32)) (sym ei) x
 
 pub rows-none : (place : Place) (index : Index) (own : Linear) (r : ℕ) (c : List ℕ) → index ≡ indexes.Sum own → Makes c c 4 r (with_rows place index r)
 rows-none place index own r c ei = subst (λ i. Makes c c 4 r (with_rows place i r)) (sym ei) (record {
@@ -91,6 +89,20 @@ pub source-of : (scope : List Held) (r : ℕ) (index : Index) → StandsIn scope
 source-of scope r (indexes.Sum own) stands = tt
 source-of scope r (indexes.Register s) stands = stands.1.0
 
+pub source-beside : (scope : List Held) (r : ℕ) (index : Index) → StandsBeside scope r index → HasSource index
+source-beside scope r (indexes.Sum own) stands = tt
+source-beside scope r (indexes.Register t) stands = stands.0
+
+-- what stands in the register above another one
+pub stands-above : (scope : List Held) (r : ℕ) (index : Index) → StandsIn scope (r + 1) index → StandsBeside scope r index
+stands-above scope r (indexes.Sum own) stands = tt
+stands-above scope r (indexes.Register t) stands = (stands.1.0, by stands.1.1)
+  where
+    by : IsOperand scope (r + 1) (r + 1) t → (t ≢ r) ⊎ IsKept scope t
+    by (inl e) = inl (λ g. omega (arith, e, g))
+    by (inr (inl e)) = inl (λ g. omega (arith, e, g))
+    by (inr (inr h)) = inr h
+
 pub source-is : (index : Index) (s : ℕ) → index ≡ indexes.Register s → HasSource index → IsSource s
 source-is index s e has = subst HasSource e has
 
@@ -106,8 +118,9 @@ module _ (scope : List Held) (place : Place) (r : ℕ) (is : IsStack r) where
     emits = emits_then a.emits z;
     short =
         let few = point.few in
-        short-then a.insns (Alu alus.Add r r base ∷ []) (2 + 4 * (length form.sum.terms + 1)) 1 (7 + 4 * (length x.terms + length y.terms)) a.short
-        (omega arith) (omega (arith, few));
+        let most = base-most form.per_hart in
+        short-then a.insns (Alu alus.Add r r base ∷ []) (sum_words form.per_hart form.sum.terms) 1 (7 + 4 * (length x.terms + length y.terms)) a.short
+        (omega arith) (omega (arith, few, most));
     fits = a.fits;
     small = a.small;
     does = λ w m values f at l holders knows eat.
@@ -152,33 +165,32 @@ module _ (scope : List Held) (place : Place) (r : ℕ) (is : IsStack r) where
       joined : (n p q a whole : ℕ) → p % 2 ^ 32 ≡ q % 2 ^ 32 → n + q + a ≡ whole → whole < 2 ^ 32 → ((n % 2 ^ 32 + p) % 2 ^ 32 + a) % 2 ^ 32 ≡ whole
       joined n p q a whole e g l = omega (arith, e, g, l)
 
-  -- what stands above r stays where r is made
-  row-stays : (row : Index) (f g : ℕ → ℕ) → AreHolders scope → StandsIn scope (r + 1) row
+  -- what stands beside r stays where r is made
+  row-stays : (row : Index) (f g : ℕ → ℕ) → AreHolders scope → StandsBeside scope r row
       → ((q : ℕ) → q ≢ r → q ≢ scratch → q ≢ second_scratch → g q ≡ f q) → register_part row g ≡ register_part row f
   row-stays (indexes.Sum own) f g holders stands same = refl
-  row-stays (indexes.Register t) f g holders stands same = same t (apart stands.1.1) stands.1.0.1.0 stands.1.0.1.1
+  row-stays (indexes.Register t) f g holders stands same = same t (apart stands.1) stands.0.1.0 stands.0.1.1
     where
-      apart : IsOperand scope (r + 1) (r + 1) t → t ≢ r
-      apart (inl e) g = omega (arith, e, g)
-      apart (inr (inl e)) g = omega (arith, e, g)
-      apart (inr (inr h)) g = working-free scope r holders (inr is) t h g
+      apart : (t ≢ r) ⊎ IsKept scope t → t ≢ r
+      apart (inl n) = n
+      apart (inr h) = working-free scope r holders (inr is) t h
 
   rows-are : (row : Index) (f : ℕ → ℕ) → f r < 2 ^ 32 → with_rows place row r f ≡ (f r + register_part row f * row_bytes place) % 2 ^ 32
   rows-are (indexes.Sum own) f small = let g : f r ≡ (f r + 0 * row_bytes place) % 2 ^ 32 = omega (arith, small) in g
   rows-are (indexes.Register t) f small = refl
 
-  pub point-reached : (column row : Index) (x y : Linear) (offset : ℕ) (c0 c1 c2 c3 : List ℕ) → StandsIn scope (r + 1) row → IsSumPart column x
-      → IsSumPart row y → Makes c0 c1 2 r (λ f. (register_part column f * b) % 2 ^ 32) → Makes c1 c2 4 r (with_rows place row r)
+  pub point-reached : (column row : Index) (x y : Linear) (offset : ℕ) (c0 c1 c2 c3 : List ℕ) → StandsBeside scope r row → IsSumPart column x
+      → IsSumPart row y → Makes c0 c1 (column_words column) r (λ f. (register_part column f * b) % 2 ^ 32) → Makes c1 c2 4 r (with_rows place row r)
       → ReachesBehind c2 c3 scope place x y r offset → ReachesPoint c0 c3 scope place column row r offset
   point-reached column row x y offset c0 c1 c2 c3 stands px py u v z = record {
     insns = u.insns ++ (v.insns ++ z.insns);
     emits = emits_then u.emits (emits_then v.emits z.emits);
     short =
-        let nx = px.few in
+        let nx = px.few_columns in
         let ny = py.few in
         let n = 7 + 4 * (length x.terms + length y.terms) in
         let rest = short-then v.insns z.insns 4 n (4 + n) v.short z.short (omega arith) in
-        short-then u.insns (v.insns ++ z.insns) 2 (4 + n) (index_words column + index_words row + 13) u.short rest (omega (arith, nx, ny));
+        short-then u.insns (v.insns ++ z.insns) (column_words column) (4 + n) (index_words column + index_words row + 12) u.short rest (omega (arith, nx, ny));
     fits = z.fits;
     small = z.small;
     does = λ w m values f xv yv l holders knows ex ey low.

@@ -8,7 +8,7 @@ use Rattle.multi_hart_logic.proofs.Paths.{stay}
 use Rattle.task_code_scalar.proofs.Spelling.{emits-none}
 use Rattle.task_code_registers.specs.declared.scopes.Form.{Form}
 use Rattle.task_code_registers.specs.declared.scopes.Held.{Held}
-use Rattle.task_code_registers.specs.Emitting.{Makes, MakesForm, IsNear, MakesValue, sum_words}
+use Rattle.task_code_registers.specs.Emitting.{Makes, MakesForm, IsNear, MakesValue, base_words}
 use Rattle.task_code_registers.specs.Registers.{zero_register, scratch, second_scratch, address_register, IsPlace}
 use Rattle.task_code_registers.specs.Scopes.{AreHolders, IsHolder, IsKept, form_value}
 use Rattle.task_code_registers.proofs.Knowing.{may-hold, knows-zero, linear-small}
@@ -144,11 +144,15 @@ number-made scope r n c0 c1 place x = record {
 }
 
 pub sum-made : (scope : List Held) (form : Form) (own : Linear) (r : ℕ) (c0 c1 : List ℕ) → IsPlace r → form.per_hart ≡ 0 → form.sum ≡ own
-    → MakesValue c0 c1 scope form r → MakesHeld c0 c1 (sum_words own.terms) scope r r (λ hart values. linear_value values own)
+    → MakesValue c0 c1 scope form r → MakesHeld c0 c1 (2 + 4 * length own.terms) scope r r (λ hart values. linear_value values own)
 sum-made scope form own r c0 c1 place none same x = record {
   insns = x.insns;
   emits = x.emits;
-  short = let k = x.short in let e : length form.sum.terms ≡ length own.terms = ap (λ (s : Linear). length s.terms) same in omega (arith, k, e);
+  short =
+      let k = x.short in
+      let p : base_words form.per_hart ≡ 2 = ap base_words none in
+      let e : length form.sum.terms ≡ length own.terms = ap (λ (s : Linear). length s.terms) same in
+      omega (arith, k, p, e);
   source = (place.0.1, (place.1.0, place.1.1));
   which = inl refl;
   does = λ w m hart values f l holders free knows.

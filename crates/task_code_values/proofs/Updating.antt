@@ -19,7 +19,8 @@ use Rattle.loop_ir.specs.declared.expressions.Expr.TheVariants as e
 use Rattle.loop_ir.specs.declared.statements.Store.{Store}
 use Rattle.loop_ir.specs.Counters.{Values}
 use Rattle.loop_ir.specs.Expressions.{value, loads}
-use Rattle.loop_ir.specs.Sizes.{Size}
+use Rattle.loop_ir.specs.Sizes.{Size, size}
+use Rattle.loop_ir.proofs.Sizes.{size_binary, size_load}
 use Rattle.loop_ir.specs.Soundness.{store_loads}
 use Rattle.loop_ir.proofs.Sound.{sound_store}
 use Rattle.loop_ir.proofs.Trees.{run_store}
@@ -50,12 +51,12 @@ use Rattle.task_code_values.specs.Immediates.{immediate_value, IsImmediate}
 use Rattle.task_code_values.specs.Making.{IsBelow, MakesOfTwo}
 use Rattle.task_code_values.specs.Operands.{IsIndex, IsOperand, MakesIndex, MakesOperand, StandsIn}
 use Rattle.task_code_values.specs.Scattering.{ReachesPoint}
-use Rattle.task_code_values.specs.Sizes.{value_words, are_held}
+use Rattle.task_code_values.specs.Variables.{are_held}
 use Rattle.task_code_values.specs.Spilling.{second_value, third_value}
 use Rattle.task_code_values.specs.Storing.{MakesStore}
 use Rattle.task_code_values.specs.Updating.{Changes}
 use Rattle.task_code_values.proofs.Evaluating.{value_number, value_binary, value_load, loads_binary, loads_load}
-use Rattle.task_code_values.proofs.Parts.{words_binary, words_load, held-binary}
+use Rattle.task_code_values.proofs.Parts.{held-binary}
 use Rattle.task_code_values.proofs.Pointing.{at-offset, can-pixel, fetched}
 use Rattle.task_code_values.proofs.Saving.{does-then, equal-parts, is-single, saved}
 use Rattle.task_code_values.proofs.Standing.{below-apart, below-more, kept-below}
@@ -68,7 +69,7 @@ module _ (places : Places) (scope : List Held) (o : Operation) (other : Expr) wh
   changed-by t c0 c1 c2 y z = record {
     insns = y.insns ++ z.insns;
     emits = emits_then y.emits z.emits;
-    short = short-then y.insns z.insns (value_words other) 4 (value_words other + 4) y.short z.short (omega arith);
+    short = short-then y.insns z.insns (size other) 4 (size other + 4) y.short z.short (omega arith);
     does = λ w m values reads f l holders knows may small.
         let p = y.does w m values reads f l holders knows may in
         let kp = knows-still w.hart scope values f p.after (λ n h. p.keeps n (kept-below scope n third_value (omega arith) holders h)) knows in
@@ -126,9 +127,9 @@ module _ (places : Places) (scope : List Held) (store : Store) (o : Operation) (
         let ny = y.short in
         let nz = z.short in
         let nc = change.short in
-        let w1 = ap (λ (k : Expr). value_words k) ev in
-        let w2 = ap (λ (k : Size). k.words) (words_binary o pixel other) in
-        let w3 = ap (λ (k : Size). k.words) (words_load (sources.Func store.func) store.x store.y) in
+        let w1 = ap (λ (k : Expr). size k) ev in
+        let w2 = ap (λ (k : Size). k.words) (size_binary o pixel other) in
+        let w3 = ap (λ (k : Size). k.words) (size_load (sources.Func store.func) store.x store.y) in
         omega (arith, n, nx, ny, nz, nc, w1, w2, w3);
     does = λ own good at-places values sound sure holders f memory funcs holds knows.
         let w = own.world in

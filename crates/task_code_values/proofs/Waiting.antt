@@ -15,6 +15,7 @@ use Rattle.loop_ir.specs.declared.expressions.Expr.{Expr}
 use Rattle.loop_ir.specs.declared.expressions.Linear.{Linear}
 use Rattle.loop_ir.specs.Counters.{Values}
 use Rattle.loop_ir.specs.Expressions.{value, linear_value}
+use Rattle.loop_ir.specs.Sizes.{size}
 use Rattle.multi_hart_logic.specs.Alone.{World}
 use Rattle.multi_hart_logic.specs.Paths.{update, Line}
 use Rattle.multi_hart_logic.proofs.Paths.{update-same, update-other, line-then}
@@ -35,9 +36,8 @@ use Rattle.task_code_registers.specs.Emitting.{MakesFormAddress}
 use Rattle.task_code_registers.specs.Registers.{scratch, second_scratch, address_register, first_value, IsPlace, IsSource}
 use Rattle.task_code_registers.specs.Scopes.{Knows, AreHolders, IsKept, form_value}
 use Rattle.task_code_registers.proofs.Knowing.{knows-still, working-free}
-use Rattle.task_code_registers.proofs.Making.{short-then}
+use Rattle.task_code_registers.proofs.Making.{short-then, base-most}
 use Rattle.task_code_values.specs.Making.{IsBelow}
-use Rattle.task_code_values.specs.Sizes.{value_words}
 use Rattle.task_code_values.specs.Spilling.{HasSlot, IsSlot, MakesSlot, second_value, Spills, Unspills, Pairs, IsFirst}
 use Rattle.task_code_values.specs.Storing.{MakesValue}
 use Rattle.task_code_values.proofs.Standing.{kept-below, below-apart, below-more}
@@ -137,7 +137,7 @@ module _ (places : Places) (scope : List Held) where
   module _ (start word : ℕ) (form : Form) (at : At) (c0 c1 c2 : List ℕ) (es : start ≡ frames_of places.frames) (within : word < frame_words places.frames)
       (slot : IsSlot start word form) (t : MakesFormAddress c0 c1 scope form address_register at) where
     t-short : length t.insns ≤ 6
-    t-short = let k = t.short in let z = slot.none in omega (arith, k, z)
+    t-short = let k = t.short in let z = slot.none in let most = base-most form.per_hart in omega (arith, k, z, most)
 
     pub spill-made : (s : ℕ) → IsSource s → (s ≡ first_value) ⊎ IsKept scope s → Emits c1 c2 (Save save_ops.Sw at.register s (lower at.offset) ∷ [])
         → Spills c0 c2 places scope s word
@@ -209,9 +209,9 @@ module _ (places : Places) (scope : List Held) where
     emits = emits_then x.emits (emits_then y.emits (emits_then o z.emits));
     short =
         let last = short-then (AluImm alu_imms.Addi second_value s (pos 0) ∷ []) z.insns 1 7 8 (omega arith) z.short (omega arith) in
-        let rest = short-then y.insns ((AluImm alu_imms.Addi second_value s (pos 0) ∷ []) ++ z.insns) (value_words e) 8 (value_words e + 8) y.short
+        let rest = short-then y.insns ((AluImm alu_imms.Addi second_value s (pos 0) ∷ []) ++ z.insns) (size e) 8 (size e + 8) y.short
         last (omega arith) in
-        short-then x.insns (y.insns ++ ((AluImm alu_imms.Addi second_value s (pos 0) ∷ []) ++ z.insns)) 7 (value_words e + 8) (value_words e + 15)
+        short-then x.insns (y.insns ++ ((AluImm alu_imms.Addi second_value s (pos 0) ∷ []) ++ z.insns)) 7 (size e + 8) (size e + 15)
         x.short rest (omega arith);
     does = λ own good at-places values holders f memory funcs holds knows may small.
         let w = own.world in

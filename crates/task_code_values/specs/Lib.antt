@@ -2,9 +2,10 @@ pub mod Depths
 pub mod Immediates
 pub mod Making
 pub mod Operands
+pub mod Parking
 pub mod Points
 pub mod Scattering
-pub mod Sizes
 pub mod Spilling
 pub mod Storing
 pub mod Updating
+pub mod Variables

@@ -8,6 +8,7 @@ use Rattle.loop_ir.specs.declared.expressions.Linear.{Linear}
 use Rattle.loop_ir.specs.Counters.{Values}
 use Rattle.loop_ir.specs.Expressions.{value, loads, linear_value}
 use Rattle.loop_ir.specs.Needs.{need_of}
+use Rattle.loop_ir.specs.Sizes.{size}
 use Rattle.multi_hart_logic.specs.Alone.{World}
 use Rattle.multi_hart_logic.specs.Paths.{Line}
 use Rattle.task_code_scalar.specs.declared.places.Place.{Place}
@@ -22,7 +23,7 @@ use Rattle.task_code_values.specs.declared.points.Index.{Index}
 use Rattle.task_code_values.specs.declared.points.Index.TheVariants as indexes
 use Rattle.task_code_values.specs.Making.{IsStack, IsBelow, Leaves}
 use Rattle.task_code_values.specs.Points.{HaveIndex}
-use Rattle.task_code_values.specs.Sizes.{value_words, are_held}
+use Rattle.task_code_values.specs.Variables.{are_held}
 
 -- ---- operands
 
@@ -44,7 +45,7 @@ FitsOperand e r = (need_of e).is_leaf ≡ false → FitsStack e r
 pub record MakesOperand (old new : List ℕ) (places : Places) (scope : List Held) (r leaf s : ℕ) (e : Expr) : Type 0 where
   pub insns : List Insn
   pub emits : Emits old new insns
-  pub short : length insns ≤ value_words e
+  pub short : length insns ≤ size e
   pub source : IsSource s
   pub which : IsOperand scope r leaf s
   pub does : (world : World) (memory : List ℕ) (values : Values) (reads : Reads) (f : ℕ → ℕ) → length memory ≡ world.size → AreHolders scope
@@ -57,7 +58,7 @@ pub record MakesOperand (old new : List ℕ) (places : Places) (scope : List Hel
 pub record IsSum (e : Expr) (own : Linear) : Type 0 where
   pub value_is : (reads : Reads) (values : Values) → value reads values e ≡ linear_value values own
   pub held : (scope : List Held) → are_held scope e ≡ true → have_registers scope own.terms ≡ true
-  pub short : 2 + 4 * length own.terms ≤ value_words e
+  pub short : 2 + 4 * length own.terms ≤ size e
 
 -- an index is this number
 abbrev pub IsIndex : Values → (ℕ → ℕ) → Index → ℕ → Type 0
@@ -85,7 +86,7 @@ pub record Finds (world : World) (memory : List ℕ) (insns : List Insn) (values
 pub record MakesIndex (old new : List ℕ) (places : Places) (scope : List Held) (r : ℕ) (index : Index) (e : Expr) : Type 0 where
   pub insns : List Insn
   pub emits : Emits old new insns
-  pub short : length insns + index_words index ≤ value_words e
+  pub short : length insns + index_words index ≤ size e
   pub stands : StandsIn scope r index
   pub held : are_held scope e ≡ true → HaveIndex scope index
   pub does : (world : World) (memory : List ℕ) (values : Values) (reads : Reads) (f : ℕ → ℕ) → length memory ≡ world.size → AreHolders scope

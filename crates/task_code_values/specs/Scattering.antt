@@ -1,5 +1,5 @@
 -- Addresses of points whose indexes may be computed, whatever their instructions are. This project's own.
-use Rattle.std.specs.Prelude.{◌≡◌, ◌<◌, ◌≤◌, ℕ, ◌+◌, ◌*◌, ◌%◌, ◌^◌, true, List, length}
+use Rattle.std.specs.Prelude.{◌≡◌, ◌≢◌, ◌⊎◌, ◌<◌, ◌≤◌, ℕ, ◌+◌, ◌*◌, ◌%◌, ◌^◌, true, List, length}
 use Rattle.rv_insn.specs.declared.instructions.Insn.{Insn}
 use Rattle.loop_ir.specs.declared.expressions.Linear.{Linear}
 use Rattle.loop_ir.specs.Counters.{Values}
@@ -12,7 +12,7 @@ use Rattle.task_code_scalar.specs.Words.{Emits}
 use Rattle.task_code_registers.specs.declared.scopes.Held.{Held}
 use Rattle.task_code_registers.specs.Emitting.{Fits}
 use Rattle.task_code_registers.specs.Registers.{IsSource}
-use Rattle.task_code_registers.specs.Scopes.{Knows, AreHolders, have_registers}
+use Rattle.task_code_registers.specs.Scopes.{Knows, AreHolders, IsKept, have_registers}
 use Rattle.task_code_values.specs.declared.points.Index.{Index}
 use Rattle.task_code_values.specs.declared.points.Index.TheVariants as indexes
 use Rattle.task_code_values.specs.Making.{IsBelow}
@@ -33,10 +33,16 @@ abbrev pub HasSource : Index → Type 0
 HasSource (indexes.Sum own) = Unit {0}
 HasSource (indexes.Register s) = IsSource s
 
+-- of what is made of the first part
+abbrev pub column_words : Index → ℕ
+column_words (indexes.Sum own) = 2
+column_words (indexes.Register s) = 1
+
 -- a sum is an index's second part
 pub record IsSumPart (index : Index) (sum : Linear) : Type 0 where
   pub value_is : (values : Values) → linear_value values sum ≡ sum_part index values
   pub few : 4 * length sum.terms ≤ index_words index
+  pub few_columns : column_words index + 4 * length sum.terms ≤ index_words index + 1
   pub have : (scope : List Held) → HaveIndex scope index → have_registers scope sum.terms ≡ true
 
 -- ---- bytes
@@ -50,6 +56,11 @@ with_rows place (indexes.Sum own) r f = f r
 with_rows place (indexes.Register t) r f = (f r + f t * row_bytes place) % 2 ^ 32
 
 -- ---- addresses
+
+-- it stands in another register than r, or in one of the scope
+abbrev pub StandsBeside : List Held → ℕ → Index → Type 0
+StandsBeside scope r (indexes.Sum own) = Unit {0}
+StandsBeside scope r (indexes.Register t) = IsSource t × ((t ≢ r) ⊎ IsKept scope t)
 
 -- straight code behind which register r and an offset make v; it keeps the registers below r
 pub record Reached (world : World) (memory : List ℕ) (insns : List Insn) (f : ℕ → ℕ) (r offset v : ℕ) : Type 0 where
@@ -73,7 +84,7 @@ pub record ReachesBehind (old new : List ℕ) (scope : List Held) (place : Place
 pub record ReachesPoint (old new : List ℕ) (scope : List Held) (place : Place) (column row : Index) (r offset : ℕ) : Type 0 where
   pub insns : List Insn
   pub emits : Emits old new insns
-  pub short : length insns ≤ index_words column + index_words row + 13
+  pub short : length insns ≤ index_words column + index_words row + 12
   pub fits : Fits offset
   pub small : offset < 2 ^ 32
   pub does : (world : World) (memory : List ℕ) (values : Values) (f : ℕ → ℕ) (x y : ℕ) → length memory ≡ world.size → AreHolders scope

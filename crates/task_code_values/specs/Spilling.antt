@@ -8,7 +8,7 @@ use Rattle.loop_ir.specs.declared.expressions.Expr.{Expr}
 use Rattle.loop_ir.specs.Counters.{Values}
 use Rattle.loop_ir.specs.Expressions.{value, loads}
 use Rattle.loop_ir.specs.Needs.{need_of, need}
-use Rattle.loop_ir.specs.Sizes.{kept}
+use Rattle.loop_ir.specs.Sizes.{kept, size_of, size}
 use Rattle.multi_hart_logic.specs.Paths.{Line}
 use Rattle.task_code_scalar.specs.declared.places.Places.{Places}
 use Rattle.task_code_scalar.specs.Code.{frames_of, frame_words}
@@ -27,7 +27,7 @@ use Rattle.task_code_values.specs.declared.points.PointIndexes.{PointIndexes}
 use Rattle.task_code_values.specs.Making.{IsBelow}
 use Rattle.task_code_values.specs.Operands.{IsIndex, StandsIn, index_words}
 use Rattle.task_code_values.specs.Points.{HaveIndex}
-use Rattle.task_code_values.specs.Sizes.{words_of, value_words, are_held}
+use Rattle.task_code_values.specs.Variables.{are_held}
 
 -- frames lie below 2^32, and have such a word
 abbrev pub HasSlot : Option ℕ → ℕ → Type 0
@@ -113,7 +113,7 @@ Paired own funcs insns word f memory v u = PairedIn own funcs insns word f memor
 pub record Pairs (old new : List ℕ) (places : Places) (scope : List Held) (word s : ℕ) (e : Expr) : Type 0 where
   pub insns : List Insn
   pub emits : Emits old new insns
-  pub short : length insns ≤ value_words e + 15
+  pub short : length insns ≤ size e + 15
   pub does : (own : Setting) → IsSetting own → own.places ≡ places → (values : Values) → AreHolders scope → (f : ℕ → ℕ) (memory : List ℕ) (funcs : Planes)
       → HoldsFuncs own memory funcs → Knows own.world.hart scope values f → list_all own.loaded (loads (reads_of own.inputs funcs) values e) ≡ true
       → f s < 2 ^ 32
@@ -133,7 +133,7 @@ third_value = 22
 pub record MakesBoth (old new : List ℕ) (places : Places) (scope : List Held) (word s : ℕ) (both : Both) (e : Expr) : Type 0 where
   pub insns : List Insn
   pub emits : Emits old new insns
-  pub short : length insns ≤ value_words e + kept (words_of e)
+  pub short : length insns ≤ size e + kept (size_of e)
   pub first_source : IsSource both.first
   pub second_source : IsSource both.second
   pub does : (own : Setting) → IsSetting own → own.places ≡ places → (values : Values) → AreHolders scope → (f : ℕ → ℕ) (memory : List ℕ) (funcs : Planes)
@@ -145,7 +145,7 @@ pub record MakesBoth (old new : List ℕ) (places : Places) (scope : List Held) 
 pub record MakesRow (old new : List ℕ) (places : Places) (scope : List Held) (word s : ℕ) (point : PointIndexes) (e : Expr) : Type 0 where
   pub insns : List Insn
   pub emits : Emits old new insns
-  pub short : length insns + (index_words point.column + index_words point.row) ≤ value_words e + kept (words_of e)
+  pub short : length insns + (index_words point.column + index_words point.row) ≤ size e + kept (size_of e)
   pub column_stands : StandsIn scope first_value point.column
   pub row_stands : StandsIn scope (first_value + 1) point.row
   pub column_held : HaveIndex scope point.column

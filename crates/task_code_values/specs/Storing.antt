@@ -11,18 +11,19 @@ use Rattle.loop_ir.specs.Counters.{Values}
 use Rattle.loop_ir.specs.Expressions.{value, loads}
 use Rattle.loop_ir.specs.Needs.{need_of}
 use Rattle.loop_ir.specs.Running.{run}
+use Rattle.loop_ir.specs.Sizes.{size}
 use Rattle.multi_hart_logic.specs.Paths.{Line}
 use Rattle.task_code_scalar.specs.declared.places.Places.{Places}
 use Rattle.task_code_scalar.specs.Doing.{Setting, IsSetting, SoundIn, RunsIn, HoldsFuncs, stored_points}
-use Rattle.task_code_scalar.specs.Faults.{FitsFrame, FitsStack}
+use Rattle.task_code_scalar.specs.Faults.{FitsFrame}
 use Rattle.task_code_scalar.specs.Layout.{IsBefore}
 use Rattle.task_code_scalar.specs.Words.{Emits}
 use Rattle.task_code_registers.specs.declared.scopes.Held.{Held}
 use Rattle.task_code_registers.specs.Registers.{first_value, IsSource}
-use Rattle.task_code_registers.specs.Scopes.{Knows, AreHolders, IsKept}
+use Rattle.task_code_registers.specs.Scopes.{Knows, AreHolders, IsKept, are_registers}
 use Rattle.task_code_registers.specs.Doing.{Did}
 use Rattle.task_code_values.specs.Making.{IsBelow}
-use Rattle.task_code_values.specs.Sizes.{value_words, are_held}
+use Rattle.task_code_values.specs.Variables.{are_held}
 
 -- Straight code leaves a word in register s. It keeps the registers below r, what the Funcs hold, and of memory all but the words of the
 -- hart's frame from a word on.
@@ -41,7 +42,7 @@ pub record LeavesDeep (own : Setting) (funcs : Planes) (insns : List Insn) (firs
 pub record MakesValue (old new : List ℕ) (places : Places) (scope : List Held) (first s : ℕ) (e : Expr) : Type 0 where
   pub insns : List Insn
   pub emits : Emits old new insns
-  pub short : length insns ≤ value_words e
+  pub short : length insns ≤ size e
   pub source : IsSource s
   pub which : (s ≡ first_value) ⊎ IsKept scope s
   pub does : (own : Setting) → IsSetting own → own.places ≡ places → (values : Values) → AreHolders scope → (f : ℕ → ℕ) (memory : List ℕ) (funcs : Planes)
@@ -50,9 +51,10 @@ pub record MakesValue (old new : List ℕ) (places : Places) (scope : List Held)
 
 -- ---- stores
 
--- what the value takes, and where both indexes are sums their terms with an access
+-- What the value and the indexes take, and an access: with 12 words for the address of a point whose indexes stand in registers, and 5 for what
+-- waits in a lane while what comes next is made.
 abbrev pub store_words : Store → ℕ
-store_words store = value_words store.x + value_words store.y + value_words store.value + 14
+store_words store = size store.x + size store.y + size store.value + 18
 
 -- its indexes are sums, its loop variables have registers, and the stack or the frame has room for its value
 pub record FitsDirect (places : Places) (scope : List Held) (store : Store) : Type 0 where
@@ -63,13 +65,14 @@ pub record FitsDirect (places : Places) (scope : List Held) (store : Store) : Ty
   pub value_held : are_held scope store.value ≡ true
   pub room : FitsFrame places.frames store.value 0
 
--- The stack has room for its indexes beside its value, its loop variables have registers, and the stack or the frame has room for its value.
+-- Its loop variables have registers, the stack or the frame has room for each of its expressions alone, and no lanes are configured for the scope.
 pub record FitsStore (places : Places) (scope : List Held) (store : Store) : Type 0 where
-  pub column : FitsStack store.x 21
-  pub row : FitsStack store.y 22
+  pub registers : are_registers scope ≡ true
   pub column_held : are_held scope store.x ≡ true
   pub row_held : are_held scope store.y ≡ true
   pub value_held : are_held scope store.value ≡ true
+  pub column_room : FitsFrame places.frames store.x 0
+  pub row_room : FitsFrame places.frames store.y 0
   pub room : FitsFrame places.frames store.value 0
 
 -- Appended code does a store, where the registers hold the scope's forms, and keeps these registers.

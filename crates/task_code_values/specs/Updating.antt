@@ -8,6 +8,7 @@ use Rattle.halide_pipeline.specs.Words as word
 use Rattle.loop_ir.specs.declared.expressions.Expr.{Expr}
 use Rattle.loop_ir.specs.Counters.{Values}
 use Rattle.loop_ir.specs.Expressions.{value, loads}
+use Rattle.loop_ir.specs.Sizes.{size}
 use Rattle.multi_hart_logic.specs.Alone.{World}
 use Rattle.task_code_scalar.specs.declared.places.Places.{Places}
 use Rattle.task_code_scalar.specs.Evaluation.{Loads}
@@ -15,7 +16,6 @@ use Rattle.task_code_scalar.specs.Words.{Emits}
 use Rattle.task_code_registers.specs.declared.scopes.Held.{Held}
 use Rattle.task_code_registers.specs.Scopes.{Knows, AreHolders}
 use Rattle.task_code_values.specs.Making.{Leaves}
-use Rattle.task_code_values.specs.Sizes.{value_words}
 use Rattle.task_code_values.specs.Spilling.{second_value}
 
 -- The second value becomes what an operation makes of it and of an expression, wherever the scope's registers hold their forms and memory what
@@ -23,7 +23,7 @@ use Rattle.task_code_values.specs.Spilling.{second_value}
 pub record Changes (old new : List ℕ) (places : Places) (scope : List Held) (operation : Operation) (other : Expr) : Type 0 where
   pub insns : List Insn
   pub emits : Emits old new insns
-  pub short : length insns ≤ value_words other + 4
+  pub short : length insns ≤ size other + 4
   pub does : (world : World) (memory : List ℕ) (values : Values) (reads : Reads) (f : ℕ → ℕ) → length memory ≡ world.size → AreHolders scope
       → Knows world.hart scope values f → AllByRecursion (Loads world places memory reads) (loads reads values other) → f second_value < 2 ^ 32
       → Leaves world memory insns f second_value second_value (word.applied operation (f second_value) (value reads values other))

@@ -6,7 +6,7 @@ ghost use Rattle.loop_ir.specs.Needs.{need_of};
 ghost use Rattle.task_code_scalar.specs.Faults.{IsFault};
 ghost use Rattle.task_code_registers.specs.Registers.{first_value};
 ghost use Rattle.task_code_values.specs.Operands.{FitsOperand, IsLeafPlace, IsSum, MakesIndex, MakesOperand};
-ghost use Rattle.task_code_values.specs.Sizes.{are_held};
+ghost use Rattle.task_code_values.specs.Variables.{are_held};
 
 use crate::immediates::{emit_immediate, immediate_of};
 use crate::operands::{emit_number_operand, emit_sum_operand};

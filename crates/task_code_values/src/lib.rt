@@ -10,6 +10,7 @@
 //! - [`scatters`]: appends what makes the address of a point for a store (`specs/Scattering.antt`).
 //! - [`sites`]: what stands around the appended code.
 //! - [`frames`]: appends what keeps a register in a word of the hart's frame, and loads it again.
+//! - [`parking`]: appends what keeps one in a lane (`specs/Parking.antt`).
 //! - [`expressions`]: appends what leaves an expression's value in a register (`specs/Operands.antt`).
 //! - [`spilling`]: the same where the registers do not suffice and values wait in the hart's frame.
 //! - [`needs`]: how many registers that takes; [`depths`]: for how many first operands the stack has too few.
@@ -25,6 +26,7 @@ mod immediates;
 pub mod needs;
 pub mod operands;
 pub mod operations;
+mod parking;
 mod points;
 mod scatters;
 pub mod sites;

@@ -1,9 +1,9 @@
 //! Numbers and sums of loop variables as operands.
 
-ghost use Rattle.std.specs.Prelude.{◌≡◌, IfErr, IfOk, OnOk, true};
+ghost use Rattle.std.specs.Prelude.{◌≡◌, ◌+◌, ◌*◌, IfErr, IfOk, OnOk, length, true};
 ghost use Rattle.loop_ir.specs.Expressions.{linear_value};
 ghost use Rattle.task_code_scalar.specs.Faults.{IsFault};
-ghost use Rattle.task_code_registers.specs.Emitting.{MakesFormAddress, MakesValue, sum_words};
+ghost use Rattle.task_code_registers.specs.Emitting.{MakesFormAddress, MakesValue};
 ghost use Rattle.task_code_registers.specs.Registers.{IsPlace};
 ghost use Rattle.task_code_registers.specs.Scopes as spec;
 ghost use Rattle.task_code_values.specs.Making.{MakesHeld};
@@ -122,7 +122,7 @@ pub fn emit_sum_operand(
     r: u8,
 ) -> Result<u8, CodeFault>
     requires { IsPlace r }
-    ensures ok { IfOk result (λ s. MakesHeld code.old.items code.new.items (sum_words own.now.terms)
+    ensures ok { IfOk result (λ s. MakesHeld code.old.items code.new.items (2 + 4 * length own.now.terms)
         scope.now r s (λ hart values. linear_value values own.now)) }
     ensures err { IfErr result (IsFault ⊥ (spec.have_registers scope.now own.now.terms ≡ true → ⊥)) }
 {

@@ -23,7 +23,11 @@ use task_code_scalar::instructions::{alu, alu_small, put, register, shift};
 const SIGN_BIT: u8 = 31;
 
 /// Appends what leaves the second of two registers where the scratch register is 1, and the first where it is 0.
-fn emit_blend(code: &mut Vec<u32>, r: u8, a: u8, b: u8) -> Result<(), AllocError>
+///
+/// # Errors
+///
+/// Memory ran out.
+pub fn emit_blend(code: &mut Vec<u32>, r: u8, a: u8, b: u8) -> Result<(), AllocError>
     requires { IsPlace r × (IsSource a × IsSource b) }
     ensures { OnOk result (Blends code.old.items code.new.items r a b) }
 {

@@ -1,6 +1,6 @@
 //! Addresses of points whose indexes may be computed.
 
-ghost use Rattle.std.specs.Prelude.{◌≡◌, ◌+◌, ◌*◌, ◌%◌, ◌^◌, IfErr, IfOk, OnOk, true};
+ghost use Rattle.std.specs.Prelude.{◌≡◌, ◌*◌, ◌%◌, ◌^◌, IfErr, IfOk, OnOk, true};
 ghost use Rattle.task_code_scalar.specs.Code.{pixel_bytes};
 ghost use Rattle.task_code_scalar.specs.Faults.{IsFault};
 ghost use Rattle.task_code_registers.specs.Emitting.{Makes};
@@ -10,6 +10,7 @@ ghost use Rattle.task_code_values.specs.Operands.{StandsIn};
 ghost use Rattle.task_code_values.specs.Points.{HaveIndex};
 ghost use Rattle.task_code_values.specs.Scattering as spec;
 ghost use Rattle.task_code_values.specs.Scattering.{HasSource, IsSumPart, ReachesBehind, ReachesPoint};
+ghost use Rattle.task_code_values.specs.Scattering.{StandsBeside};
 
 use crate::accesses::bytes_of;
 use crate::operands::emit_reached_address;
@@ -43,7 +44,7 @@ fn sum_part(alloc: Global, index: &Index) -> Result<Linear, AllocError>
 fn emit_columns(code: &mut Vec<u32>, place: &Place, column: &Index, r: u8) -> Result<(), AllocError>
     requires place { IsStack r }
     requires source { HasSource column.now }
-    ensures { OnOk result (Makes code.old.items code.new.items 2 r
+    ensures { OnOk result (Makes code.old.items code.new.items (spec.column_words column.now) r
         (λ f. (spec.register_part column.now f * pixel_bytes place.now.pixels) % 2 ^ 32)) }
 {
     match column {
@@ -98,7 +99,7 @@ fn reach_behind(
 }
 
 /// Appends what makes the address of the point at two indexes: it is r and the offset that is returned. A row that
-/// stands in a register stands above r.
+/// stands in a register stands in another one than r.
 ///
 /// # Errors
 ///
@@ -112,7 +113,7 @@ pub fn reach_point(
 ) -> Result<u32, CodeFault>
     requires place { IsStack r }
     requires first { StandsIn buffer.now.scope.now r point.now.column }
-    requires second { StandsIn buffer.now.scope.now (r + 1) point.now.row }
+    requires second { StandsBeside buffer.now.scope.now r point.now.row }
     ensures ok { IfOk result (ReachesPoint code.old.items code.new.items buffer.now.scope.now buffer.now.place.now
         point.now.column point.now.row r) }
     ensures err { IfErr result (IsFault ⊥ (HaveIndex buffer.now.scope.now point.now.column

@@ -4,7 +4,7 @@ ghost use Rattle.std.specs.Prelude.{◌≡◌, ◌+◌, ◌≤◌, IfErr, IfOk, 
 ghost use Rattle.task_code_scalar.specs.Faults.{FitsFrame, IsFault};
 ghost use Rattle.task_code_registers.specs.Registers.{first_value};
 ghost use Rattle.task_code_values.specs.Depths.{depth};
-ghost use Rattle.task_code_values.specs.Sizes.{are_held};
+ghost use Rattle.task_code_values.specs.Variables.{are_held};
 ghost use Rattle.task_code_values.specs.Spilling.{FitsPair, FitsSecond, IsDeep, IsFirst, MakesBoth, MakesRow, Pairs};
 ghost use Rattle.task_code_values.specs.Storing.{MakesValue};
 

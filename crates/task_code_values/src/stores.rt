@@ -3,8 +3,10 @@
 ghost use Rattle.std.specs.Prelude.{◌≡◌, IfErr, IfOk, OnOk, true};
 ghost use Rattle.task_code_scalar.specs.Faults.{FitsFrame, FitsStack, IsFault};
 ghost use Rattle.loop_ir.specs.Needs.{need_of};
+ghost use Rattle.task_code_registers.specs.Scopes as scopes;
 ghost use Rattle.task_code_values.specs.Operands.{IsSum};
-ghost use Rattle.task_code_values.specs.Sizes.{are_held};
+ghost use Rattle.task_code_values.specs.Parking.{MakesPoint};
+ghost use Rattle.task_code_values.specs.Variables.{are_held};
 ghost use Rattle.task_code_values.specs.Spilling as spec;
 ghost use Rattle.task_code_values.specs.Storing.{FitsDirect, FitsStore, MakesStore, MakesValue};
 
@@ -13,7 +15,8 @@ use crate::depths::STACK;
 use crate::expressions::{emit_index, sum_of};
 use crate::needs::{is_leaf, need};
 use crate::operands::emit_reached_address;
-use crate::points::PointIndexes;
+use crate::parking::{emit_park, emit_parking, emit_unpark};
+use crate::points::{Index, PointIndexes};
 use crate::scatters::reach_point;
 use crate::sites::{BufferSite, Site};
 use crate::spilling::{SECOND_VALUE, THIRD_VALUE, emit_deep};
@@ -24,7 +27,7 @@ use loop_ir::statements::Store;
 use std::alloc::Global;
 use task_code_registers::points::point_form;
 use task_code_registers::registers::ADDRESS;
-use task_code_registers::scopes::Held;
+use task_code_registers::scopes::{Held, are_registers};
 use task_code_scalar::CodeFault;
 use task_code_scalar::expressions::place_of;
 use task_code_scalar::places::Places;
@@ -165,12 +168,66 @@ fn emit_computed(
     }
 }
 
+/// Appends what makes the address of the point of a store, where no lanes are configured: it is the second value and
+/// the offset that is returned. The column waits in a lane while the row is made.
+fn emit_store_point(
+    alloc: Global,
+    code: &mut Vec<u32>,
+    site: &Site<'_>,
+    store: &Store,
+) -> Result<u32, CodeFault>
+    requires { scopes.are_registers site.now.scope.now ≡ true }
+    ensures ok { IfOk result (λ offset. MakesPoint code.old.items code.new.items site.now.places.now site.now.scope.now
+        offset store.now) }
+    ensures err { IfErr result (IsFault ⊥ (FitsStore site.now.places.now site.now.scope.now store.now → ⊥)) }
+{
+    let place = place_of(site.places, Source::Func(store.func));
+    emit_parking(code)?;
+    let first = emit_value(alloc, code, site.places, site.scope, &store.x)?;
+    emit_park(code, first)?;
+    let second = emit_value(alloc, code, site.places, site.scope, &store.y)?;
+    emit_unpark(code, SECOND_VALUE)?;
+    let column = Index::Register(SECOND_VALUE);
+    let row = Index::Register(second);
+    let point = PointIndexes { column, row };
+    let buffer = BufferSite {
+        place: &place,
+        scope: site.scope,
+    };
+    let offset = reach_point(alloc, code, &buffer, &point, SECOND_VALUE)?;
+    Ok(offset)
+}
+
+/// Appends a store whose indexes and value the stack or the frame has room for alone: what comes first waits in a lane
+/// while what comes next is made.
+fn emit_parked(
+    alloc: Global,
+    code: &mut Vec<u32>,
+    site: &Site<'_>,
+    store: &Store,
+) -> Result<(), CodeFault>
+    ensures ok { OnOk result (MakesStore code.old.items code.new.items site.now.places.now site.now.scope.now
+        store.now) }
+    ensures err { IfErr result (IsFault ⊥ (FitsStore site.now.places.now site.now.scope.now store.now → ⊥)) }
+{
+    if !are_registers(site.scope) {
+        return Err(CodeFault::TooDeep);
+    }
+    let offset = emit_store_point(alloc, code, site, store)?;
+    emit_park(code, SECOND_VALUE)?;
+    let s = emit_value(alloc, code, site.places, site.scope, &store.value)?;
+    emit_unpark(code, ADDRESS)?;
+    emit_save(code, ADDRESS, s, offset)?;
+    Ok(())
+}
+
 /// Appends a store.
 ///
 /// # Errors
 ///
-/// Memory ran out, the value or an index beside it needs more registers than there are, or a loop variable has no
-/// register and no form is near.
+/// Memory ran out, the value or an index needs more registers than there are and more words than a hart's frame has, a
+/// loop variable has no register and no form is near, or lanes are configured and an index beside the value needs more
+/// registers than there are.
 pub fn emit_store(
     alloc: Global,
     code: &mut Vec<u32>,
@@ -187,7 +244,8 @@ pub fn emit_store(
         return Ok(());
     }
     if need(&store.x) > COLUMN_STACK || need(&store.y) > ROW_STACK {
-        return Err(CodeFault::TooDeep);
+        emit_parked(alloc, code, &site, store)?;
+        return Ok(());
     }
     emit_computed(alloc, code, &site, store)?;
     Ok(())

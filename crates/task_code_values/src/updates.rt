@@ -5,7 +5,7 @@ ghost use Rattle.halide_pipeline.specs.declared.expressions.Source.TheVariants a
 ghost use Rattle.loop_ir.specs.declared.expressions.Expr.TheVariants as expressions;
 ghost use Rattle.task_code_scalar.specs.Faults.{FitsStack, IsFault};
 ghost use Rattle.task_code_values.specs.Operands.{FitsOperand};
-ghost use Rattle.task_code_values.specs.Sizes.{are_held};
+ghost use Rattle.task_code_values.specs.Variables.{are_held};
 ghost use Rattle.task_code_values.specs.Storing.{FitsStore, MakesStore};
 ghost use Rattle.task_code_values.specs.Updating.{Changes};
 

@@ -52,8 +52,8 @@ returns-clause-sizes c =
     let flags_are = c.as_slice-2.ensures.value ∙ (c.in_ok-flags.ensures ∙ ap flags_of (c.as_slice-standings.ensures
     ∙ ap (λ (s : Schedule). s.standings) c.schedule-schedule.ensures.value)) in
     let short = subst AreShort (sym c.as_slice-3.ensures.value) c.in_ok-corners.ensures.short in
-    subst (λ (l : List Func). whole_size c.in_ok-made.made + 12 ≤ 64 * counted (flags_of c.args.plan.now.schedule.standings) l c.args.computed.now.place
+    subst (λ (l : List Func). whole_size c.in_ok-made.made + 8 ≤ 64 * counted (flags_of c.args.plan.now.schedule.standings) l c.args.computed.now.place
     c.args.computed.now.func.now.pure) (c.funcs-funcs.ensures.value ∙ ap (λ (p : Pipeline). p.funcs) c.pipeline.ensures.value)
-    (subst (λ (f : List Bool). whole_size c.in_ok-made.made + 12 ≤ 64 * counted f c.funcs-funcs.result.now c.args.computed.now.place
+    (subst (λ (f : List Bool). whole_size c.in_ok-made.made + 8 ≤ 64 * counted f c.funcs-funcs.result.now c.args.computed.now.place
     c.args.computed.now.func.now.pure) flags_are
     (c.in_ok-made.ensures.sizes short c.in_ok-corner.ensures.short))

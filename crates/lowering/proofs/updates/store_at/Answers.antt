@@ -38,9 +38,9 @@ returns-clause-stores c =
 
 pub returns-clause-sizes : goal.returns-clause-sizes
 returns-clause-sizes c = λ short few.
-    subst (λ (l : List Func). whole_size c.in_ok-made.made + 12 ≤ 64 * update_counted (flags_of c.args.plan.now.schedule.standings) l
+    subst (λ (l : List Func). whole_size c.in_ok-made.made + 8 ≤ 64 * update_counted (flags_of c.args.plan.now.schedule.standings) l
     c.args.of.now.computed.place c.args.of.now.update.now) (c.funcs.ensures.value ∙ ap (λ (p : Pipeline). p.funcs) c.pipeline.ensures.value)
-    (subst (λ (f : List Bool). whole_size c.in_ok-made.made + 12 ≤ 64 * update_counted f c.funcs.result.now c.args.of.now.computed.place
+    (subst (λ (f : List Bool). whole_size c.in_ok-made.made + 8 ≤ 64 * update_counted f c.funcs.result.now c.args.of.now.computed.place
     c.args.of.now.update.now)
     (c.as_slice-2.ensures.value ∙ (c.in_ok-flags.ensures ∙ ap flags_of (c.as_slice.ensures ∙ ap (λ (s : Schedule). s.standings) c.schedule.ensures.value)))
     (c.in_ok-made.ensures.sizes short few))

@@ -13,6 +13,7 @@ returns-then-found-eq0 c =
 
 pub returns : goal.returns
 returns c =
-    held-made c.args.scope.now (sum_words c.args.form.now.sum.terms) (sum_words c.args.form.now.sum.terms) _ _ _
+    let n = sum_words c.args.form.now.per_hart c.args.form.now.sum.terms in
+    held-made c.args.scope.now n n _ _ _
     (λ hart values. form_value hart values c.args.form.now)
     ((omega arith, omega arith), ((λ g. omega (arith, g)), (λ g. omega (arith, g)))) (omega arith) c.in_ok-emit_reached.ensures.ok

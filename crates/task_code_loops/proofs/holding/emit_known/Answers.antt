@@ -1,11 +1,12 @@
 use Rattle.std.proofs.Common.{subst}
 use Rattle.std.specs.Prelude.{IfSome}
-use Rattle.task_code_registers.specs.Emitting.{IsNear}
+use Rattle.task_code_registers.specs.Emitting.{IsNear, IsWorth}
 use Rattle.task_code_registers.proofs.Summing.{near-form}
 use Rattle.task_code_loops.proofs.holding.emit_known.Goals as goal
 
 pub returns-in_ok-emit_plus-in-Some-clause-yes : goal.returns-in_ok-emit_plus-in-Some-clause-yes
 returns-in_ok-emit_plus-in-Some-clause-yes c = λ made.
     near-form c.args.scope.now c.args.form.now c.in-Some.found.register c.in-Some.found.number c.args.register _ _
-    (subst (λ o. IfSome o (λ at. IsNear c.args.scope.now c.args.form.now at.register at.number)) c.in-Some.is c.in_ok-found.ensures)
-    c.in_ok-emit_plus-in-Some.ensures
+    (subst (λ o. IfSome o (λ at. IsNear c.args.scope.now c.args.form.now at.register at.number)) c.in-Some.is c.in_ok-found.ensures.near)
+    (subst (λ o. IfSome o (λ at. IsWorth c.args.form.now at.number)) c.in-Some.is c.in_ok-found.ensures.worth)
+    c.in_ok-emit_plus-in-Some.ensures.any c.in_ok-emit_plus-in-Some.ensures.small

@@ -15,8 +15,9 @@ returns-in-None-2-clause-ok c =
 
 pub returns-in-None-clause-ok : goal.returns-in-None-clause-ok
 returns-in-None-clause-ok c =
-    let more : 10 ≤ 10 + 2 * sum_words c.args.form.now.sum.terms = omega arith in
-    tests-fewer c.args.bound.counter c.args.bound.count c.args.scope.now c.args.reserved 10 (10 + 2 * sum_words c.args.form.now.sum.terms) _ _ _ _ more
+    let n = sum_words c.args.form.now.per_hart c.args.form.now.sum.terms in
+    let more : 10 ≤ 10 + 2 * n = omega arith in
+    tests-fewer c.args.bound.counter c.args.bound.count c.args.scope.now c.args.reserved 10 (10 + 2 * n) _ _ _ _ more
     (c.in_ok-hold_known.ensures.none c.in-None.is) c.in_ok-tested-in-None.ensures.ok
 
 pub returns-clause-ok : goal.returns-clause-ok

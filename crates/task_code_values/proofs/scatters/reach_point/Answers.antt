@@ -1,5 +1,5 @@
 use Rattle.task_code_scalar.proofs.Refusing.{passed}
-use Rattle.task_code_values.proofs.Scattering.{point-reached, source-of}
+use Rattle.task_code_values.proofs.Scattering.{point-reached, source-of, source-beside}
 use Rattle.task_code_values.proofs.scatters.reach_point.Goals as goal
 
 pub returns-clause-ok : goal.returns-clause-ok
@@ -18,4 +18,4 @@ pub emit_columns-requires-clause-source : goal.emit_columns-requires-clause-sour
 emit_columns-requires-clause-source c = source-of c.args.buffer.now.scope.now c.args.r c.args.point.now.column c.requires.first
 
 pub emit_rows_added-requires-clause-source : goal.emit_rows_added-requires-clause-source
-emit_rows_added-requires-clause-source c = source-of c.args.buffer.now.scope.now _ c.args.point.now.row c.requires.second
+emit_rows_added-requires-clause-source c = source-beside c.args.buffer.now.scope.now c.args.r c.args.point.now.row c.requires.second

@@ -1,4 +1,5 @@
 use Rattle.task_code_scalar.proofs.Refusing.{passed}
+use Rattle.task_code_values.proofs.Scattering.{stands-above}
 use Rattle.task_code_values.proofs.Updating.{update-made, other-held}
 use Rattle.task_code_values.proofs.updates.emit_update.Goals as goal
 
@@ -14,3 +15,6 @@ returns-clause-ok c =
     c.in_ok-column.column
     c.in_ok-row.row c.in_ok-offset.offset _ _ _ _ _ _ _ c.requires.is c.place_of-place.ensures c.in_ok-column.ensures.ok c.in_ok-row.ensures.ok
     c.in_ok-offset.ensures.ok c.in_ok-emit_fetch.ensures c.in_ok-emit_change.ensures.ok c.in_ok-emit_save.ensures
+
+pub reach_point-requires-clause-second : goal.reach_point-requires-clause-second
+reach_point-requires-clause-second c = stands-above c.args.site.now.scope.now 20 c.in_ok-row.row c.in_ok-row.ensures.ok.stands
