@@ -5,10 +5,11 @@
 
 ghost use Rattle.std.specs.Prelude.{◌≡◌, ◌+◌, ◌<◌, ◌≤◌, ◌^◌, length, IfOk, None};
 
+use crate::limits;
 use hrv_engines::Sink;
 use std::alloc::{AllocError, Global};
 use std::fs::{OpenFile, OpenOptions, Permissions};
-use std::io::Write;
+use std::io::{Seek, Write};
 use std::rt::Files;
 use std::{fs, io};
 
@@ -52,7 +53,7 @@ impl<'a, R: Files> FileSink<'a, R> {
         ensures failures { self.new.failures ≡ self.old.failures }
     {
         if let Some(file) = &mut self.file {
-            return file.write(bytes);
+            return write_within(self.rt, file, bytes);
         }
         self.begin(bytes)
     }
@@ -77,7 +78,7 @@ impl<'a, R: Files> FileSink<'a, R> {
         if let Standing::File(permissions) = standing {
             file.set_permissions(permissions)?;
         }
-        let count = file.write(bytes)?;
+        let count = write_within(self.rt, &mut file, bytes)?;
         self.file = Some(file);
         Ok(count)
     }
@@ -141,11 +142,23 @@ fn begin_in_place<R: Files>(rt: &R, path: &str, bytes: &[u8]) -> io::Result<(R::
     ensures { IfOk result (λ begun. begun.1 ≤ length bytes.now) }
 {
     let mut file = OpenOptions::new().write(true).create(true).open(rt, path)?;
-    let count = file.write(bytes)?;
+    let count = write_within(rt, &mut file, bytes)?;
     if count > 0 {
         cut(&file, count as u64)?;
     }
     Ok((file, count))
+}
+
+/// Writes bytes to a file, if the limit on the size of files lets it take them all, and says how many.
+fn write_within<R: Files, F: Write + OpenFile + Seek>(
+    rt: &R,
+    file: &mut F,
+    bytes: &[u8],
+) -> io::Result<usize>
+    ensures { IfOk result (λ n. n ≤ length bytes.now) }
+{
+    limits::admit(rt, file, bytes.len() as u64)?;
+    file.write(bytes)
 }
 
 /// Cuts off what a file holds behind so many bytes. What is no regular file, as a terminal or a pipe, has no length.

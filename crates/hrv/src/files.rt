@@ -7,6 +7,7 @@ ghost use Rattle.std.specs.Prelude.{◌≡◌, ◌≤◌, length, codes, IfOk};
 
 use crate::dispatch::Devices;
 use crate::file_sinks::FileSink;
+use crate::limits::{self, Stream};
 use hrv_engines::{Sink, Source};
 use std::alloc::Global;
 use std::io::{Read, Write};
@@ -183,21 +184,29 @@ impl<R: Input> Source for StandardInput<R> {
 
 /// Standard output. Its path is `-`.
 #[derive(Drop)]
-pub struct StandardOutput<'a, P: Print> {
-    rt: &'a P,
+pub struct StandardOutput<'a, R: Files + Print> {
+    rt: &'a R,
     failures: u64,
 }
 
-impl<'a, P: Print> StandardOutput<'a, P> {
+impl<'a, R: Files + Print> StandardOutput<'a, R> {
     /// Standard output before any write.
-    pub fn new(rt: &'a P) -> StandardOutput<'a, P>
+    pub fn new(rt: &'a R) -> StandardOutput<'a, R>
         ensures { result.failures ≡ 0 }
     {
         StandardOutput { rt, failures: 0 }
     }
+
+    /// How many bytes standard output took.
+    fn try_write(&self, bytes: &[u8]) -> io::Result<usize>
+        ensures { IfOk result (λ n. n ≤ length bytes.now) }
+    {
+        limits::admit_standard(self.rt, Stream::Output, bytes.len() as u64)?;
+        io::writer(self.rt).write(bytes)
+    }
 }
 
-impl<'a, P: Print> Sink for StandardOutput<'a, P> {
+impl<'a, R: Files + Print> Sink for StandardOutput<'a, R> {
     ghost place = { λ _. codes "-" };
 
     ghost failed = { λ s. s.failures };
@@ -217,7 +226,7 @@ impl<'a, P: Print> Sink for StandardOutput<'a, P> {
     }
 
     fn write(&mut self, bytes: &[u8]) -> io::Result<usize> {
-        let count = io::writer(self.rt).write(bytes);
+        let count = self.try_write(bytes);
         match count {
             Ok(0) if !bytes.is_empty() => self.failures += 1,
             Ok(_) => {}

@@ -6,6 +6,7 @@
 //! - [`dispatch`]: the engine of a command over the devices that the words name; [`dispatch::obey`], over
 //!   `specs/Dispatch.antt`.
 //! - [`files`], [`file_sinks`]: the system's files and standard input and output, as devices.
+//! - [`limits`]: the limit on the size of files, asked before each write.
 //! - [`streams`]: what stands where a standard stream is closed.
 //! - [`failures`]: why the program gives no answer, and its exit status.
 #![tactic(auto)]
@@ -14,11 +15,13 @@ mod dispatch;
 mod failures;
 mod file_sinks;
 mod files;
+mod limits;
 mod streams;
 
 use crate::dispatch::obey;
 use crate::failures::Failure;
 use crate::files::System;
+use crate::limits::{Stream, admit_standard, line_length};
 use crate::streams::open_closed_streams;
 use hrv_command_line::{CommandLineFault, command};
 use std::process::ExitCode;
@@ -39,8 +42,8 @@ fn main(rt: HostRuntime) -> ExitCode {
     match answered {
         Ok(()) => ExitCode::SUCCESS,
         Err(failure) => {
-            // Where standard error is closed, the status still tells.
-            let _ = eprintln!(rt; "{failure}");
+            // Where standard error takes no line, the status still tells.
+            let _ = report(&rt, &failure);
             ExitCode::from(failure.status())
         }
     }
@@ -64,4 +67,10 @@ fn word_fault(error: io::Error) -> CommandLineFault {
         io::ErrorKind::OutOfMemory => CommandLineFault::Memory,
         _ => CommandLineFault::NotText,
     }
+}
+
+/// Prints a failure's line on standard error, if the limit on the size of files lets it take the line.
+fn report<R: Files + Eprint>(rt: &R, failure: &Failure) -> io::Result<()> {
+    admit_standard(rt, Stream::Errors, line_length(failure))?;
+    eprintln!(rt; "{failure}")
 }
