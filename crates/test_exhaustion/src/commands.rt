@@ -1,0 +1,201 @@
+//! Commands over devices in memory, each with its files.
+
+ghost use Rattle.std.specs.Prelude.{◌≡◌};
+
+use hrv_engines::{
+    Fault, Question, Resources, asm_bytes, blame_bytes, compile_bytes, debug_bytes,
+    dis_addresses_bytes, dis_bytes, map_bytes, picture_bytes, renew_bytes, replay_bytes,
+    resume_bytes, run_bytes,
+};
+use std::alloc::{AllocError, Global};
+use std::sync::Wait;
+use std::thread::Threads;
+use test_devices::{Page, Tape, empty_page, tape_of};
+
+/// A source of two words of text and one of data.
+const SOURCE: &[u8] = b"start: li x5,-1\nbeq x5,x0,start\n.data\n.word 7\n";
+
+/// A blur of eight pixels, by vectors, and its input.
+const ALGORITHM: &[u8] =
+    b"input in 8\nfunc b(x) = (in(clamp(x-1,0,7)) + in(x) + in(clamp(x+1,0,7))) / 3\noutput b 8\n";
+
+const SCHEDULE: &[u8] = b"b split x xo xi 4 guard\nb vectorize xi\n";
+
+const INPUT: &[u8] = b"picture 8 1\n0 3 6 9 12 15 18 21\n";
+
+/// Lines of a talk.
+const LINES: &[u8] =
+    b"goto 40\nwatch 0x00200008\nreverse\nforward\nbreak 0x00010004\nback\nstatus\n";
+
+/// How many turns a run makes at most.
+const TURNS: u64 = 10_000;
+
+/// A command of the program.
+#[derive(Clone, Copy, Debug)]
+pub enum Command {
+    Assemble,
+    Compile,
+    Renew,
+    List,
+    ListAddresses,
+    Run,
+    Resume,
+    Replay,
+    Debug,
+    Blame,
+    Map,
+    Draw,
+}
+
+/// All commands that want memory.
+pub const COMMANDS: [Command; 12] = [
+    Command::Assemble,
+    Command::Compile,
+    Command::Renew,
+    Command::List,
+    Command::ListAddresses,
+    Command::Run,
+    Command::Resume,
+    Command::Replay,
+    Command::Debug,
+    Command::Blame,
+    Command::Map,
+    Command::Draw,
+];
+
+/// What a command writes: an image or standard output, and the log of a run.
+#[derive(Drop)]
+pub struct Written {
+    pub out: Page,
+    pub log: Page,
+}
+
+impl Written {
+    /// Nothing.
+    pub fn new(alloc: Global) -> Written {
+        Written {
+            out: empty_page(alloc),
+            log: empty_page(alloc),
+        }
+    }
+
+    /// Nothing, with the room that there is.
+    fn clear(&mut self)
+        ensures out { self.new.out.failures ≡ 0 }
+        ensures log { self.new.log.failures ≡ 0 }
+    {
+        self.out.bytes.clear();
+        self.out.failures = 0;
+        self.log.bytes.clear();
+        self.log.failures = 0;
+    }
+}
+
+/// The files that commands read beside texts: a compiled image and the log of its run.
+#[derive(Drop)]
+pub struct Files {
+    image: Vec<u8>,
+    log: Vec<u8>,
+}
+
+impl Files {
+    /// The files, by the commands that write them.
+    pub fn new<R: Threads + Wait + Sync>(resources: &Resources<'_, R>) -> Result<Files, Fault> {
+        let alloc = resources.alloc;
+        let mut written = Written::new(alloc);
+        let mut files = Files {
+            image: Vec::new(alloc),
+            log: Vec::new(alloc),
+        };
+        files.answer(resources, Command::Compile, &mut written)?;
+        files.image = written.out.bytes.clone()?;
+        files.answer(resources, Command::Run, &mut written)?;
+        files.log = written.log.bytes.clone()?;
+        Ok(files)
+    }
+
+    /// What a command answers, and writes.
+    pub fn answer<R: Threads + Wait + Sync>(
+        &self,
+        resources: &Resources<'_, R>,
+        command: Command,
+        written: &mut Written,
+    ) -> Result<(), Fault> {
+        written.clear();
+        let alloc = resources.alloc;
+        let Written { out, log } = written;
+        let (image, old) = (&mut self.image(), &mut self.log());
+        match command {
+            Command::Assemble => asm_bytes(alloc, &mut tape_of("source", SOURCE), out),
+            Command::Compile => compile(alloc, out),
+            Command::Renew => renew_bytes(alloc, image, out),
+            Command::List => dis_bytes(alloc, image, out),
+            Command::ListAddresses => dis_addresses_bytes(alloc, image, out),
+            Command::Run => run_bytes(resources, image, log, out, 1, TURNS),
+            Command::Resume => resume_bytes(resources, image, old, log, out, TURNS),
+            Command::Replay => replay_bytes(alloc, image, old, out),
+            Command::Debug => { debug_bytes(alloc, image, old, &mut tape_of("lines", LINES), out) }
+            Command::Blame => blame_bytes(alloc, image, old, PIXELS, out),
+            Command::Map => map_bytes(alloc, &mut algorithm(), &mut schedule(), out),
+            Command::Draw => draw(resources, out),
+        }
+    }
+
+    fn image(&self) -> Tape<'_>
+        ensures { result.failures ≡ 0 }
+    {
+        tape_of("image", &self.image)
+    }
+
+    fn log(&self) -> Tape<'_>
+        ensures { result.failures ≡ 0 }
+    {
+        tape_of("log", &self.log)
+    }
+}
+
+/// Which hart wrote each pixel last.
+const PIXELS: Question<'static> = Question {
+    x: None,
+    y: None,
+    address: None,
+    with_turns: false,
+};
+
+fn algorithm() -> Tape<'static>
+    ensures { result.failures ≡ 0 }
+{
+    tape_of("algorithm", ALGORITHM)
+}
+
+fn schedule() -> Tape<'static>
+    ensures { result.failures ≡ 0 }
+{
+    tape_of("schedule", SCHEDULE)
+}
+
+fn input() -> Tape<'static>
+    ensures { result.failures ≡ 0 }
+{
+    tape_of("input", INPUT)
+}
+
+fn compile(alloc: Global, image: &mut Page) -> Result<(), Fault>
+    requires { image.old.failures ≡ 0 }
+{
+    let mut inputs = [input()];
+    compile_bytes(alloc, &mut algorithm(), &mut schedule(), &mut inputs, image)
+}
+
+fn draw<R: Threads + Wait + Sync>(resources: &Resources<'_, R>, out: &mut Page) -> Result<(), Fault>
+    requires { out.old.failures ≡ 0 }
+{
+    let mut inputs = [input()];
+    picture_bytes(
+        resources.threads,
+        resources.alloc,
+        &mut algorithm(),
+        &mut inputs,
+        out,
+    )
+}
