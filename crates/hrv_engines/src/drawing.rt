@@ -40,8 +40,8 @@ pub fn picture_bytes<A: Source, I: Source, O: Sink>(
 /// Reads all that each source has left, as texts, in their order.
 pub(crate) fn read_texts<S: Source>(alloc: Global, sources: &mut [S]) -> Result<Vec<String>, Fault>
     requires { All (λ source. S.failed source + 1 < 2 ^ 64) sources.old }
-    ensures { Reads (λ texts. map string_bytes texts.items) (picture_texts_of S.place S.failed S.gave S.ended sources.old
-        sources.new) result }
+    ensures { Reads (λ texts. map string_bytes texts.items)
+        (picture_texts_of S.place S.failed S.gave S.ended sources.old sources.new) result }
 {
     let mut texts = Vec::new(alloc);
     for source in sources.iter_mut() {

@@ -21,8 +21,8 @@
 //! | `explain` | `words`: a family, below it a code if there is one; or no part | what it means, or the version |
 //! | `renew` | `image` | the renewed image's bytes, in hexadecimal |
 //! | `replay` | `image`, `log`: lines in hexadecimal | the dump |
-//! | `debug` | `image`, `log`: lines in hexadecimal; `lines` | the talk |
-//! | `blame` | `image`, `log`: lines in hexadecimal; `words`: those behind the files, one each line | who wrote what is asked about |
+//! | `debug` | `image`, `log`; `lines` | the talk |
+//! | `blame` | `image`, `log`; `words`: those behind the files, one each line | who wrote what is asked about |
 //! | `run` | `image`; `turns`: how many a hart makes at most | the log of one hart, in hexadecimal, and the dump |
 //! | `resume` | `image`, `log`; `turns` | the same, from where a log of one hart ends |
 //! | `compile` | `algorithm`, `schedule`, any number of `picture` | the image but for its words, one hart's picture |

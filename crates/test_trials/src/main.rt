@@ -3,11 +3,15 @@
 //! The program reads the files that its arguments name (`test_cases`), and prints each case's kind and name and below
 //! it the answer. `stdout` holds what the rules say of the cases in `data/`; none of it was copied from this program.
 //!
-//! | Kind | Parts | Answer |
-//! |---|---|---|
-//! | `boxes` | `algorithm`, `schedule` | the image's data and output, the phases with their tasks, each address and box |
-//! | `trial` | `algorithm`, `schedule`, a `picture` for each input | the image's data, output and control words, the reference picture, and a line for each other way |
-//! | `assign` | `algorithm`, `schedule`, `assignment`, a `picture` for each input | for each row of the output which harts changed it |
+//! | Kind | Parts |
+//! |---|---|
+//! | `boxes` | `algorithm`, `schedule` |
+//! | `trial` | `algorithm`, `schedule`, a `picture` for each input |
+//! | `assign` | `algorithm`, `schedule`, `assignment`, a `picture` for each input |
+//!
+//! The answer to `boxes` is the image's data and output, the phases with their tasks, each address and box; to `trial`
+//! the image's data, output and control words, the reference picture, and a line for each other way to compute it; to
+//! `assign` which harts changed each row of the output.
 //!
 //! The other ways are loop nests, with the tasks of each phase in rising order, in falling order and from both ends,
 //! and anything in private buffers before each: whether they leave the picture; and the compiled image, on 1, 2, 3 and
