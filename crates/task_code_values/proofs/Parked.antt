@@ -1,5 +1,5 @@
 -- Numbers that wait in a lane, and stores by way of it.
-use Rattle.std.proofs.Common.{◌≡◌, ℕ, ◌+◌, ◌*◌, ◌%◌, ◌^◌, ◌<◌, ◌≤◌, List, [], ◌∷◌, ◌++◌, length, true, refl, ap, ◌∙◌, sym, subst, arith, inl, inr}
+use Rattle.std.proofs.Common.{◌≡◌, ℕ, ◌+◌, ◌%◌, ◌^◌, ◌<◌, List, [], ◌∷◌, ◌++◌, length, true, refl, ap, ◌∙◌, sym, subst, arith, inl, inr}
 use Rattle.std.proofs.Common.{length-append}
 use Rattle.std.specs.Prelude.{◌≢◌, ◌⊎◌}
 use Rattle.std.specs.List.{list_all}
@@ -11,9 +11,8 @@ use Rattle.rv_insn.specs.declared.operations.StoreOp.TheVariants as save_ops
 use Rattle.rv_insn.specs.declared.vector_instructions.VectorInsn.TheVariants as v
 use Rattle.hart_core.specs.Scalar.{plus}
 use Rattle.halide_pipeline.specs.declared.expressions.Source.TheVariants as sources
-use Rattle.halide_pipeline.specs.Pixel.{Planes, reads_of}
+use Rattle.halide_pipeline.specs.Pixel.{reads_of}
 use Rattle.loop_ir.specs.declared.statements.Store.{Store}
-use Rattle.loop_ir.specs.Counters.{Values}
 use Rattle.loop_ir.specs.Expressions.{value, loads}
 use Rattle.loop_ir.specs.Soundness.{store_loads}
 use Rattle.loop_ir.specs.Sizes.{size}
@@ -27,13 +26,12 @@ use Rattle.multi_hart_logic.proofs.VectorRows.{move-vx}
 use Rattle.task_code_scalar.specs.declared.places.Place.{Place}
 use Rattle.task_code_scalar.specs.declared.places.Places.{Places}
 use Rattle.task_code_scalar.specs.Code.{place_of, address, lower}
-use Rattle.task_code_scalar.specs.Doing.{Setting, IsSetting, HoldsFuncs}
 use Rattle.task_code_scalar.specs.Layout.{func_point, address_of}
 use Rattle.task_code_scalar.specs.Words.{Emits}
 use Rattle.task_code_scalar.proofs.Spelling.{emits_then}
 use Rattle.task_code_scalar.proofs.Tracing.{hit-store}
 use Rattle.task_code_lanes.specs.declared.groups.Group.TheVariants as groups
-use Rattle.task_code_lanes.specs.Groups.{registers, vtype_of}
+use Rattle.task_code_lanes.specs.Groups.{vtype_of}
 use Rattle.task_code_lanes.proofs.Configured.{supported, has-lanes, configured-others}
 use Rattle.task_code_lanes.proofs.Rows as rows
 use Rattle.task_code_registers.specs.declared.scopes.Held.{Held}
@@ -42,14 +40,13 @@ use Rattle.task_code_registers.specs.Scopes.{AreHolders, IsKept, are_registers}
 use Rattle.task_code_registers.proofs.Going.{no_hits, Does, went-hits, went-is, still}
 use Rattle.task_code_registers.proofs.Knowing.{kept-low, knows-still, working-free}
 use Rattle.task_code_registers.proofs.Making.{short-then}
-use Rattle.task_code_values.specs.declared.points.Index.{Index}
 use Rattle.task_code_values.specs.declared.points.Index.TheVariants as indexes
 use Rattle.task_code_values.specs.Making.{IsStack, IsBelow}
 use Rattle.task_code_values.specs.Operands.{StandsIn}
-use Rattle.task_code_values.specs.Parking.{parking, HasParking, OpensParking, Parks, Unparks, Pointed, MakesPoint, point_address}
+use Rattle.task_code_values.specs.Parking.{parking, OpensParking, Parks, Unparks, MakesPoint, point_address}
 use Rattle.task_code_values.specs.Scattering.{StandsBeside, ReachesPoint}
 use Rattle.task_code_values.specs.Spilling.{second_value}
-use Rattle.task_code_values.specs.Storing.{MakesValue, MakesStore, store_words}
+use Rattle.task_code_values.specs.Storing.{MakesValue, MakesStore}
 use Rattle.task_code_values.proofs.Pointing.{at-offset, own-word}
 use Rattle.task_code_values.proofs.Saving.{saved, is-single, equal-parts, does-then, deep-does, did-went}
 use Rattle.task_code_values.proofs.Standing.{kept-below}

@@ -1,4 +1,4 @@
-use Rattle.std.proofs.Common.{◌≡◌, ap, sym, ◌∙◌}
+use Rattle.std.proofs.Common.{ap, sym, ◌∙◌}
 use Rattle.loop_ir.specs.Buffers.{planes, points_of}
 use Rattle.loop_ir.specs.Counters.{with}
 use Rattle.loop_ir.specs.Running.{task_values}

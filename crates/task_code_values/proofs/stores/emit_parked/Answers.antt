@@ -1,5 +1,4 @@
 use Rattle.std.proofs.Common.{sym, ◌∙◌}
-use Rattle.std.proofs.lemmas.Bool.{true≢false}
 use Rattle.task_code_scalar.proofs.Refusing.{passed}
 use Rattle.task_code_values.proofs.Parked.{parked-made}
 use Rattle.task_code_values.proofs.stores.emit_parked.Goals as goal
