@@ -1,8 +1,8 @@
 //! The limit on the size of files (`ulimit -f`).
 //!
 //! The system ends a program that writes past it by a signal, and no call here can have a signal ignored. So before a
-//! write to a regular file the limit is read where the system tells it, below `/proc`, and a write that would go past it
-//! fails, as on a full disk. Where `/proc` isn't there, no limit is known.
+//! write to a regular file the limit is read where the system tells it, below `/proc`, and a write that would go past
+//! it fails, as on a full disk. Where `/proc` isn't there, no limit is known.
 
 ghost use Rattle.std.specs.Prelude.{◌+◌, ◌≤◌, ◌↔◌, IsOk};
 
