@@ -2,7 +2,7 @@
 //!
 //! The system ends a program that writes past it by a signal, and no call here can have a signal ignored. So before a
 //! write to a regular file the limit is read where the system tells it, below `/proc`, and a write that would go past
-//! it fails, as on a full disk. Where `/proc` isn't there, no limit is known.
+//! it fails, as on a full disk. Where `/proc` can't be read, no limit is known.
 
 ghost use Rattle.std.specs.Prelude.{◌+◌, ◌≤◌, ◌↔◌, IsOk};
 
@@ -20,7 +20,7 @@ const FILE_SIZE: &str = "Max file size";
 /// How the line begins on where a stream stands.
 const POSITION: &str = "pos:";
 
-/// As many bytes as these files have at most; each is about half as long.
+/// As many bytes of these files are read at most: the lines that are looked for stand among them.
 const MOST: usize = 4096;
 
 /// A standard stream to which a text is written.
@@ -62,8 +62,8 @@ pub fn admit<R: Files, F: OpenFile + Seek>(rt: &R, file: &mut F, count: u64) -> 
     }
 }
 
-/// Lets a standard stream take so many bytes. Those of a regular file are taken to stand behind all that it has, since
-/// nothing here says whether the stream appends.
+/// Lets a standard stream take so many bytes. Those of a regular file are taken to stand behind all that it has, as
+/// they do where the stream appends.
 ///
 /// # Errors
 ///
@@ -89,7 +89,8 @@ pub fn line_length<D: fmt::Display>(value: &D) -> u64 {
     length.0
 }
 
-/// The number behind these words in a short file, at a line's beginning: none for a limit that there isn't.
+/// The number behind these words in a short file, at a line's beginning: none for a limit that there isn't, and where
+/// the file can't be read.
 fn number_behind<R: Files>(rt: &R, path: &str, words: &str) -> Option<u64> {
     let mut bytes = [0; MOST];
     let text = str::from_utf8(front(rt, path, &mut bytes)?).ok()?;

@@ -2,8 +2,8 @@
 
 use std::alloc::{AllocError, Global};
 
-/// How many blocks are taken at most. Of an address space of 2^47 bytes, in blocks of no more than the memory that a
-/// machine has, which is what the system gives at once, a machine of 1 GB has twice as many.
+/// How many blocks are taken at most. The system gives no more than the memory of the machine at once, so that an
+/// address space of 2^47 bytes is at least as many blocks as this on a machine of 1 GB: there the test fails.
 const MOST_BLOCKS: usize = 1 << 17;
 
 /// Sizes of blocks, each halved until it is below the other: the first ones take nearly all there is, the last ones are

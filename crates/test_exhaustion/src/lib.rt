@@ -4,7 +4,7 @@
 //! - [`commands`]: commands over devices in memory, each with its files.
 //! - [`trials`]: what each of them answers with nothing left, and with more and more; the test.
 //!
-//! An allocation is refused that takes more than all before it in its command did;
+//! An allocation is refused that takes memory to a new peak of its command;
 //! [bench/fail_each_allocation](../../../bench/fail_each_allocation) refuses each single one, on many more rows.
 //!
 //! The allocator of `rt try` has memory of its own for each size, so that not all can be taken: there the test fails,

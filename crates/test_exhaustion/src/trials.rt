@@ -11,7 +11,7 @@ use std::thread::Threads;
 /// How often a command is tried at most, with more memory each time.
 const MOST_TRIES: u32 = 1_000;
 
-/// With how many blocks more than the last time, for each block that was given back then.
+/// Each time one block more is given back than the last time, and one more for each so many that were given back then.
 const GROWTH: usize = 32;
 
 /// How a command ended.
