@@ -15,7 +15,7 @@ use Rattle.loop_ir.specs.Sizes.{size}
 use Rattle.multi_hart_logic.specs.Paths.{Line}
 use Rattle.task_code_scalar.specs.declared.places.Places.{Places}
 use Rattle.task_code_scalar.specs.Doing.{Setting, IsSetting, SoundIn, RunsIn, HoldsFuncs, stored_points}
-use Rattle.task_code_scalar.specs.Faults.{FitsFrame}
+use Rattle.task_code_scalar.specs.Faults.{FitsStack, FitsFrame}
 use Rattle.task_code_scalar.specs.Layout.{IsBefore}
 use Rattle.task_code_scalar.specs.Words.{Emits}
 use Rattle.task_code_registers.specs.declared.scopes.Held.{Held}
@@ -66,7 +66,7 @@ pub record FitsDirect (places : Places) (scope : List Held) (store : Store) : Ty
   pub room : FitsFrame places.frames store.value 0
 
 -- Its loop variables have registers, the stack or the frame has room for each of its expressions alone, and no lanes are configured for the scope.
-pub record FitsStore (places : Places) (scope : List Held) (store : Store) : Type 0 where
+pub record FitsParked (places : Places) (scope : List Held) (store : Store) : Type 0 where
   pub registers : are_registers scope ≡ true
   pub column_held : are_held scope store.x ≡ true
   pub row_held : are_held scope store.y ≡ true
@@ -74,6 +74,14 @@ pub record FitsStore (places : Places) (scope : List Held) (store : Store) : Typ
   pub column_room : FitsFrame places.frames store.x 0
   pub row_room : FitsFrame places.frames store.y 0
   pub room : FitsFrame places.frames store.value 0
+
+-- Its loop variables have registers, the stack or the frame has room for its value, and the stack for its indexes beside it, or each fits alone.
+pub record FitsStore (places : Places) (scope : List Held) (store : Store) : Type 0 where
+  pub column_held : are_held scope store.x ≡ true
+  pub row_held : are_held scope store.y ≡ true
+  pub value_held : are_held scope store.value ≡ true
+  pub room : FitsFrame places.frames store.value 0
+  pub indexes : (FitsStack store.x 21 × FitsStack store.y 22) ⊎ FitsParked places scope store
 
 -- Appended code does a store, where the registers hold the scope's forms, and keeps these registers.
 pub record MakesStore (old new : List ℕ) (places : Places) (scope : List Held) (store : Store) : Type 0 where

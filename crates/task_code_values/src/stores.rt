@@ -8,7 +8,7 @@ ghost use Rattle.task_code_values.specs.Operands.{IsSum};
 ghost use Rattle.task_code_values.specs.Parking.{MakesPoint};
 ghost use Rattle.task_code_values.specs.Variables.{are_held};
 ghost use Rattle.task_code_values.specs.Spilling as spec;
-ghost use Rattle.task_code_values.specs.Storing.{FitsDirect, FitsStore, MakesStore, MakesValue};
+ghost use Rattle.task_code_values.specs.Storing.{FitsDirect, FitsParked, FitsStore, MakesStore, MakesValue};
 
 use crate::accesses::emit_save;
 use crate::depths::STACK;
@@ -179,7 +179,7 @@ fn emit_store_point(
     requires { scopes.are_registers site.now.scope.now ≡ true }
     ensures ok { IfOk result (λ offset. MakesPoint code.old.items code.new.items site.now.places.now site.now.scope.now
         offset store.now) }
-    ensures err { IfErr result (IsFault ⊥ (FitsStore site.now.places.now site.now.scope.now store.now → ⊥)) }
+    ensures err { IfErr result (IsFault ⊥ (FitsParked site.now.places.now site.now.scope.now store.now → ⊥)) }
 {
     let place = place_of(site.places, Source::Func(store.func));
     emit_parking(code)?;
@@ -208,7 +208,7 @@ fn emit_parked(
 ) -> Result<(), CodeFault>
     ensures ok { OnOk result (MakesStore code.old.items code.new.items site.now.places.now site.now.scope.now
         store.now) }
-    ensures err { IfErr result (IsFault ⊥ (FitsStore site.now.places.now site.now.scope.now store.now → ⊥)) }
+    ensures err { IfErr result (IsFault ⊥ (FitsParked site.now.places.now site.now.scope.now store.now → ⊥)) }
 {
     if !are_registers(site.scope) {
         return Err(CodeFault::TooDeep);
