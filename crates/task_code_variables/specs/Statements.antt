@@ -1,0 +1,71 @@
+-- What appended code does of a statement, where registers hold the variables of the loops around it; how many words it has, and when there is none.
+-- This project's own.
+use Rattle.std.specs.Prelude.{◌≡◌, ◌≤◌, ℕ, ◌^◌, ◌||◌, Bool, false, List, length}
+use Rattle.rv_insn.specs.declared.instructions.Insn.{Insn}
+use Rattle.halide_pipeline.specs.Pixel.{Planes}
+use Rattle.loop_ir.specs.declared.expressions.Counter.{Counter}
+use Rattle.loop_ir.specs.declared.statements.LoopKind.{LoopKind}
+use Rattle.loop_ir.specs.declared.statements.Stmt.{Stmt, fold-Stmt}
+use Rattle.loop_ir.specs.declared.statements.Stmt.TheOpen.{Stmt-F}
+use Rattle.loop_ir.specs.declared.statements.Stmt.TheOpen as parts
+use Rattle.loop_ir.specs.declared.statements.Stmt.TheVariants as statements
+use Rattle.loop_ir.specs.Counters.{Values}
+use Rattle.loop_ir.specs.Depths.{depth}
+use Rattle.loop_ir.specs.Needs.{greatest_need}
+use Rattle.loop_ir.specs.Rounds.{is_vectorized}
+use Rattle.loop_ir.specs.Running.{run}
+use Rattle.loop_ir.specs.Sizes.{whole_size}
+use Rattle.task_code_scalar.specs.declared.CodeFault.{CodeFault}
+use Rattle.task_code_scalar.specs.declared.places.Places.{Places}
+use Rattle.task_code_scalar.specs.Doing.{Setting, IsSetting, HoldsFuncs, stored_points}
+use Rattle.task_code_scalar.specs.Faults.{IsFault, LieLow, HasRoom}
+use Rattle.task_code_scalar.specs.Words.{Emits}
+use Rattle.task_code_registers.specs.declared.scopes.Held.{Held}
+use Rattle.task_code_registers.specs.Doing.{Did}
+use Rattle.task_code_registers.specs.Scopes.{Knows, AreHolders, IsKept, left_count}
+use Rattle.task_code_runs.specs.AtOnce.{MayRun}
+use Rattle.task_code_variables.specs.Renaming.{StandFor}
+
+-- Appended code does a statement, wherever registers hold the scope's forms and numbered variables stand for those of the loops around, and keeps
+-- these registers. It has no more words than the statement asks for; in how many turns hangs on the values of loop variables alone.
+pub record AppendsStatement (old new : List ℕ) (places : Places) (scope : List Held) (around : List Counter) (statement : Stmt) : Type 0 where
+  pub insns : List Insn
+  pub emits : Emits old new insns
+  pub short : length insns ≤ whole_size statement
+  pub turns : Values → ℕ
+  pub does : (own : Setting) → IsSetting own → own.places ≡ places → (values numbers : Values) → StandFor around values numbers → AreHolders scope
+      → MayRun own statement values
+      → (f : ℕ → ℕ) (memory : List ℕ) (funcs : Planes) → HoldsFuncs own memory funcs → Knows own.world.hart scope numbers f
+      → Did own insns (turns numbers) f memory (IsKept scope) (run own.points own.inputs statement values funcs) (stored_points own statement values funcs)
+
+-- so it is of a loop that isn't vectorized, of whichever kind it is
+abbrev pub AppendsLoop : List ℕ → List ℕ → Places → List Held → List Counter → Counter → ℕ → Stmt → Type 0
+AppendsLoop old new places scope around counter count body =
+    (kind : LoopKind) → is_vectorized kind ≡ false → AppendsStatement old new places scope around (statements.For counter count kind body)
+
+-- ---- what fits
+
+abbrev pub vectorized_at : Stmt-F Bool → Bool
+vectorized_at (parts.Store store) = false
+vectorized_at (parts.Sequence first second) = first || second
+vectorized_at (parts.For counter count kind body) = is_vectorized kind || body
+vectorized_at (parts.Bind counter whole extent body) = body
+
+-- some loop is vectorized
+unfoldable pub has_vectorized : Stmt → Bool
+has_vectorized statement = fold-Stmt Bool vectorized_at statement
+
+-- The stack or the hart's frame has room for each expression, and a register is left for each loop; none is vectorized.
+pub record FitsStatement (places : Places) (scope : List Held) (statement : Stmt) : Type 0 where
+  pub low : LieLow places.frames
+  pub room : HasRoom places.frames (greatest_need statement) 0
+  pub few : depth statement ≤ left_count scope
+  pub in_turn : has_vectorized statement ≡ false
+
+-- for each fault what stands then
+abbrev pub IsStatementFault : Places → List Held → Stmt → CodeFault → Type 0
+IsStatementFault places scope statement = IsFault (2 ^ 18 ≤ whole_size statement) (FitsStatement places scope statement → ⊥)
+
+abbrev pub IsLoopFault : Places → List Held → Counter → ℕ → Stmt → CodeFault → Type 0
+IsLoopFault places scope counter count body fault =
+    (kind : LoopKind) → is_vectorized kind ≡ false → IsStatementFault places scope (statements.For counter count kind body) fault

@@ -1,0 +1,246 @@
+//! The code of statements, with loop variables alone in registers.
+
+ghost use Rattle.std.specs.Prelude.{◌≡◌, ◌≤◌, ◌+◌, ◌^◌, IfErr, OnOk, length, min};
+ghost use Rattle.loop_ir.specs.Depths as depths;
+ghost use Rattle.loop_ir.specs.Rounds as rounds;
+ghost use Rattle.loop_ir.specs.declared.statements.Stmt.TheVariants as stmts;
+ghost use Rattle.task_code_loops.specs.Beginning as beginning;
+ghost use Rattle.task_code_loops.specs.Beginning.{HasNoRegister};
+ghost use Rattle.task_code_loops.specs.Guarding.{GuardsWords};
+ghost use Rattle.task_code_scalar.specs.Faults.{IsFault};
+ghost use Rattle.task_code_variables.specs.Renaming.{HoldsAround};
+ghost use Rattle.task_code_variables.specs.Statements.{AppendsLoop, AppendsStatement, IsLoopFault, IsStatementFault};
+
+use crate::renaming::{numbered, renamed_store};
+use crate::splits::enter_split;
+use loop_ir::expressions::Counter;
+use loop_ir::statements::{LoopKind, Stmt, Store, Whole};
+use std::alloc::Global;
+use task_code_loops::beginning::begin_loop;
+use task_code_loops::bounds::Bound;
+use task_code_loops::ending::end_loop;
+use task_code_loops::guards::emit_guarded;
+use task_code_loops::tests::variable;
+use task_code_registers::scopes::Held;
+use task_code_scalar::CodeFault;
+use task_code_scalar::loops::with_counter;
+use task_code_statements::stages::{Code, add_first, add_last, add_second, no_words_beside};
+use task_code_values::sites::Site;
+use task_code_values::stores::emit_store;
+
+/// More loops than have registers.
+const MANY: usize = 20;
+
+/// How many loops stand around the innermost store of a statement, counted up to more than have registers.
+#[tactic(auto, unfolding(loop_ir::specs::Depths::depth))]
+fn depth(statement: &Stmt) -> usize
+    ensures { result ≡ min (depths.depth statement.now) 20 }
+{
+    match statement {
+        Stmt::Store(_) => 0,
+        Stmt::Sequence(first, second) => {
+            let one = depth(first.get());
+            let other = depth(second.get());
+            if one < other { other } else { one }
+        }
+        Stmt::For(_, _, _, body) => one_more(depth(body.get())),
+        Stmt::Bind(_, _, _, body) => one_more(depth(body.get())),
+    }
+}
+
+/// One more, up to more than have registers.
+fn one_more(count: usize) -> usize
+    requires { count ≤ 20 }
+    ensures { result ≡ min (count + 1) 20 }
+{
+    if count < MANY { count + 1 } else { MANY }
+}
+
+/// Whether all iterations of a loop of this kind are to store at once.
+fn is_vectorized(kind: LoopKind) -> bool
+    ensures { result ≡ rounds.is_vectorized kind }
+{
+    match kind {
+        LoopKind::Serial => false,
+        LoopKind::Unrolled => false,
+        LoopKind::Vectorized => true,
+    }
+}
+
+/// Appends a store.
+fn emit_numbered(
+    alloc: Global,
+    code: &mut Vec<u32>,
+    site: &Site<'_>,
+    around: &[Counter],
+    store: &Store,
+) -> Result<(), CodeFault>
+    requires { HoldsAround around.now site.now.scope.now }
+    ensures ok { OnOk result (AppendsStatement code.old.items code.new.items site.now.places.now site.now.scope.now
+        around.now (stmts.Store store.now)) }
+    ensures err { IfErr result (IsStatementFault site.now.places.now site.now.scope.now (stmts.Store store.now)) }
+{
+    let made = renamed_store(alloc, around, store)?;
+    let emitted = emit_store(alloc, code, site.places, site.scope, &made);
+    drop(made);
+    emitted?;
+    Ok(())
+}
+
+/// Appends a loop whose iterations come one behind the other.
+#[cycle(statements)]
+fn emit_iterations(
+    alloc: Global,
+    code: &mut Code,
+    site: &Site<'_>,
+    around: &[Counter],
+    own: Bound,
+    body: &Stmt,
+) -> Result<(), CodeFault>
+    requires { HoldsAround around.now site.now.scope.now }
+    ensures ok { OnOk result (AppendsLoop code.old.words.items code.new.words.items site.now.places.now
+        site.now.scope.now around.now own.counter own.count body.now) }
+    ensures err { IfErr result (IsLoopFault site.now.places.now site.now.scope.now own.counter own.count body.now) }
+{
+    if own.count == 0 {
+        return Ok(());
+    }
+    let numbers = Bound {
+        counter: numbered(around.len()),
+        count: own.count,
+    };
+    let begun = begin_loop(
+        alloc,
+        &mut code.words,
+        site.scope,
+        numbers,
+        &[],
+        depth(body),
+    )?;
+    let start = code.words.len();
+    let within = Site {
+        places: site.places,
+        scope: begun.inner.as_slice(),
+    };
+    let inner = with_counter(alloc, around, own.counter)?;
+    emit_statement(alloc, code, &within, inner.as_slice(), body)?;
+    end_loop(&mut code.words, &begun, start)?;
+    Ok(())
+}
+
+/// Appends code that was made beside, under a test on a loop variable.
+fn emit_tested(
+    alloc: Global,
+    code: &mut Code,
+    scope: &[Held],
+    counter: Counter,
+    extent: u32,
+    made: &Code,
+) -> Result<(), CodeFault>
+    ensures ok { OnOk result (GuardsWords code.old.words.items code.new.words.items scope.now
+        (beginning.variable counter) extent made.now.words.items) }
+    ensures err { IfErr result (IsFault (2 ^ 18 ≤ length made.now.words.items + 1)
+        (HasNoRegister scope.now (beginning.variable counter))) }
+{
+    let form = variable(alloc, counter)?;
+    let words = made.words.as_slice();
+    emit_guarded(alloc, &mut code.words, scope, &form, extent, words)?;
+    let found = made.stages.list.as_slice();
+    let behind = code.words.len();
+    add_last(&mut code.stages.list, found, words.len(), behind)?;
+    Ok(())
+}
+
+/// A loop variable that stands for a split loop, and the number below which its body is run.
+#[derive(Clone, Copy, Debug)]
+pub struct Split {
+    pub counter: Counter,
+    pub whole: Whole,
+    pub extent: u32,
+}
+
+/// Appends the body of a split loop, under a test on its value.
+#[cycle(statements)]
+fn emit_split(
+    alloc: Global,
+    code: &mut Code,
+    site: &Site<'_>,
+    around: &[Counter],
+    split: Split,
+    body: &Stmt,
+) -> Result<(), CodeFault>
+    requires { HoldsAround around.now site.now.scope.now }
+    ensures ok { OnOk result (AppendsStatement code.old.words.items code.new.words.items site.now.places.now
+        site.now.scope.now around.now (stmts.Bind split.counter split.whole split.extent body.now)) }
+    ensures err { IfErr result (IsStatementFault site.now.places.now site.now.scope.now
+        (stmts.Bind split.counter split.whole split.extent body.now)) }
+{
+    let scope = enter_split(alloc, &mut code.words, site.scope, around, &split.whole)?;
+    let within = Site {
+        places: site.places,
+        scope: scope.as_slice(),
+    };
+    let inner = with_counter(alloc, around, split.counter)?;
+    let mut made = no_words_beside(alloc, code);
+    emit_statement(alloc, &mut made, &within, inner.as_slice(), body)?;
+    let counter = numbered(around.len());
+    emit_tested(alloc, code, within.scope, counter, split.extent, &made)?;
+    Ok(())
+}
+
+/// Appends the code of a statement, where registers hold the variables of the loops around it.
+///
+/// # Errors
+///
+/// Memory ran out, the statement asks for as many words as a text may have, or it has a vectorized loop or doesn't fit
+/// (`specs/Statements.antt`).
+#[cycle(statements)]
+pub fn emit_statement(
+    alloc: Global,
+    code: &mut Code,
+    site: &Site<'_>,
+    around: &[Counter],
+    statement: &Stmt,
+) -> Result<(), CodeFault>
+    requires { HoldsAround around.now site.now.scope.now }
+    ensures ok { OnOk result (AppendsStatement code.old.words.items code.new.words.items site.now.places.now
+        site.now.scope.now around.now statement.now) }
+    ensures err { IfErr result (IsStatementFault site.now.places.now site.now.scope.now statement.now) }
+{
+    match statement {
+        Stmt::Store(store) => {
+            emit_numbered(alloc, &mut code.words, site, around, store)?;
+            Ok(())
+        }
+        Stmt::Sequence(first, second) => {
+            let front = code.words.len();
+            emit_statement(alloc, code, site, around, first.get())?;
+            let middle = code.words.len();
+            add_first(&mut code.stages, first, front, middle)?;
+            emit_statement(alloc, code, site, around, second.get())?;
+            let end = code.words.len();
+            add_second(&mut code.stages, second, middle, end)?;
+            Ok(())
+        }
+        Stmt::For(counter, count, kind, body) => {
+            if is_vectorized(*kind) {
+                return Err(CodeFault::TooDeep);
+            }
+            let own = Bound {
+                counter: *counter,
+                count: *count,
+            };
+            emit_iterations(alloc, code, site, around, own, body.get())?;
+            Ok(())
+        }
+        Stmt::Bind(counter, whole, extent, body) => {
+            let split = Split {
+                counter: *counter,
+                whole: *whole,
+                extent: *extent,
+            };
+            emit_split(alloc, code, site, around, split, body.get())?;
+            Ok(())
+        }
+    }
+}
