@@ -1,7 +1,7 @@
 -- What is appended behind a body makes a loop of it, and with what is appended in front of it a whole one.
-use Rattle.std.proofs.Common.{◌≡◌, ℕ, suc, ◌+◌, ◌-◌, ◌*◌, ◌<◌, ◌≤◌, List, ◌++◌, length, true, false, ap, ◌∙◌, sym, subst, arith, inr}
+use Rattle.std.proofs.Common.{◌≡◌, ℕ, suc, ◌+◌, ◌-◌, ◌*◌, ◌<◌, ◌≤◌, List, [], ◌∷◌, ◌++◌, length, true, false, ap, ◌∙◌, sym, subst, arith, inr}
 use Rattle.std.proofs.Common.{length-append}
-use Rattle.std.specs.Prelude.{if◌then◌else◌, nat_lt}
+use Rattle.std.specs.Prelude.{◌≢◌, if◌then◌else◌, nat_lt}
 use Rattle.std.proofs.lemmas.Bool.Decides.{nat_tests}
 use Rattle.rv_insn.specs.declared.instructions.Insn.{Insn}
 use Rattle.rv_insn.specs.declared.operations.BranchOp.TheVariants as branches
@@ -16,7 +16,8 @@ use Rattle.task_code_scalar.specs.Fitting.{total}
 use Rattle.task_code_scalar.proofs.Looping.{end-length}
 use Rattle.task_code_scalar.proofs.Spelling.{emits_then}
 use Rattle.task_code_registers.specs.declared.scopes.Held.{Held}
-use Rattle.task_code_registers.specs.Holding.{Advances, Enters, mentions, moving}
+use Rattle.task_code_registers.specs.Holding.{Advances, Enters, IsSteady, mentions, moving}
+use Rattle.task_code_registers.specs.Registers.{scratch, second_scratch}
 use Rattle.task_code_registers.specs.Scopes.{Knows, AreHolders, IsKept}
 use Rattle.task_code_registers.proofs.Advancing.{scopes-stay}
 use Rattle.task_code_registers.proofs.Going.{Went, no_hits, went-hits, went-then, within, still}
@@ -25,9 +26,9 @@ use Rattle.task_code_registers.proofs.Looping.{marked-did, did-went, points_hit}
 use Rattle.task_code_registers.proofs.Making.{short-then}
 use Rattle.task_code_loops.specs.declared.beginning.Begun.{Begun}
 use Rattle.task_code_loops.specs.Beginning.{CanEnd}
-use Rattle.task_code_loops.specs.Ending.{MakesLimit, GoesBack, StaysIn, end_words, EndsLoop, MakesLoop, LoopsAreMade}
+use Rattle.task_code_loops.specs.Ending.{MakesLimit, GoesBack, StaysIn, end_words, EndsLoop, MakesLoop, LoopsAreMade, Turned}
 use Rattle.task_code_loops.proofs.Knowledge.{knows-with}
-use Rattle.task_code_loops.proofs.Repeating.{Turned, loop-goes}
+use Rattle.task_code_loops.proofs.Repeating.{loop-goes}
 use Rattle.task_code_loops.proofs.Returning.{emits-longer}
 
 is-below : (a b : ℕ) → a < b → nat_lt a b ≡ true
@@ -35,6 +36,11 @@ is-below a b l = grind (arith, nat_tests)
 
 is-above : (a b : ℕ) → a ≡ b → nat_lt a b ≡ false
 is-above a b e = grind (arith, nat_tests, e)
+
+-- a register that stays is no scratch register
+steady-apart : (counter : Counter) (inner : List Held) (q : ℕ) → IsSteady counter inner q → (q ≢ scratch) × (q ≢ second_scratch)
+steady-apart counter [] q steady = steady
+steady-apart counter (own ∷ others) q steady = steady-apart counter others q steady.1
 
 -- ---- behind the body
 
@@ -82,7 +88,7 @@ module _ (begun : Begun) (c0 c1 c2 c3 : List ℕ) (limit start words : ℕ) (end
     last at s = stand-back w.text (end at body) moves z.insns (stand-back w.text at body tail s)
 
     turned : (i : ℕ) (f : ℕ → ℕ) (memory : List ℕ) → i < count → length memory ≡ w.size → Knows hart inner (with counter i values) f
-        → Turned w (StaysIn counter inner) (Knows hart inner (with counter (suc i) values)) count body tail i (cost i) f memory
+        → Turned w (IsSteady counter inner) (Knows hart inner (with counter (suc i) values)) count body tail i (cost i) f memory
     turned i f memory less size knows =
         let a = x.does w memory hart values i f size holders knows in
         let next = with counter (suc i) values in
@@ -96,7 +102,7 @@ module _ (begun : Begun) (c0 c1 c2 c3 : List ℕ) (limit start words : ℕ) (end
         ∙ ap (is_taken branches.Bne (a.after begun.register)) b.value ∙ test.differs hart i values a.after less a.mark in
         record {
           after = b.after;
-          keeps = λ q stays. kept q stays.0 ∙ a.keeps q stays.1;
+          keeps = λ q steady. let t = steady-apart counter inner q steady in b.others q t.0 t.1 ∙ a.keeps q steady;
           mark = knows-still hart inner next a.after b.after kept a.mark;
           again = λ more at s.
               let e : length moves + z.back_cost ≡ cost i =
@@ -127,12 +133,16 @@ module _ (begun : Begun) (c0 c1 c2 c3 : List ℕ) (limit start words : ℕ) (end
         let s = short-then x.insns y.insns (3 * k) 2 (3 * k + 2) x.short y.short (omega arith) in
         short-then moves z.insns (3 * k + 2) 2 (end_words begun) s z.short (omega arith);
     cost = cost;
+    turned = λ w hart values body i f memory long holders less size knows. turned w hart values body long holders i f memory less size knows;
     does = λ own hart values body t one body_stored stored long holders each all f memory funcs holds knows.
-        did-went (loop-goes own (StaysIn counter inner) (λ i g. Knows hart inner (with counter i values) g) count body tail t cost one
+        did-went (loop-goes own (StaysIn counter inner) (λ p i g. Knows hart inner (with counter i values) g)
+        (λ p i g. Knows hart inner (with counter i values) g) count body tail t cost one
         (λ i p. points_hit (body_stored i p))
         (λ i g m p l o known. marked-did (IsKept inner) (StaysIn counter inner) (Knows hart inner (with counter i values)) (λ q stays. stays.0)
         (λ after same. knows-still hart inner (with counter i values) g after same known) (each.does i g m p l o known))
-        (turned own.world hart values body long holders)
+        (λ i g m p less size known.
+        let a = turned own.world hart values body long holders i g m less size known in
+        record { after = a.after; keeps = λ q stays. a.keeps q stays.1; mark = a.mark; again = a.again; leaves = a.leaves })
         (λ k p. points_hit (stored k p)) all.none all.more ends.some f memory funcs holds knows).went;
   }
 

@@ -1,5 +1,5 @@
--- A body and what stands behind it do iterations: any body that keeps what is known in one, and behind it any code that makes of it what is known
--- in the next one and goes back while there is one.
+-- A body and what stands behind it do iterations: any body, and behind it any code that makes of what is known then what is known in the next one
+-- and goes back while there is one.
 use Rattle.std.proofs.Common.{◌≡◌, ℕ, zero, suc, ◌+◌, ◌-◌, ◌<◌, ◌≤◌, List, ◌++◌, length, refl}
 use Rattle.std.proofs.Common.{subst, arith, inl}
 use Rattle.std.specs.Prelude.{◌⊎◌}
@@ -11,23 +11,15 @@ use Rattle.multi_hart_logic.specs.Paths.{Stand, end, Path}
 use Rattle.multi_hart_logic.proofs.Paths.{stay, stand-front}
 use Rattle.task_code_scalar.specs.Fitting.{total}
 use Rattle.task_code_scalar.specs.Doing.{Setting, HoldsFuncs}
+use Rattle.task_code_loops.specs.Ending.{Turned}
 use Rattle.task_code_registers.proofs.Going.{Hits, no_hits, Went, Marked, went-then, went-hits, within, still}
 
--- What stands behind the body makes of the numbers of iteration i those of the next one, and goes back if there is one, else on.
-pub record Turned (world : World) (keeps_it : ℕ → Type 0) (mark_is : (ℕ → ℕ) → Type 0) (n : ℕ) (body tail : List Insn) (i cost : ℕ) (f : ℕ → ℕ)
-    (memory : List ℕ) : Type 0 where
-  pub after : ℕ → ℕ
-  pub keeps : (q : ℕ) → keeps_it q → after q ≡ f q
-  pub mark : mark_is after
-  pub again : suc i < n → (at : ℕ) → Stand world.text at (body ++ tail) → Path world (end at body) at cost f memory after memory
-  pub leaves : suc i ≡ n → (at : ℕ) → Stand world.text at (body ++ tail) → Path world (end at body) (end at (body ++ tail)) cost f memory after memory
-
-module _ (own : Setting) (keeps_it : ℕ → Type 0) (inv : ℕ → (ℕ → ℕ) → Type 0) (n : ℕ) (body tail : List Insn) (t cost : ℕ → ℕ)
+module _ (own : Setting) (keeps_it : ℕ → Type 0) (inv mid : Planes → ℕ → (ℕ → ℕ) → Type 0) (n : ℕ) (body tail : List Insn) (t cost : ℕ → ℕ)
     (one : ℕ → Planes → Planes) (body_hits : ℕ → Planes → Hits)
-    (does : (i : ℕ) (f : ℕ → ℕ) (memory : List ℕ) (funcs : Planes) → i < n → HoldsFuncs own memory funcs → inv i f
-    → Marked own (inv i) body (λ at. at) (λ at. end at body) (t i) f memory keeps_it (one i funcs) (body_hits i funcs))
-    (goes : (i : ℕ) (f : ℕ → ℕ) (memory : List ℕ) → i < n → length memory ≡ own.world.size → inv i f
-    → Turned own.world keeps_it (inv (suc i)) n body tail i (cost i) f memory) where
+    (does : (i : ℕ) (f : ℕ → ℕ) (memory : List ℕ) (funcs : Planes) → i < n → HoldsFuncs own memory funcs → inv funcs i f
+    → Marked own (mid (one i funcs) i) body (λ at. at) (λ at. end at body) (t i) f memory keeps_it (one i funcs) (body_hits i funcs))
+    (goes : (i : ℕ) (f : ℕ → ℕ) (memory : List ℕ) (funcs : Planes) → i < n → length memory ≡ own.world.size → mid funcs i f
+    → Turned own.world keeps_it (inv funcs (suc i)) n body tail i (cost i) f memory) where
   abbrev w : World
   w = own.world
 
@@ -39,15 +31,16 @@ module _ (own : Setting) (keeps_it : ℕ → Type 0) (inv : ℕ → (ℕ → ℕ
 
   -- an iteration, and the way back, or out
   iteration : (to : ℕ → ℕ) (i : ℕ) (f : ℕ → ℕ) (memory : List ℕ) (funcs : Planes) → i < n
-      → ((g : ℕ → ℕ) (m : List ℕ) (a : Turned w keeps_it (inv (suc i)) n body tail i (cost i) g m) (at : ℕ) → Stand w.text at whole
+      → ((g : ℕ → ℕ) (m : List ℕ) (a : Turned w keeps_it (inv (one i funcs) (suc i)) n body tail i (cost i) g m) (at : ℕ) → Stand w.text at whole
       → Path w (end at body) (to at) (cost i) g m a.after m)
-      → HoldsFuncs own memory funcs → inv i f → Marked own (inv (suc i)) whole (λ at. at) to (in_all i) f memory keeps_it (one i funcs) (body_hits i funcs)
+      → HoldsFuncs own memory funcs → inv funcs i f
+      → Marked own (inv (one i funcs) (suc i)) whole (λ at. at) to (in_all i) f memory keeps_it (one i funcs) (body_hits i funcs)
   iteration to i f memory funcs less go holds is =
       let made = does i f memory funcs less holds is in
       let inner = made.went in
       let first : Went own whole (λ at. at) (λ at. end at body) (t i) f memory keeps_it (one i funcs) (body_hits i funcs) =
       within own (λ at. at) (λ at. end at body) (λ at s. stand-front w.text at body tail s) (λ at. refl) inner in
-      let turned = goes i inner.after inner.left less inner.holds.size made.mark in
+      let turned = goes i inner.after inner.left (one i funcs) less inner.holds.size made.mark in
       let second : Went own whole (λ at. end at body) to (cost i) inner.after inner.left keeps_it (one i funcs) no_hits =
       still own (λ at. end at body) to (cost i) turned.after inner.holds turned.keeps
       (λ at s. go inner.after inner.left turned at s) in
@@ -58,8 +51,8 @@ module _ (own : Setting) (keeps_it : ℕ → Type 0) (inv : ℕ → (ℕ → ℕ
   module _ (hits : ℕ → Planes → Hits) (none_hit : (funcs : Planes) (func x y : ℕ) → hits zero funcs func x y → ⊥)
       (more_hit : (i : ℕ) (funcs : Planes) (func x y : ℕ) → hits (suc i) funcs func x y
       → hits i funcs func x y ⊎ body_hits i (turns i one funcs) func x y) where
-    iterations : (k : ℕ) → k < n → (f : ℕ → ℕ) (memory : List ℕ) (funcs : Planes) → HoldsFuncs own memory funcs → inv 0 f
-        → Marked own (inv k) whole (λ at. at) (λ at. at) (total k in_all) f memory keeps_it (turns k one funcs) (hits k funcs)
+    iterations : (k : ℕ) → k < n → (f : ℕ → ℕ) (memory : List ℕ) (funcs : Planes) → HoldsFuncs own memory funcs → inv funcs 0 f
+        → Marked own (inv (turns k one funcs) k) whole (λ at. at) (λ at. at) (total k in_all) f memory keeps_it (turns k one funcs) (hits k funcs)
     unfolding turns total
     iterations zero few f memory funcs holds is = record {
       went = went-hits own (λ func x y hit. none_hit funcs func x y hit)
@@ -73,8 +66,9 @@ module _ (own : Setting) (keeps_it : ℕ → Type 0) (inv : ℕ → (ℕ → ℕ
         (λ g m x at s. x.again few at s) a.holds so_far.mark in
         record { went = went-hits own (more_hit k funcs) (went-then own a b.went); mark = b.mark }
 
-    loop-out : (k : ℕ) → suc k ≡ n → (f : ℕ → ℕ) (memory : List ℕ) (funcs : Planes) → HoldsFuncs own memory funcs → inv 0 f
-        → Marked own (inv (suc k)) whole (λ at. at) (λ at. end at whole) (total (suc k) in_all) f memory keeps_it (turns (suc k) one funcs) (hits (suc k) funcs)
+    loop-out : (k : ℕ) → suc k ≡ n → (f : ℕ → ℕ) (memory : List ℕ) (funcs : Planes) → HoldsFuncs own memory funcs → inv funcs 0 f
+        → Marked own (inv (turns (suc k) one funcs) (suc k)) whole (λ at. at) (λ at. end at whole) (total (suc k) in_all) f memory keeps_it
+        (turns (suc k) one funcs) (hits (suc k) funcs)
     unfolding turns total
     loop-out k last f memory funcs holds is =
         let so_far = iterations k (omega (arith, last)) f memory funcs holds is in
@@ -83,9 +77,10 @@ module _ (own : Setting) (keeps_it : ℕ → Type 0) (inv : ℕ → (ℕ → ℕ
         (λ g m x at s. x.leaves last at s) a.holds so_far.mark in
         record { went = went-hits own (more_hit k funcs) (went-then own a b.went); mark = b.mark }
 
-    pub loop-goes : 1 ≤ n → (f : ℕ → ℕ) (memory : List ℕ) (funcs : Planes) → HoldsFuncs own memory funcs → inv 0 f
-        → Marked own (inv n) whole (λ at. at) (λ at. end at whole) (total n in_all) f memory keeps_it (turns n one funcs) (hits n funcs)
+    pub loop-goes : 1 ≤ n → (f : ℕ → ℕ) (memory : List ℕ) (funcs : Planes) → HoldsFuncs own memory funcs → inv funcs 0 f
+        → Marked own (inv (turns n one funcs) n) whole (λ at. at) (λ at. end at whole) (total n in_all) f memory keeps_it (turns n one funcs) (hits n funcs)
     loop-goes any f memory funcs holds is =
         let e : suc (n - 1) ≡ n = omega (arith, any) in
-        subst (λ k. Marked own (inv k) whole (λ at. at) (λ at. end at whole) (total k in_all) f memory keeps_it (turns k one funcs) (hits k funcs)) e
+        subst (λ k. Marked own (inv (turns k one funcs) k) whole (λ at. at) (λ at. end at whole) (total k in_all) f memory keeps_it (turns k one funcs)
+        (hits k funcs)) e
         (loop-out (n - 1) e f memory funcs holds is)

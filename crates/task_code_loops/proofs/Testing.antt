@@ -1,6 +1,6 @@
 -- A test over a body.
 use Rattle.std.proofs.Common.{◌≡◌, ℕ, ◌+◌, ◌*◌, ◌<◌, ◌≤◌, List, [], ◌∷◌, ◌++◌, length, Bool, true, false, refl, ap, ◌∙◌, sym, subst, arith, inl, inr}
-use Rattle.std.proofs.Common.{length-append}
+use Rattle.std.proofs.Common.{append_assoc, length-append}
 use Rattle.std.specs.Prelude.{◌≢◌, if◌then◌else◌, nat_lt, pos}
 use Rattle.std.proofs.lemmas.Bool.{true≢false, ltb-true, cases_lt}
 use Rattle.std.proofs.lemmas.Bool.Decides.{nat_tests}
@@ -28,7 +28,7 @@ use Rattle.task_code_registers.specs.Scopes.{Knows, AreHolders, IsKept, form_val
 use Rattle.task_code_registers.proofs.Going.{Went, no_hits, went-hits, went-then, within, still}
 use Rattle.task_code_registers.proofs.Knowing.{knows-zero, knows-still, kept-apart, working-free}
 use Rattle.task_code_registers.proofs.Looping.{marked-did, did-went, points_hit}
-use Rattle.task_code_loops.specs.Guarding.{Guards, stored_if}
+use Rattle.task_code_loops.specs.Guarding.{Comes, Guards, stored_if}
 
 lt-is : (a c : ℕ) → a < c → nat_lt a c ≡ true
 lt-is a c l = grind (arith, nat_tests)
@@ -63,6 +63,7 @@ module _ (scope : List Held) (form : Form) (extent : ℕ) (body : List Insn) (c0
     line : Line w front f memory after memory
     value : after address_register ≡ form_value hart values form
     limit : after scratch ≡ extent
+    others : (q : ℕ) → q ≢ scratch → q ≢ second_scratch → q ≢ address_register → after q ≡ f q
     keeps : (q : ℕ) → IsKept scope q → after q ≡ f q
 
   made : (w : World) (hart : ℕ) (values : Values) (memory : List ℕ) (f : ℕ → ℕ) → length memory ≡ w.size → AreHolders scope → Knows hart scope values f
@@ -80,74 +81,109 @@ module _ (scope : List Held) (form : Form) (extent : ℕ) (body : List Insn) (c0
         line = line-then w x.insns y.insns f a.after g.after memory memory memory a.line g.line;
         value = g.others address_register n1 n1 n2 ∙ a.value;
         limit = g.value;
+        others = λ q n1' n2' n3'. g.others q n1' n1' n2' ∙ a.others q n3' n1' n2';
         keeps = λ q h. let s = kept-apart scope q holders h in g.others q s.0 s.0 s.1 ∙ first q h;
       }
 
-  module _ (own : Setting) (hart : ℕ) (values : Values) (t : ℕ) (left : Planes) (stored : Points) (f : ℕ → ℕ) (memory : List ℕ) (funcs : Planes)
-      (holders : AreHolders scope) (holds : HoldsFuncs own memory funcs) (knows : Knows hart scope values f) where
-    abbrev w : World
-    w = own.world
+  abbrev entry : List Insn
+  entry = front ++ (Branch branches.Bltu address_register scratch (pos 4) ∷ Jal zero_register (forth (length body + 1)) ∷ [])
 
+  entry-body : whole ≡ entry ++ body
+  entry-body = sym (append_assoc front (Branch branches.Bltu address_register scratch (pos 4) ∷ Jal zero_register (forth (length body + 1)) ∷ []) body)
+
+  entry-end : (at : ℕ) → end at entry ≡ end at front + 4 + 4
+  entry-end at = end-append at front (Branch branches.Bltu address_register scratch (pos 4) ∷ Jal zero_register (forth (length body + 1)) ∷ [])
+
+  module _ (w : World) (hart : ℕ) (values : Values) (f : ℕ → ℕ) (memory : List ℕ) (holders : AreHolders scope) (size : length memory ≡ w.size)
+      (knows : Knows hart scope values f) where
     abbrev v : ℕ
     v = form_value hart values form
 
-    abbrev m : Made own.world hart values memory f
-    m = made own.world hart values memory f holds.size holders knows
+    abbrev m : Made w hart values memory f
+    m = made w hart values memory f size holders knows
 
     tests : (at : ℕ) → Stand w.text at whole → Stand w.text (end at front) over
     tests at s = stand-back w.text at front over s
 
-    abbrev first : Went own whole (λ at. at) (λ at. end at front) (length front) f memory (IsKept scope) funcs no_hits
-    first = still own (λ at. at) (λ at. end at front) (length front) m.after holds m.keeps (λ at s. m.line at (stand-front w.text at front over s))
+    first : (at : ℕ) → Stand w.text at whole → Path w at (end at front) (length front) f memory m.after memory
+    first at s = m.line at (stand-front w.text at front over s)
 
     -- the body is due
-    done : v < extent → Did own body t m.after memory (IsKept scope) left stored
-        → Did own whole (length front + (1 + t)) f memory (IsKept scope) left stored
-    done less d =
+    enters : v < extent → Comes w whole (λ at. end at entry) (length front + 1) f memory
+    enters less =
         let test : nat_lt (m.after address_register) (m.after scratch) ≡ true =
         ap (λ n. nat_lt n (m.after scratch)) m.value ∙ ap (nat_lt v) m.limit ∙ lt-is v extent less in
-        let second : Went own whole (λ at. end at front) (λ at. end at front + 4 + 4) 1 m.after memory (IsKept scope) funcs no_hits =
-        still own (λ at. end at front) (λ at. end at front + 4 + 4) 1 m.after holds (λ q h. refl)
-        (λ at s.
-        let from = end at front in
-        let o = spot w.text (from + 4 + 4) body (tests at s).1.1 in
-        let g : from + 4 * 2 ≡ from + 4 + 4 = omega arith in
-        rules.taken w m.after memory holds.size branches.Bltu from (from + 4 + 4) address_register scratch (pos 4) (omega arith) (omega arith) test
-        (tests at s).0 (forth-to from 2 (from + 4 + 4) g o.low) o.aligned) in
-        let marked = marked-did (IsKept scope) (IsKept scope) (λ g. Unit {0}) (λ q h. h) (λ g same. tt) d in
-        let third : Went own whole (λ at. end at front + 4 + 4) (λ at. end at whole) t m.after memory (IsKept scope) left (points_hit stored) =
-        within own (λ at. end at front + 4 + 4) (λ at. end at whole) (λ at s. (tests at s).1.1) (λ at. sym (end-append at front over)) marked.went in
-        did-went (went-hits own (λ func i k hit. inr (inr hit)) (went-then own first (went-then own second third)))
+        record {
+          after = m.after;
+          keeps = m.others;
+          path = λ at s.
+              let from = end at front in
+              let o = spot w.text (from + 4 + 4) body (tests at s).1.1 in
+              let g : from + 4 * 2 ≡ from + 4 + 4 = omega arith in
+              subst (λ p. Path w at p (length front + 1) f memory m.after memory) (sym (entry-end at))
+              (path-then w at from (from + 4 + 4) (length front) 1 f m.after m.after memory memory memory (first at s)
+              (rules.taken w m.after memory size branches.Bltu from (from + 4 + 4) address_register scratch (pos 4) (omega arith) (omega arith) test
+              (tests at s).0 (forth-to from 2 (from + 4 + 4) g o.low) o.aligned));
+        }
 
     -- or it is passed by
-    passed : extent ≤ v → Did own whole (length front + 2) f memory (IsKept scope) funcs (stored_if false stored)
-    passed more =
+    passes : extent ≤ v → Comes w whole (λ at. end at whole) (length front + 2) f memory
+    passes more =
         let test : nat_lt (m.after address_register) (m.after scratch) ≡ false =
         ap (λ n. nat_lt n (m.after scratch)) m.value ∙ ap (nat_lt v) m.limit ∙ lt-not v extent more in
-        let second : Went own whole (λ at. end at front) (λ at. end at whole) 2 m.after memory (IsKept scope) funcs no_hits =
-        still own (λ at. end at front) (λ at. end at whole) 2 m.after holds (λ q h. refl)
-        (λ at s.
-        let from = end at front in
-        let to = end (from + 4 + 4) body in
-        let p = spot w.text (from + 4) (Jal zero_register (forth (length body + 1)) ∷ body) (tests at s).1 in
-        let o = behind w.text (from + 4 + 4) body (tests at s).1.1 in
-        let g : from + 4 + 4 * (length body + 1) ≡ to = let k = end-length (from + 4 + 4) body in omega (arith, k) in
-        subst (λ a. Path w from a 2 m.after memory m.after memory) (sym (end-append at front over))
-        (path-then w from (from + 4) to 1 1 m.after m.after m.after memory memory memory
-        (rules.passed w m.after memory holds.size branches.Bltu from address_register scratch (pos 4) (omega arith) (omega arith) test (tests at s).0 p.low)
-        (rules.jump w m.after memory holds.size (from + 4) to (forth (length body + 1)) (tests at s).1.0
-        (forth-to (from + 4) (length body + 1) to g o.low) o.aligned))) in
-        did-went (went-hits own (λ func i k hit. absurd (true≢false (sym hit))) (went-then own first second))
+        record {
+          after = m.after;
+          keeps = m.others;
+          path = λ at s.
+              let from = end at front in
+              let to = end (from + 4 + 4) body in
+              let p = spot w.text (from + 4) (Jal zero_register (forth (length body + 1)) ∷ body) (tests at s).1 in
+              let o = behind w.text (from + 4 + 4) body (tests at s).1.1 in
+              let g : from + 4 + 4 * (length body + 1) ≡ to = let k = end-length (from + 4 + 4) body in omega (arith, k) in
+              subst (λ a. Path w at a (length front + 2) f memory m.after memory) (sym (end-append at front over))
+              (path-then w at from to (length front) 2 f m.after m.after memory memory memory (first at s)
+              (path-then w from (from + 4) to 1 1 m.after m.after m.after memory memory memory
+              (rules.passed w m.after memory size branches.Bltu from address_register scratch (pos 4) (omega arith) (omega arith) test (tests at s).0 p.low)
+              (rules.jump w m.after memory size (from + 4) to (forth (length body + 1)) (tests at s).1.0
+              (forth-to (from + 4) (length body + 1) to g o.low) o.aligned)));
+        }
 
-    by-cases : (v < extent → (g : ℕ → ℕ) → Knows hart scope values g → Did own body t g memory (IsKept scope) left stored) → (test : Bool)
-        → nat_lt v extent ≡ test → Did own whole (if test then length front + 1 + t else length front + 2) f memory (IsKept scope)
+  module _ (own : Setting) (hart : ℕ) (values : Values) (t : ℕ) (left : Planes) (stored : Points) (f : ℕ → ℕ) (memory : List ℕ) (funcs : Planes)
+      (holders : AreHolders scope) (holds : HoldsFuncs own memory funcs) (knows : Knows hart scope values f) where
+    abbrev value : ℕ
+    value = form_value hart values form
+
+    same : (to : ℕ → ℕ) (n : ℕ) (c : Comes own.world whole to n f memory) (q : ℕ) → IsKept scope q → c.after q ≡ f q
+    same to n c q h =
+        let s = kept-apart scope q holders h in
+        c.keeps q s.0 s.1 (λ e. working-free scope address_register holders (inl (omega arith, omega arith)) q h e)
+
+    done : (c : Comes own.world whole (λ at. end at entry) (length front + 1) f memory) → Did own body t c.after memory (IsKept scope) left stored
+        → Did own whole (length front + 1 + t) f memory (IsKept scope) left stored
+    done c d =
+        let marked = marked-did (IsKept scope) (IsKept scope) (λ g. Unit {0}) (λ q h. h) (λ g same. tt) d in
+        let one : Went own whole (λ at. at) (λ at. end at entry) (length front + 1) f memory (IsKept scope) funcs no_hits =
+        still own (λ at. at) (λ at. end at entry) (length front + 1) c.after holds (same (λ at. end at entry) (length front + 1) c) c.path in
+        let two : Went own whole (λ at. end at entry) (λ at. end at whole) t c.after memory (IsKept scope) left (points_hit stored) =
+        within own (λ at. end at entry) (λ at. end at whole)
+        (λ at s. stand-back own.world.text at entry body (subst (Stand own.world.text at) entry-body s))
+        (λ at. sym (end-append at entry body) ∙ sym (ap (end at) entry-body)) marked.went in
+        did-went (went-hits own (λ func i k hit. inr hit) (went-then own one two))
+
+    passed : (c : Comes own.world whole (λ at. end at whole) (length front + 2) f memory)
+        → Did own whole (length front + 2) f memory (IsKept scope) funcs (stored_if false stored)
+    passed c =
+        did-went (went-hits own (λ func i k hit. absurd (true≢false (sym hit)))
+        (still own (λ at. at) (λ at. end at whole) (length front + 2) c.after holds (same (λ at. end at whole) (length front + 2) c) c.path))
+
+    by-cases : (value < extent → (g : ℕ → ℕ) → Knows hart scope values g → Did own body t g memory (IsKept scope) left stored) → (test : Bool)
+        → nat_lt value extent ≡ test → Did own whole (if test then length front + 1 + t else length front + 2) f memory (IsKept scope)
         (if test then left else funcs) (stored_if test stored)
     by-cases go true is =
-        let less = ltb-true v extent is in
-        let n : length front + (1 + t) ≡ length front + 1 + t = omega arith in
-        subst (λ k. Did own whole k f memory (IsKept scope) left stored) n
-        (done less (go less m.after (knows-still hart scope values f m.after m.keeps knows)))
-    by-cases go false is = passed (not-below v extent is)
+        let less = ltb-true value extent is in
+        let c = enters own.world hart values f memory holders holds.size knows less in
+        done c (go less c.after (knows-still hart scope values f c.after (same (λ at. end at entry) (length front + 1) c) knows))
+    by-cases go false is = passed (passes own.world hart values f memory holders holds.size knows (not-below value extent is))
 
   pub guards : Guards c0 c5 (sum_words form.per_hart form.sum.terms + 4) scope form extent body
   guards = record {
@@ -161,6 +197,10 @@ module _ (scope : List Held) (form : Form) (extent : ℕ) (body : List Insn) (c0
         omega (arith, n1, n2, s1, s2);
     before = length front + 1;
     past = length front + 2;
+    front = entry;
+    is = entry-body;
+    enters = enters;
+    passes = passes;
     does = λ own hart values t left stored f memory funcs holders holds knows go.
         by-cases own hart values t left stored f memory funcs holders holds knows go (nat_lt (form_value hart values form) extent) refl;
   }

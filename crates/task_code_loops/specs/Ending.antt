@@ -1,5 +1,5 @@
 -- What stands behind a loop's body, and what the whole loop does. This project's own.
-use Rattle.std.specs.Prelude.{◌≡◌, ◌≢◌, ◌<◌, ◌≤◌, ℕ, ◌+◌, ◌*◌, ◌-◌, false, true, List, ◌++◌, length}
+use Rattle.std.specs.Prelude.{◌≡◌, ◌≢◌, ◌<◌, ◌≤◌, ℕ, suc, ◌+◌, ◌*◌, ◌-◌, false, true, List, ◌++◌, length}
 use Rattle.rv_insn.specs.declared.instructions.Insn.{Insn}
 use Rattle.rv_insn.specs.declared.operations.BranchOp.TheVariants as branches
 use Rattle.hart_core.specs.Scalar.{is_taken}
@@ -64,6 +64,15 @@ pub record DoesEach (own : Setting) (hart : ℕ) (inner : List Held) (counter : 
 abbrev pub StaysIn : Counter → List Held → ℕ → Type 0
 StaysIn counter inner q = IsKept inner q × IsSteady counter inner q
 
+-- What stands behind a body makes of the numbers of an iteration those of the next one, and goes back to the body if there is one, else on.
+pub record Turned (world : World) (keeps_it : ℕ → Type 0) (mark_is : (ℕ → ℕ) → Type 0) (n : ℕ) (body tail : List Insn) (i cost : ℕ) (f : ℕ → ℕ)
+    (memory : List ℕ) : Type 0 where
+  pub after : ℕ → ℕ
+  pub keeps : (q : ℕ) → keeps_it q → after q ≡ f q
+  pub mark : mark_is after
+  pub again : suc i < n → (at : ℕ) → Stand world.text at (body ++ tail) → Path world (end at body) at cost f memory after memory
+  pub leaves : suc i ≡ n → (at : ℕ) → Stand world.text at (body ++ tail) → Path world (end at body) (end at (body ++ tail)) cost f memory after memory
+
 -- how many instructions at most stand behind a body
 abbrev pub end_words : Begun → ℕ
 end_words begun = 3 * moving begun.counter begun.inner.items + 4
@@ -74,6 +83,11 @@ pub record EndsLoop (old new : List ℕ) (begun : Begun) (words : ℕ) : Type 0 
   pub emits : Emits old new insns
   pub short : length insns ≤ end_words begun
   pub cost : ℕ → ℕ
+  -- whatever the body does beside
+  pub turned : (world : World) (hart : ℕ) (values : Values) (body : List Insn) (i : ℕ) (f : ℕ → ℕ) (memory : List ℕ) → length body ≡ words
+      → AreHolders begun.inner.items → i < begun.count → length memory ≡ world.size → Knows hart begun.inner.items (with begun.counter i values) f
+      → Turned world (IsSteady begun.counter begun.inner.items) (Knows hart begun.inner.items (with begun.counter (suc i) values)) begun.count body insns i
+      (cost i) f memory
   pub does : (own : Setting) (hart : ℕ) (values : Values) (body : List Insn) (t : ℕ → ℕ) (one : ℕ → Planes → Planes) (body_stored stored : ℕ → Planes → Points)
       → length body ≡ words → AreHolders begun.inner.items
       → DoesEach own hart begun.inner.items begun.counter values begun.count body t one body_stored → StoresOf stored body_stored one

@@ -1,11 +1,13 @@
 -- A test over a body, and code behind other code. This project's own.
-use Rattle.std.specs.Prelude.{◌≡◌, ◌⊎◌, ◌<◌, ◌≤◌, ℕ, suc, ◌+◌, nat_lt, Bool, true, false, if◌then◌else◌, List, [], ◌++◌, length}
+use Rattle.std.specs.Prelude.{◌≡◌, ◌≢◌, ◌⊎◌, ◌<◌, ◌≤◌, ℕ, suc, ◌+◌, nat_lt, Bool, true, false, if◌then◌else◌, List, [], ◌++◌, length}
 use Rattle.rv_insn.specs.declared.instructions.Insn.{Insn}
 use Rattle.halide_pipeline.specs.Pixel.{Planes}
 use Rattle.loop_ir.specs.declared.expressions.Counter.{Counter}
 use Rattle.loop_ir.specs.Buffers.{Points}
 use Rattle.loop_ir.specs.Counters.{Values, with}
 use Rattle.loop_ir.specs.Running.{turns}
+use Rattle.multi_hart_logic.specs.Alone.{World}
+use Rattle.multi_hart_logic.specs.Paths.{Stand, Path, end}
 use Rattle.task_code_scalar.specs.Doing.{Setting, HoldsFuncs}
 use Rattle.task_code_scalar.specs.Words.{Emits}
 use Rattle.task_code_registers.specs.declared.scopes.Form.{Form}
@@ -14,6 +16,7 @@ use Rattle.task_code_registers.specs.Doing.{Did}
 use Rattle.task_code_registers.specs.Emitting.{sum_words}
 use Rattle.task_code_registers.specs.Holding.{mentions}
 use Rattle.task_code_registers.specs.Looping.{StoresOf}
+use Rattle.task_code_registers.specs.Registers.{address_register, scratch, second_scratch}
 use Rattle.task_code_registers.specs.Scopes.{Knows, AreHolders, IsKept, form_value}
 
 -- ---- tests
@@ -22,6 +25,12 @@ use Rattle.task_code_registers.specs.Scopes.{Knows, AreHolders, IsKept, form_val
 abbrev pub stored_if : Bool → Points → Points
 stored_if test stored func x y = if test then stored func x y else false
 
+-- The hart comes from where code stands to one of its addresses; the registers where numbers are compared may change.
+pub record Comes (world : World) (whole : List Insn) (to : ℕ → ℕ) (n : ℕ) (f : ℕ → ℕ) (memory : List ℕ) : Type 0 where
+  pub after : ℕ → ℕ
+  pub keeps : (q : ℕ) → q ≢ scratch → q ≢ second_scratch → q ≢ address_register → after q ≡ f q
+  pub path : (at : ℕ) → Stand world.text at whole → Path world at (to at) n f memory after memory
+
 -- Appended code does what a body does where a form is below an extent, and else nothing. Its turns hang on that alone.
 pub record Guards (old new : List ℕ) (most : ℕ) (scope : List Held) (form : Form) (extent : ℕ) (body : List Insn) : Type 0 where
   pub insns : List Insn
@@ -29,6 +38,13 @@ pub record Guards (old new : List ℕ) (most : ℕ) (scope : List Held) (form : 
   pub short : length insns ≤ most + length body
   pub before : ℕ
   pub past : ℕ
+  -- where the body stands, and whatever it does
+  pub front : List Insn
+  pub is : insns ≡ front ++ body
+  pub enters : (world : World) (hart : ℕ) (values : Values) (f : ℕ → ℕ) (memory : List ℕ) → AreHolders scope → length memory ≡ world.size
+      → Knows hart scope values f → form_value hart values form < extent → Comes world insns (λ at. end at front) before f memory
+  pub passes : (world : World) (hart : ℕ) (values : Values) (f : ℕ → ℕ) (memory : List ℕ) → AreHolders scope → length memory ≡ world.size
+      → Knows hart scope values f → extent ≤ form_value hart values form → Comes world insns (λ at. end at insns) past f memory
   pub does : (own : Setting) (hart : ℕ) (values : Values) (t : ℕ) (left : Planes) (stored : Points) (f : ℕ → ℕ) (memory : List ℕ) (funcs : Planes)
       → AreHolders scope → HoldsFuncs own memory funcs → Knows hart scope values f
       → (form_value hart values form < extent → (g : ℕ → ℕ) → Knows hart scope values g → Did own body t g memory (IsKept scope) left stored)
