@@ -25,7 +25,7 @@ use Rattle.task_code_scalar.specs.Doing.{Setting, IsSetting, HoldsFuncs}
 use Rattle.task_code_scalar.specs.Evaluation.{Loads, LoadsAt}
 use Rattle.task_code_scalar.proofs.Evaluation.{applied-below}
 use Rattle.task_code_scalar.proofs.Spelling.{emits_then, emits-none}
-use Rattle.task_code_scalar.proofs.Spilling.{loads-may, all-loaded}
+use Rattle.task_code_scalar.proofs.Loading.{loads-may, all-loaded}
 use Rattle.task_code_registers.specs.declared.scopes.Held.{Held}
 use Rattle.task_code_registers.specs.Registers.{address_register, first_value, IsSource}
 use Rattle.task_code_registers.specs.Scopes.{Knows, AreHolders, IsKept}
@@ -157,7 +157,7 @@ module _ (places : Places) (scope : List Held) where
   can-load own good at values funcs memory holds source place x y ep is =
       subst (λ p. LoadsAt own.world p memory x y (reads_of own.inputs funcs source x y)) (sym ep)
       (subst (λ ps. LoadsAt own.world (place_of ps source) memory x y (reads_of own.inputs funcs source x y)) at
-      (loads-may own good [] values funcs memory holds (record { source = source; x = x; y = y }) is))
+      (loads-may own good funcs memory holds (record { source = source; x = x; y = y }) is))
 
   load-parts : (own : Setting) (reads : Reads) (values : Values) (source : Source) (x y : Expr) → Passes own (loads reads values (e.Load source x y))
       → (Passes own (loads reads values x) × Passes own (loads reads values y))
@@ -283,7 +283,7 @@ module _ (places : Places) (scope : List Held) where
         let w = own.world in
         let reads = reads_of own.inputs funcs in
         let can = subst (λ ps. AllByRecursion (Loads w ps memory reads) (loads reads values own-second)) at
-        (all-loaded own good [] values funcs memory holds (loads reads values own-second) may) in
+        (all-loaded own good funcs memory holds (loads reads values own-second) may) in
         let a = x.does w memory values reads f holds.size holders knows can in
         record {
           after = a.after;

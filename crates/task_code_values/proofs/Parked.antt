@@ -5,7 +5,6 @@ use Rattle.std.specs.Prelude.{◌≢◌, ◌⊎◌}
 use Rattle.std.specs.List.{list_all}
 use Rattle.std.proofs.lemmas.Bool.{and_parts}
 use Rattle.std.proofs.lemmas.List.Folds.{list_all-append}
-use Rattle.rv_insn.specs.declared.instructions.Insn.{Insn}
 use Rattle.rv_insn.specs.declared.instructions.Insn.TheVariants.{Store as Save, Vector}
 use Rattle.rv_insn.specs.declared.operations.StoreOp.TheVariants as save_ops
 use Rattle.rv_insn.specs.declared.vector_instructions.VectorInsn.TheVariants as v
@@ -18,7 +17,7 @@ use Rattle.loop_ir.specs.Soundness.{store_loads}
 use Rattle.loop_ir.specs.Sizes.{size}
 use Rattle.loop_ir.proofs.Sound.{sound_store}
 use Rattle.loop_ir.proofs.Trees.{run_store}
-use Rattle.multi_hart_logic.specs.Paths.{configure, update, vl_number, vtype_number, IsGroup, end}
+use Rattle.multi_hart_logic.specs.Paths.{configure, update, vl_number, vtype_number, IsGroup}
 use Rattle.multi_hart_logic.proofs.Configurations.{configure-at}
 use Rattle.multi_hart_logic.proofs.FirstLanes.{first-read}
 use Rattle.multi_hart_logic.proofs.Paths.{update-same, update-other, line-then}
@@ -35,20 +34,21 @@ use Rattle.task_code_lanes.specs.Groups.{vtype_of}
 use Rattle.task_code_lanes.proofs.Configured.{supported, has-lanes, configured-others}
 use Rattle.task_code_lanes.proofs.Rows as rows
 use Rattle.task_code_registers.specs.declared.scopes.Held.{Held}
+use Rattle.task_code_registers.specs.Emitting.{MakesOf}
 use Rattle.task_code_registers.specs.Registers.{first_value, address_register, IsTarget}
 use Rattle.task_code_registers.specs.Scopes.{AreHolders, IsKept, are_registers}
-use Rattle.task_code_registers.proofs.Going.{no_hits, Does, went-hits, went-is, still}
-use Rattle.task_code_registers.proofs.Knowing.{kept-low, knows-still, working-free}
+use Rattle.task_code_registers.proofs.Going.{no_hits, Does, went-hits, went-is}
+use Rattle.task_code_registers.proofs.Knowing.{kept-apart, kept-low, knows-still, knows-zero, working-free}
 use Rattle.task_code_registers.proofs.Making.{short-then}
 use Rattle.task_code_values.specs.declared.points.Index.TheVariants as indexes
 use Rattle.task_code_values.specs.Making.{IsStack, IsBelow}
 use Rattle.task_code_values.specs.Operands.{StandsIn}
-use Rattle.task_code_values.specs.Parking.{parking, OpensParking, Parks, Unparks, MakesPoint, point_address}
+use Rattle.task_code_values.specs.Parking.{parking, OpensParking, Parks, Unparks, MakesPoint, PreparesStore, ReachesStore, point_address}
 use Rattle.task_code_values.specs.Scattering.{StandsBeside, ReachesPoint}
 use Rattle.task_code_values.specs.Spilling.{second_value}
-use Rattle.task_code_values.specs.Storing.{MakesValue, MakesStore}
+use Rattle.task_code_values.specs.Storing.{MakesValue, MakesStore, store_words}
 use Rattle.task_code_values.proofs.Pointing.{at-offset, own-word}
-use Rattle.task_code_values.proofs.Saving.{saved, is-single, equal-parts, does-then, deep-does, did-went}
+use Rattle.task_code_values.proofs.Saving.{saved, is-single, equal-parts, does-then, did-went}
 use Rattle.task_code_values.proofs.Standing.{kept-below}
 
 -- ---- one number
@@ -66,6 +66,8 @@ opens c0 c1 z = record {
     line = configure-at w f m l 1 (vtype_of groups.One) (supported groups.One);
     has = has-lanes groups.One f 1 (omega arith);
     keeps = λ q low. configured-others f 1 (vtype_of groups.One) q low;
+    lanes = λ q high. update-other (update f 32 1) 33 (vtype_of groups.One) q (λ e. omega (arith, e, high))
+        ∙ update-other f 32 1 q (λ e. omega (arith, e, high));
   };
 }
 
@@ -83,6 +85,7 @@ parks s c0 c1 low z = record {
         has = rows.lanes-kept w m l groups.One 1 f t.after (t.below vl_number (omega arith)) (t.below vtype_number (omega arith)) has;
         there = t.value 0 (omega arith);
         keeps = λ q h. t.below q (omega (arith, h));
+        lanes = λ q h. t.above q (omega (arith, h));
       };
 }
 
@@ -188,28 +191,32 @@ module _ (places : Places) (scope : List Held) (all : are_registers scope ≡ tr
                 (e.keeps vtype_number (inr (omega arith), inr (omega arith)) ∙ g.keeps vtype_number (λ q. omega (arith, q))) has-d;
             value = e.value ∙ sym here;
             keeps = λ n h. se n h ∙ sg n h ∙ sd n h ∙ sc n h ∙ sb n h ∙ sa n h;
+            lanes = λ q h. e.keeps q (inr (omega (arith, h)), inr (omega (arith, h))) ∙ g.keeps q (λ is. omega (arith, is, h))
+                ∙ d.keeps q (above q (omega (arith, h))) ∙ c.lanes q h ∙ b.keeps q (above q (omega (arith, h))) ∙ a.lanes q h;
             holds = d.holds;
             before = λ byte out. d.before byte out ∙ b.before byte out;
             are_bytes = λ are. d.are_bytes (b.are_bytes are);
           };
     }
 
-  -- ---- the store
+  -- ---- the pixel beside it
 
-  module _ (store : Store) (s offset : ℕ) (c0 c1 c2 c3 c4 c5 : List ℕ) where
-    pub parked-made : MakesPoint c0 c1 places scope offset store → Parks c1 c2 second_value → MakesValue c2 c3 places scope 0 s store.value
-        → Unparks c3 c4 address_register → Emits c4 c5 (Save save_ops.Sw address_register s (lower offset) ∷ []) → MakesStore c0 c5 places scope store
-    parked-made x p y u last = record {
-      insns = x.insns ++ (p.insns ++ (y.insns ++ (u.insns ++ saving)));
-      emits = emits_then x.emits (emits_then p.emits (emits_then y.emits (emits_then u.emits last)));
+  module _ (store : Store) (s offset : ℕ) where
+    pub store-reached : (c0 c1 c2 c3 c4 : List ℕ) → MakesPoint c0 c1 places scope offset store → Parks c1 c2 second_value
+        → MakesValue c2 c3 places scope 0 s store.value → Unparks c3 c4 address_register → ReachesStore c0 c4 places scope s offset store
+    store-reached c0 c1 c2 c3 c4 x p y u = record {
+      insns = x.insns ++ (p.insns ++ (y.insns ++ u.insns));
+      emits = emits_then x.emits (emits_then p.emits (emits_then y.emits u.emits));
       short =
-          let n = all-lengths x.insns p.insns y.insns u.insns in
-          let nx = x.short in
-          let np = p.short in
-          let ny = y.short in
-          let nu = u.short in
-          omega (arith, n, nx, np, ny, nu);
-      does = λ own good at-places values sound sure holders f memory funcs holds knows.
+          let two = short-then y.insns u.insns (size store.value) 1 (size store.value + 1) y.short u.short (omega arith) in
+          let three = short-then p.insns (y.insns ++ u.insns) 1 (size store.value + 1) (size store.value + 2) p.short two (omega arith) in
+          short-then x.insns (p.insns ++ (y.insns ++ u.insns)) (size store.x + size store.y + 15) (size store.value + 2)
+          (size store.x + size store.y + size store.value + 17) x.short three (omega arith);
+      fits = x.fits;
+      small = x.small;
+      source = y.source;
+      which = y.which;
+      does = λ own good at-places values sound holders f memory funcs holds knows.
           let w = own.world in
           let reads = reads_of own.inputs funcs in
           let xv = value reads values store.x in
@@ -227,50 +234,99 @@ module _ (places : Places) (scope : List Held) (all : are_registers scope ≡ tr
           let sb = λ (n : ℕ) (h : IsKept scope n). b.keeps n (kept-low scope n all h) in
           let kb = knows-still w.hart scope values a.after b.after sb ka in
           let c = y.does own good at-places values holders b.after a.left funcs a.holds kb q.1 in
-          let third = deep-does own good values scope holders c in
+          let sc = λ (n : ℕ) (h : IsKept scope n). c.keeps n (kept-below scope n first_value (omega arith) holders h) in
           let has-c = rows.lanes-kept w c.left c.holds.size groups.One 1 b.after c.after (c.keeps vl_number (above vl_number (omega arith)))
           (c.keeps vtype_number (above vtype_number (omega arith))) b.has in
           let d = u.does w c.left c.after c.holds.size has-c in
           let sd = λ (n : ℕ) (h : IsKept scope n). d.keeps n (working-free scope address_register holders (inl (omega arith, omega arith)) n h) in
           let there : d.after address_register ≡ a.after second_value % 2 ^ 32 = d.value ∙ c.keeps parking (above parking (omega arith)) ∙ b.there in
-          let at-a : plus (d.after address_register) (lower offset) ≡ address_of w own.places (func_point store.func xv yv) =
-          at-offset (d.after address_register) offset _ x.fits x.small (ap (λ n. (n + offset) % 2 ^ 32) there ∙ rested (a.after second_value) offset
-          ∙ a.value) in
-          let ev = d.keeps s (apart-from scope address_register s holders (inl refl) y.which) ∙ c.value in
-          let one : Does own x.insns (length x.insns) f memory (IsKept scope) funcs no_hits = record {
-            after = a.after;
-            left = a.left;
-            path = λ at st. a.line at st;
-            keeps = a.keeps;
-            holds = a.holds;
-            elsewhere = λ byte other. a.before byte other.frame;
-            are_bytes = a.are_bytes;
-            writes = λ func i j byte at hit of st. absurd hit;
-          } in
-          let two : Does own p.insns (length p.insns) a.after a.left (IsKept scope) funcs no_hits =
-          still own (λ i. i) (λ i. end i p.insns) (length p.insns) b.after a.holds sb (λ i st. b.line i st) in
-          let four : Does own u.insns (length u.insns) c.after c.left (IsKept scope) funcs no_hits =
-          still own (λ i. i) (λ i. end i u.insns) (length u.insns) d.after c.holds sd (λ i st. d.line i st) in
-          let five = saved own good values (IsKept scope) store address_register s (lower offset) d.after c.left funcs (omega arith) y.source.0 c.holds k.0
-          (is-single own good values store sure funcs holds.are_words) c.small at-a ev in
-          did-went (went-hits own
-          (λ func i j h. equal-parts store.func func xv i yv j (sym (hit-store own.points own.inputs func i j store values funcs) ∙ h))
-          (went-is own (sym (all-lengths x.insns p.insns y.insns u.insns)) (sym (run_store own.points own.inputs store values funcs))
-          (does-then own good values one (does-then own good values two (does-then own good values third (does-then own good values four five))))));
+          record {
+            after = d.after;
+            left = c.left;
+            line = line-then w x.insns (p.insns ++ (y.insns ++ u.insns)) f a.after d.after memory a.left c.left a.line
+                (line-then w p.insns (y.insns ++ u.insns) a.after b.after d.after a.left a.left c.left b.line
+                (line-then w y.insns u.insns b.after c.after d.after a.left c.left c.left c.line d.line));
+            pixel = d.keeps s (apart-from scope address_register s holders (inl refl) y.which) ∙ c.value;
+            small = c.small;
+            word = subst (λ n. n < 2 ^ 32) (sym there) (word-small (a.after second_value));
+            address = ap (λ n. (n + offset) % 2 ^ 32) there ∙ rested (a.after second_value) offset ∙ a.value;
+            keeps = λ n h. sd n h ∙ sc n h ∙ sb n h ∙ a.keeps n h;
+            lanes = λ n h. d.keeps n (λ is. omega (arith, is, h)) ∙ c.keeps n (above n (omega (arith, h))) ∙ b.lanes n h ∙ a.lanes n h;
+            holds = c.holds;
+            before = λ byte out. c.before byte out ∙ a.before byte out;
+            are_bytes = λ are. c.are_bytes (a.are_bytes are);
+          };
     }
       where
-        saving : List Insn
-        saving = Save save_ops.Sw address_register s (lower offset) ∷ []
-
         rested : (n k : ℕ) → (n % 2 ^ 32 + k) % 2 ^ 32 ≡ (n + k) % 2 ^ 32
         rested n k = omega arith
 
-        all-lengths : (is js ks ls : List Insn) → length (is ++ (js ++ (ks ++ (ls ++ (Save save_ops.Sw address_register s (lower offset) ∷ [])))))
-            ≡ length is + (length js + (length ks + (length ls + 1)))
-        all-lengths is js ks ls =
-            let o = Save save_ops.Sw address_register s (lower offset) ∷ [] in
-            let a = length-append is (js ++ (ks ++ (ls ++ o))) in
-            let b = length-append js (ks ++ (ls ++ o)) in
-            let c = length-append ks (ls ++ o) in
-            let d = length-append ls o in
-            omega (arith, a, b, c, d)
+        word-small : (n : ℕ) → n % 2 ^ 32 < 2 ^ 32
+        word-small n = omega arith
+
+    -- ---- the store
+
+    module _ (c0 c1 c2 : List ℕ) (x : ReachesStore c0 c1 places scope s offset store) where
+      pub parked-made : Emits c1 c2 (Save save_ops.Sw address_register s (lower offset) ∷ []) → MakesStore c0 c2 places scope store
+      parked-made last = record {
+        insns = x.insns ++ (Save save_ops.Sw address_register s (lower offset) ∷ []);
+        emits = emits_then x.emits last;
+        short = short-then x.insns (Save save_ops.Sw address_register s (lower offset) ∷ []) (size store.x + size store.y + size store.value + 17) 1
+            (store_words store) x.short (omega arith) (omega arith);
+        does = λ own good at-places values sound sure holders f memory funcs holds knows.
+            let reads = reads_of own.inputs funcs in
+            let xv = value reads values store.x in
+            let yv = value reads values store.y in
+            let k = and_parts (own.written store.func xv yv) (list_all own.loaded (store_loads reads values store))
+            (sym (sound_store reads own.written own.loaded store values) ∙ sound funcs holds.are_words) in
+            let a = x.does own good at-places values sound holders f memory funcs holds knows in
+            let at-a : plus (a.after address_register) (lower offset) ≡ address_of own.world own.places (func_point store.func xv yv) =
+            at-offset (a.after address_register) offset _ x.fits x.small a.address in
+            let one : Does own x.insns (length x.insns) f memory (IsKept scope) funcs no_hits = record {
+              after = a.after;
+              left = a.left;
+              path = λ at st. a.line at st;
+              keeps = a.keeps;
+              holds = a.holds;
+              elsewhere = λ byte other. a.before byte other.frame;
+              are_bytes = a.are_bytes;
+              writes = λ func i j byte at hit of st. absurd hit;
+            } in
+            let two = saved own good values (IsKept scope) store address_register s (lower offset) a.after a.left funcs (omega arith) x.source.0 a.holds k.0
+            (is-single own good values store sure funcs holds.are_words) a.small at-a a.pixel in
+            did-went (went-hits own
+            (λ func i j h. equal-parts store.func func xv i yv j (sym (hit-store own.points own.inputs func i j store values funcs) ∙ h))
+            (went-is own (sym (length-append x.insns (Save save_ops.Sw address_register s (lower offset) ∷ [])))
+            (sym (run_store own.points own.inputs store values funcs)) (does-then own good values one two)));
+      }
+
+      -- ---- or the address alone
+
+      pub store-prepared : MakesOf c1 c2 1 address_register address_register (λ v. (v + offset) % 2 ^ 32) → PreparesStore c0 c2 places scope s store
+      store-prepared y = record {
+        insns = x.insns ++ y.insns;
+        emits = emits_then x.emits y.emits;
+        short = short-then x.insns y.insns (size store.x + size store.y + size store.value + 17) 1 (store_words store) x.short y.short (omega arith);
+        source = x.source;
+        which = x.which;
+        does = λ own good at-places values sound holders f memory funcs holds knows.
+            let w = own.world in
+            let a = x.does own good at-places values sound holders f memory funcs holds knows in
+            let ka = knows-still w.hart scope values f a.after a.keeps knows in
+            let b = y.does w a.left a.after a.holds.size (knows-zero w.hart scope values a.after ka) a.word in
+            let sb = λ (n : ℕ) (h : IsKept scope n). b.others n (working-free scope address_register holders (inl (omega arith, omega arith)) n h)
+            (kept-apart scope n holders h).0 (kept-apart scope n holders h).1 in
+            record {
+              after = b.after;
+              left = a.left;
+              line = line-then w x.insns y.insns f a.after b.after memory a.left a.left a.line b.line;
+              pixel = b.others s (apart-from scope address_register s holders (inl refl) x.which) x.source.1.0 x.source.1.1 ∙ a.pixel;
+              small = a.small;
+              address = b.value ∙ a.address;
+              keeps = λ n h. sb n h ∙ a.keeps n h;
+              lanes = λ n h. b.others n (λ e. omega (arith, e, h)) (λ e. omega (arith, e, h)) (λ e. omega (arith, e, h)) ∙ a.lanes n h;
+              holds = a.holds;
+              before = a.before;
+              are_bytes = a.are_bytes;
+            };
+      }

@@ -38,7 +38,7 @@ use Rattle.task_code_scalar.specs.Layout.{func_point, address_of, AreWords}
 use Rattle.task_code_scalar.specs.Doing.{Setting, IsSetting, RunsIn, HoldsFuncs}
 use Rattle.task_code_scalar.specs.Words.{Emits}
 use Rattle.task_code_scalar.proofs.Spelling.{emits_then}
-use Rattle.task_code_scalar.proofs.Spilling.{all-loaded}
+use Rattle.task_code_scalar.proofs.Loading.{all-loaded}
 use Rattle.task_code_scalar.proofs.Storing.{stored-is, size-stays, bytes-stay, is-touched, words-put, stored-holds, others-stay}
 use Rattle.task_code_scalar.proofs.Tracing.{hit-store}
 use Rattle.task_code_registers.specs.declared.scopes.Form.{Form}
@@ -76,7 +76,7 @@ value-stacked places scope first r own c0 c1 x = record {
   does = λ set good at values holders f memory funcs holds knows may.
       let w = set.world in
       let reads = reads_of set.inputs funcs in
-      let can = subst (λ ps. AllByRecursion (Loads w ps memory reads) (loads reads values own)) at (all-loaded set good [] values funcs memory holds
+      let can = subst (λ ps. AllByRecursion (Loads w ps memory reads) (loads reads values own)) at (all-loaded set good funcs memory holds
       (loads reads values own) may) in
       let a = x.does w memory values reads f holds.size holders knows can in
       record {
@@ -316,9 +316,9 @@ module _ (places : Places) (scope : List Held) (store : Store) (place : Place) (
         let q = and_parts (list_all own.loaded (loads reads values store.y)) (list_all own.loaded (loads reads values store.value))
         (sym (list_all-append own.loaded (loads reads values store.y) (loads reads values store.value)) ∙ p.1) in
         let a = v.does own good at-places values holders f memory funcs holds knows q.1 in
-        let can-x = subst (λ ps. AllByRecursion (Loads w ps a.left reads) (loads reads values store.x)) at-places (all-loaded own good [] values funcs a.left
+        let can-x = subst (λ ps. AllByRecursion (Loads w ps a.left reads) (loads reads values store.x)) at-places (all-loaded own good funcs a.left
         a.holds (loads reads values store.x) p.0) in
-        let can-y = subst (λ ps. AllByRecursion (Loads w ps a.left reads) (loads reads values store.y)) at-places (all-loaded own good [] values funcs a.left
+        let can-y = subst (λ ps. AllByRecursion (Loads w ps a.left reads) (loads reads values store.y)) at-places (all-loaded own good funcs a.left
         a.holds (loads reads values store.y) q.0) in
         let first = deep-does own good values scope holders a in
         let ka = knows-still w.hart scope values f a.after first.keeps knows in

@@ -34,7 +34,7 @@ use Rattle.task_code_scalar.specs.Layout.{func_point, address_of}
 use Rattle.task_code_scalar.specs.Words.{Emits}
 use Rattle.task_code_scalar.proofs.Evaluation.{applied-below}
 use Rattle.task_code_scalar.proofs.Spelling.{emits_then}
-use Rattle.task_code_scalar.proofs.Spilling.{all-loaded}
+use Rattle.task_code_scalar.proofs.Loading.{all-loaded}
 use Rattle.task_code_scalar.proofs.Tracing.{hit-store}
 use Rattle.task_code_registers.specs.declared.scopes.Held.{Held}
 use Rattle.task_code_registers.specs.Emitting.{MakesOf}
@@ -144,7 +144,7 @@ module _ (places : Places) (scope : List Held) (store : Store) (o : Operation) (
         (sym (list_all-append own.loaded (loads reads values store.y) (loads reads values store.value)) ∙ p.1) in
         let size = holds.size in
         let can = λ (points : List Point) (is : list_all own.loaded points ≡ true).
-        subst (λ ps. AllByRecursion (Loads w ps memory reads) points) at-places (all-loaded own good [] values funcs memory holds points is) in
+        subst (λ ps. AllByRecursion (Loads w ps memory reads) points) at-places (all-loaded own good funcs memory holds points is) in
         let may = Loads w places memory reads in
         let of-value = subst (λ l. AllByRecursion may l) (loads_binary reads values o pixel other)
         (subst (λ v. AllByRecursion may (loads reads values v)) ev (can (loads reads values store.value) q.1)) in

@@ -1,11 +1,12 @@
 -- A lane in which a number waits while values are made. This project's own.
-use Rattle.std.specs.Prelude.{◌≡◌, ◌≢◌, ◌<◌, ◌≤◌, ℕ, ◌+◌, ◌%◌, ◌^◌, true, List, length}
+use Rattle.std.specs.Prelude.{◌≡◌, ◌≢◌, ◌⊎◌, ◌<◌, ◌≤◌, ℕ, ◌+◌, ◌%◌, ◌^◌, true, List, length}
 use Rattle.std.specs.List.{list_all}
 use Rattle.rv_insn.specs.declared.instructions.Insn.{Insn}
 use Rattle.memory.specs.Access.{byte_at, AreBytes}
 use Rattle.halide_pipeline.specs.declared.expressions.Source.TheVariants as sources
 use Rattle.halide_pipeline.specs.Pixel.{Planes, reads_of}
 use Rattle.loop_ir.specs.declared.statements.Store.{Store}
+use Rattle.loop_ir.specs.declared.statements.Stmt.TheVariants as statements
 use Rattle.loop_ir.specs.Counters.{Values}
 use Rattle.loop_ir.specs.Expressions.{value, loads}
 use Rattle.loop_ir.specs.Sizes.{size}
@@ -13,19 +14,21 @@ use Rattle.multi_hart_logic.specs.Alone.{World}
 use Rattle.multi_hart_logic.specs.Paths.{Line, lane}
 use Rattle.task_code_scalar.specs.declared.places.Places.{Places}
 use Rattle.task_code_scalar.specs.Code.{address, place_of}
-use Rattle.task_code_scalar.specs.Doing.{Setting, IsSetting, HoldsFuncs}
+use Rattle.task_code_scalar.specs.Doing.{Setting, IsSetting, SoundIn, HoldsFuncs}
 use Rattle.task_code_scalar.specs.Layout.{IsBefore}
 use Rattle.task_code_scalar.specs.Words.{Emits}
 use Rattle.task_code_lanes.specs.declared.groups.Group.TheVariants as groups
 use Rattle.task_code_lanes.specs.Leaving.{HasLanes}
 use Rattle.task_code_registers.specs.declared.scopes.Held.{Held}
 use Rattle.task_code_registers.specs.Emitting.{Fits}
+use Rattle.task_code_registers.specs.Registers.{address_register, first_value, IsSource}
 use Rattle.task_code_registers.specs.Scopes.{Knows, AreHolders, IsKept}
 use Rattle.task_code_values.specs.Spilling.{second_value}
+use Rattle.task_code_values.specs.Storing.{store_words}
 
 -- ---- one number
 
--- it waits in the first lane of a vector register: no value is made there
+-- it waits in the first lane of a vector register: no scalar value is made there
 abbrev pub parking : ℕ
 parking = lane 1 0
 
@@ -33,12 +36,15 @@ parking = lane 1 0
 abbrev pub HasParking : (ℕ → ℕ) → Type 0
 HasParking f = HasLanes groups.One 1 f
 
+-- Code that puts numbers there keeps the lanes of all vector registers but the first two.
+
 -- straight code that configures it
 pub record Opened (world : World) (memory : List ℕ) (insns : List Insn) (f : ℕ → ℕ) : Type 0 where
   pub after : ℕ → ℕ
   pub line : Line world insns f memory after memory
   pub has : HasParking after
   pub keeps : (q : ℕ) → q < 32 → after q ≡ f q
+  pub lanes : (q : ℕ) → lane 2 0 ≤ q → after q ≡ f q
 
 -- straight code that leaves a number there
 pub record Parked (world : World) (memory : List ℕ) (insns : List Insn) (f : ℕ → ℕ) (v : ℕ) : Type 0 where
@@ -47,6 +53,7 @@ pub record Parked (world : World) (memory : List ℕ) (insns : List Insn) (f : �
   pub has : HasParking after
   pub there : after parking ≡ v
   pub keeps : (q : ℕ) → q < 32 → after q ≡ f q
+  pub lanes : (q : ℕ) → lane 2 0 ≤ q → after q ≡ f q
 
 -- and that takes it back
 pub record Unparked (world : World) (memory : List ℕ) (insns : List Insn) (f : ℕ → ℕ) (r : ℕ) : Type 0 where
@@ -78,8 +85,8 @@ pub record Unparks (old new : List ℕ) (r : ℕ) : Type 0 where
 
 -- ---- the point of a store
 
--- straight code behind which the second value and an offset are an address, with the lane configured; it keeps the scope's registers, what the
--- Funcs hold, and of memory all but the hart's frame
+-- straight code behind which the second value and an offset are an address, with the lane configured; it keeps the scope's registers, these lanes,
+-- what the Funcs hold, and of memory all but the hart's frame
 pub record Pointed (own : Setting) (funcs : Planes) (insns : List Insn) (scope : List Held) (f : ℕ → ℕ) (memory : List ℕ) (offset a : ℕ) : Type 0 where
   pub after : ℕ → ℕ
   pub left : List ℕ
@@ -87,6 +94,7 @@ pub record Pointed (own : Setting) (funcs : Planes) (insns : List Insn) (scope :
   pub has : HasParking after
   pub value : (after second_value + offset) % 2 ^ 32 ≡ a
   pub keeps : (q : ℕ) → IsKept scope q → after q ≡ f q
+  pub lanes : (q : ℕ) → lane 2 0 ≤ q → after q ≡ f q
   pub holds : HoldsFuncs own left funcs
   pub before : (byte : ℕ) → IsBefore own.world own.places 0 byte → byte_at own.world.text left byte ≡ byte_at own.world.text memory byte
   pub are_bytes : AreBytes memory → AreBytes left
@@ -108,3 +116,59 @@ pub record MakesPoint (old new : List ℕ) (places : Places) (scope : List Held)
       → HoldsFuncs own memory funcs → Knows own.world.hart scope values f → list_all own.loaded (loads (reads_of own.inputs funcs) values store.x) ≡ true
       → list_all own.loaded (loads (reads_of own.inputs funcs) values store.y) ≡ true → point_address own funcs values store < 2 ^ 32
       → Pointed own funcs insns scope f memory offset (point_address own funcs values store)
+
+-- ---- a store's pixel and its address, for a store that is made later
+
+-- straight code behind which a register holds a pixel, and the one for addresses and an offset are where it lies; it keeps as much
+pub record StoreReached (own : Setting) (funcs : Planes) (insns : List Insn) (scope : List Held) (f : ℕ → ℕ) (memory : List ℕ) (s offset a v : ℕ) : Type 0 where
+  pub after : ℕ → ℕ
+  pub left : List ℕ
+  pub line : Line own.world insns f memory after left
+  pub pixel : after s ≡ v
+  pub small : v < 2 ^ 32
+  pub word : after address_register < 2 ^ 32
+  pub address : (after address_register + offset) % 2 ^ 32 ≡ a
+  pub keeps : (q : ℕ) → IsKept scope q → after q ≡ f q
+  pub lanes : (q : ℕ) → lane 2 0 ≤ q → after q ≡ f q
+  pub holds : HoldsFuncs own left funcs
+  pub before : (byte : ℕ) → IsBefore own.world own.places 0 byte → byte_at own.world.text left byte ≡ byte_at own.world.text memory byte
+  pub are_bytes : AreBytes memory → AreBytes left
+
+-- Appended code leaves a store's pixel so, and reaches its point.
+pub record ReachesStore (old new : List ℕ) (places : Places) (scope : List Held) (s offset : ℕ) (store : Store) : Type 0 where
+  pub insns : List Insn
+  pub emits : Emits old new insns
+  pub short : length insns ≤ size store.x + size store.y + size store.value + 17
+  pub fits : Fits offset
+  pub small : offset < 2 ^ 32
+  pub source : IsSource s
+  pub which : (s ≡ first_value) ⊎ IsKept scope s
+  pub does : (own : Setting) → IsSetting own → own.places ≡ places → (values : Values) → SoundIn own (statements.Store store) values → AreHolders scope
+      → (f : ℕ → ℕ) (memory : List ℕ) (funcs : Planes) → HoldsFuncs own memory funcs → Knows own.world.hart scope values f
+      → StoreReached own funcs insns scope f memory s offset (point_address own funcs values store) (value (reads_of own.inputs funcs) values store.value)
+
+-- straight code behind which a register holds a pixel, and the one for addresses where it lies; it keeps the scope's registers, the lanes of all
+-- vector registers but the first two, what the Funcs hold, and of memory all but the hart's frame
+pub record Prepared (own : Setting) (funcs : Planes) (insns : List Insn) (scope : List Held) (f : ℕ → ℕ) (memory : List ℕ) (s a v : ℕ) : Type 0 where
+  pub after : ℕ → ℕ
+  pub left : List ℕ
+  pub line : Line own.world insns f memory after left
+  pub pixel : after s ≡ v
+  pub small : v < 2 ^ 32
+  pub address : after address_register ≡ a
+  pub keeps : (q : ℕ) → IsKept scope q → after q ≡ f q
+  pub lanes : (q : ℕ) → lane 2 0 ≤ q → after q ≡ f q
+  pub holds : HoldsFuncs own left funcs
+  pub before : (byte : ℕ) → IsBefore own.world own.places 0 byte → byte_at own.world.text left byte ≡ byte_at own.world.text memory byte
+  pub are_bytes : AreBytes memory → AreBytes left
+
+-- Appended code leaves the pixel of a store and its address so.
+pub record PreparesStore (old new : List ℕ) (places : Places) (scope : List Held) (s : ℕ) (store : Store) : Type 0 where
+  pub insns : List Insn
+  pub emits : Emits old new insns
+  pub short : length insns ≤ store_words store
+  pub source : IsSource s
+  pub which : (s ≡ first_value) ⊎ IsKept scope s
+  pub does : (own : Setting) → IsSetting own → own.places ≡ places → (values : Values) → SoundIn own (statements.Store store) values → AreHolders scope
+      → (f : ℕ → ℕ) (memory : List ℕ) (funcs : Planes) → HoldsFuncs own memory funcs → Knows own.world.hart scope values f
+      → Prepared own funcs insns scope f memory s (point_address own funcs values store) (value (reads_of own.inputs funcs) values store.value)

@@ -65,7 +65,7 @@ pub record FitsDirect (places : Places) (scope : List Held) (store : Store) : Ty
   pub value_held : are_held scope store.value ≡ true
   pub room : FitsFrame places.frames store.value 0
 
--- Its loop variables have registers, the stack or the frame has room for each of its expressions alone, and no lanes are configured for the scope.
+-- Its loop variables have registers, the stack or the frame has room for each of its expressions alone, and registers hold all of the scope's forms.
 pub record FitsParked (places : Places) (scope : List Held) (store : Store) : Type 0 where
   pub registers : are_registers scope ≡ true
   pub column_held : are_held scope store.x ≡ true

@@ -14,8 +14,8 @@
 //! - [`expressions`]: appends what leaves an expression's value in a register (`specs/Operands.antt`).
 //! - [`spilling`]: the same where the registers do not suffice and values wait in the hart's frame.
 //! - [`needs`]: how many registers that takes; [`depths`]: for how many first operands the stack has too few.
-//! - [`stores`]: appends stores (`specs/Storing.antt`); [`updates`] those of what is made of the pixel that they
-//!   overwrite.
+//! - [`stores`]: appends stores (`specs/Storing.antt`), or all of one but the store itself; [`updates`] those of what
+//!   is made of the pixel that they overwrite.
 #![tactic(auto)]
 
 pub mod accesses;

@@ -25,9 +25,8 @@ use task_code_registers::numbers::emit_times;
 use task_code_registers::points::point_form;
 use task_code_registers::registers::ADDRESS;
 use task_code_scalar::CodeFault;
-use task_code_scalar::expressions::place_of;
 use task_code_scalar::instructions::{alu, alu_small, shift};
-use task_code_scalar::places::{Pixels, Place};
+use task_code_scalar::places::{Pixels, Place, place_of};
 
 /// An index of a point.
 #[derive(Debug)]

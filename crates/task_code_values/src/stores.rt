@@ -5,7 +5,7 @@ ghost use Rattle.task_code_scalar.specs.Faults.{FitsFrame, FitsStack, IsFault};
 ghost use Rattle.loop_ir.specs.Needs.{need_of};
 ghost use Rattle.task_code_registers.specs.Scopes as scopes;
 ghost use Rattle.task_code_values.specs.Operands.{IsSum};
-ghost use Rattle.task_code_values.specs.Parking.{MakesPoint};
+ghost use Rattle.task_code_values.specs.Parking.{MakesPoint, PreparesStore, ReachesStore};
 ghost use Rattle.task_code_values.specs.Variables.{are_held};
 ghost use Rattle.task_code_values.specs.Spilling as spec;
 ghost use Rattle.task_code_values.specs.Storing.{FitsDirect, FitsParked, FitsStore, MakesStore, MakesValue};
@@ -25,12 +25,12 @@ use halide_pipeline::Source;
 use loop_ir::expressions::{Expr, Linear};
 use loop_ir::statements::Store;
 use std::alloc::Global;
+use task_code_registers::numbers::emit_plus;
 use task_code_registers::points::point_form;
 use task_code_registers::registers::ADDRESS;
 use task_code_registers::scopes::{Held, are_registers};
 use task_code_scalar::CodeFault;
-use task_code_scalar::expressions::place_of;
-use task_code_scalar::places::Places;
+use task_code_scalar::places::{Places, place_of};
 
 /// How many words a frame has.
 const FRAME_WORDS: u32 = 1024;
@@ -168,8 +168,8 @@ fn emit_computed(
     }
 }
 
-/// Appends what makes the address of the point of a store, where no lanes are configured: it is the second value and
-/// the offset that is returned. The column waits in a lane while the row is made.
+/// Appends what makes the address of the point of a store, where registers hold all of the scope's forms: it is the
+/// second value and the offset that is returned. The column waits in a lane while the row is made.
 fn emit_store_point(
     alloc: Global,
     code: &mut Vec<u32>,
@@ -198,8 +198,34 @@ fn emit_store_point(
     Ok(offset)
 }
 
-/// Appends a store whose indexes and value the stack or the frame has room for alone: what comes first waits in a lane
-/// while what comes next is made.
+/// The register of a store's pixel, and how far behind the register for addresses it is to lie.
+#[derive(Clone, Copy, Debug)]
+struct PixelAt {
+    register: u8,
+    offset: u32,
+}
+
+/// Appends what leaves a store's pixel in a register, and where it is to lie in the one for addresses and an offset,
+/// with one lane configured: what comes first waits in it while what comes next is made.
+fn reach_store(
+    alloc: Global,
+    code: &mut Vec<u32>,
+    site: &Site<'_>,
+    store: &Store,
+) -> Result<PixelAt, CodeFault>
+    requires { scopes.are_registers site.now.scope.now ≡ true }
+    ensures ok { IfOk result (λ at. ReachesStore code.old.items code.new.items site.now.places.now site.now.scope.now
+        at.register at.offset store.now) }
+    ensures err { IfErr result (IsFault ⊥ (FitsParked site.now.places.now site.now.scope.now store.now → ⊥)) }
+{
+    let offset = emit_store_point(alloc, code, site, store)?;
+    emit_park(code, SECOND_VALUE)?;
+    let register = emit_value(alloc, code, site.places, site.scope, &store.value)?;
+    emit_unpark(code, ADDRESS)?;
+    Ok(PixelAt { register, offset })
+}
+
+/// Appends a store whose indexes and value the stack or the frame has room for alone.
 fn emit_parked(
     alloc: Global,
     code: &mut Vec<u32>,
@@ -213,12 +239,34 @@ fn emit_parked(
     if !are_registers(site.scope) {
         return Err(CodeFault::TooDeep);
     }
-    let offset = emit_store_point(alloc, code, site, store)?;
-    emit_park(code, SECOND_VALUE)?;
-    let s = emit_value(alloc, code, site.places, site.scope, &store.value)?;
-    emit_unpark(code, ADDRESS)?;
-    emit_save(code, ADDRESS, s, offset)?;
+    let at = reach_store(alloc, code, site, store)?;
+    emit_save(code, ADDRESS, at.register, at.offset)?;
     Ok(())
+}
+
+/// Appends what leaves a store's pixel in a register, which it returns, and where it is to lie in the one for
+/// addresses. No lanes from the third vector register on change: the column and the address wait in a lane of v1, with
+/// one lane configured.
+///
+/// # Errors
+///
+/// Memory ran out, the value or an index needs more registers than there are and more words than a hart's frame has, or
+/// a loop variable has no register and no form is near.
+pub fn prepare_store(
+    alloc: Global,
+    code: &mut Vec<u32>,
+    places: &Places,
+    scope: &[Held],
+    store: &Store,
+) -> Result<u8, CodeFault>
+    requires { scopes.are_registers scope.now ≡ true }
+    ensures ok { IfOk result (λ s. PreparesStore code.old.items code.new.items places.now scope.now s store.now) }
+    ensures err { IfErr result (IsFault ⊥ (FitsParked places.now scope.now store.now → ⊥)) }
+{
+    let site = Site { places, scope };
+    let at = reach_store(alloc, code, &site, store)?;
+    emit_plus(code, ADDRESS, ADDRESS, at.offset)?;
+    Ok(at.register)
 }
 
 /// Appends a store.
@@ -226,8 +274,8 @@ fn emit_parked(
 /// # Errors
 ///
 /// Memory ran out, the value or an index needs more registers than there are and more words than a hart's frame has, a
-/// loop variable has no register and no form is near, or lanes are configured and an index beside the value needs more
-/// registers than there are.
+/// loop variable has no register and no form is near, or an index beside the value needs more registers than there are
+/// and the scope has lanes.
 pub fn emit_store(
     alloc: Global,
     code: &mut Vec<u32>,

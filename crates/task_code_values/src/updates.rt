@@ -23,7 +23,7 @@ use loop_ir::statements::Store;
 use std::alloc::Global;
 use task_code_registers::registers::{ADDRESS, FIRST_VALUE};
 use task_code_scalar::CodeFault;
-use task_code_scalar::expressions::place_of;
+use task_code_scalar::places::place_of;
 
 // ---- expressions that are the same
 
