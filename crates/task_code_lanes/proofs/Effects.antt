@@ -5,7 +5,7 @@ use Rattle.halide_pipeline.specs.Pixel.{Planes}
 use Rattle.loop_ir.specs.AtOnce.{Effect, put_effect}
 use Rattle.loop_ir.specs.Buffers.{Points}
 use Rattle.loop_ir.specs.Running.{turns}
-use Rattle.task_code_scalar.proofs.Going.{Hits}
+use Rattle.task_code_scalar.proofs.Tracing.{Hits}
 
 -- a round stores at the point
 pub record HitBy (own : ℕ → Option Effect) (n func x y : ℕ) : Type 0 where

@@ -3,7 +3,9 @@
 //!
 //! - [`groups`]: groups of vector registers (`specs/Groups.antt`).
 //! - [`vectors`]: appends single vector instructions.
+//! - [`marks`]: those that mark a lane and put numbers into it.
 #![tactic(auto)]
 
 pub mod groups;
+pub mod marks;
 pub mod vectors;

@@ -25,14 +25,14 @@ use std::alloc::AllocError;
 use task_code_scalar::instructions::{put, register};
 
 /// The vector register with this number.
-fn vector(number: u8) -> VReg
+pub(crate) fn vector(number: u8) -> VReg
     requires { number < 32 }
     ensures { result ≡ number }
 {
     VReg::new(number).unwrap()
 }
 
-fn put_vector(code: &mut Vec<u32>, insn: VectorInsn) -> Result<(), AllocError>
+pub(crate) fn put_vector(code: &mut Vec<u32>, insn: VectorInsn) -> Result<(), AllocError>
     ensures { OnOk result (Emits code.old.items code.new.items (Vector insn ∷ [])) }
 {
     put(code, &Insn::Vector(insn))?;
