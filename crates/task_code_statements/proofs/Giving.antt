@@ -233,13 +233,6 @@ pub some-given : (places : Places) (scope : List Held) (context : Context) (made
     → NamesIf c0 c1 places scope context found → NamesHold c0 c1 places scope (Meets context) made.scope.items (Meets made.context)
 some-given places scope context made found c0 c1 is all = subst (λ o. NamesIf c0 c1 places scope context o) is all
 
--- one name alone, or with others
-pub one-if : (places : Places) (scope : List Held) (context : Context) (one : Naming) (found : Option Naming) (view : List Held) (c0 c1 c2 : List ℕ)
-    → NamesHold c0 c1 places scope (Meets context) one.scope.items (Meets one.context) → found ≡ None → view ≡ one.scope.items
-    → NamesIf c1 c2 places view one.context found → NamesHold c0 c2 places scope (Meets context) one.scope.items (Meets one.context)
-one-if places scope context one found view c0 c1 c2 n is ev all =
-    subst (λ c. NamesHold c0 c places scope (Meets context) one.scope.items (Meets one.context)) (sym (none-given places view one.context found c1 c2 is all)) n
-
 pub more-if : (places : Places) (scope : List Held) (context : Context) (one more : Naming) (found : Option Naming) (view : List Held) (c0 c1 c2 : List ℕ)
     → NamesHold c0 c1 places scope (Meets context) one.scope.items (Meets one.context) → found ≡ Some more → view ≡ one.scope.items
     → NamesIf c1 c2 places view one.context found → NamesHold c0 c2 places scope (Meets context) more.scope.items (Meets more.context)

@@ -41,10 +41,6 @@ regrouped : (a b c : Bool) → cond a (cond b c false) false ≡ cond (cond a b 
 regrouped true b c = refl
 regrouped false b c = refl
 
-and-true : (a : Bool) → cond a true false ≡ a
-and-true true = refl
-and-true false = refl
-
 gathered : (a b c : Bool) → cond (cond a b false) c false ≡ cond b (cond a c false) false
 gathered true b c = refl
 gathered false true c = refl

@@ -72,10 +72,6 @@ name-stays counter own values v other lacks k =
       small = subst (λ n. n < 2 ^ 32) (sym e) k.small;
     }
 
-pub passed-by : (counter : Counter) (names others old new : List Named) (first : Named) → names ≡ first ∷ others → KeepsNames counter others old new
-    → KeepsNames counter names old new
-passed-by counter names others old new first is keeps = subst (λ l. KeepsNames counter l old new) (sym is) (λ values v are kept. keeps values v are.1 kept)
-
 -- the same expression under the same variable
 abbrev pub SameName : Named → Counter → Expr → Type 0
 SameName own counter e = (own.counter ≡ counter) × (own.e ≡ e)

@@ -177,11 +177,6 @@ value-of context whole last extent inner start own el below is begins plus still
       (sum-less (product whole values) (values whole.inner) last extent below less);
 }
 
-pub split-value : (context : Context) (whole : Whole) (extent : ℕ) (found : Option Expr) → is_name whole.outer ≡ false → is_name whole.inner ≡ false
-    → IfSome found (IsValueOf context whole extent) → IfSome found (IsSplitValue context whole extent)
-split-value context whole extent None outer inner is = tt
-split-value context whole extent (Some e) outer inner is = record { own = is; plain = whole-plain whole outer inner }
-
 -- ---- stores
 
 module _ (own : Standing) (store made : Store) (is : IsReplacedStore own store made) (values : Values) (stands : StandsAt own values) where

@@ -1,29 +1,35 @@
 -- What is so where a task begins, and what is left where it ends.
 use Rattle.std.proofs.Common.{◌≡◌, ℕ, ◌+◌, ◌^◌, ◌<◌, List, [], ◌∷◌, ◌++◌, length, refl, ap, ◌∙◌, sym, subst, arith, inl, inr}
 use Rattle.std.specs.Prelude.{if◌then◌else◌, Bool, false, Option, Some, None}
+use Rattle.rv_insn.specs.declared.instructions.Insn.{Insn}
+use Rattle.halide_pipeline.specs.Pixel.{Planes}
 use Rattle.loop_ir.specs.declared.expressions.Counter.{Counter}
 use Rattle.loop_ir.specs.declared.statements.Phase.{Phase}
 use Rattle.loop_ir.specs.Counters.{no_values}
-use Rattle.loop_ir.specs.Running.{task_values}
+use Rattle.loop_ir.specs.Running.{run, task_values}
 use Rattle.multi_hart_logic.specs.Alone.{World}
 use Rattle.multi_hart_logic.specs.Paths.{Line}
 use Rattle.multi_hart_logic.proofs.Paths.{block-then, line-then, stand-front, writes-first}
 use Rattle.task_code_scalar.specs.declared.places.Places.{Places}
 use Rattle.task_code_scalar.specs.Code.{literal}
+use Rattle.task_code_scalar.specs.Doing.{Setting, IsSetting, HoldsFuncs, stored_points}
 use Rattle.task_code_scalar.specs.Words.{Emits}
 use Rattle.task_code_scalar.proofs.Spelling.{emits_then, emits-apart}
 use Rattle.task_code_scalar.proofs.Values.{literal-sets}
 use Rattle.task_code_registers.specs.declared.scopes.Held.{Held}
+use Rattle.task_code_registers.specs.Doing.{Did}
 use Rattle.task_code_registers.specs.Scopes.{Knows, IsKept}
 use Rattle.task_code_loops.proofs.Knowledge.{variable-value}
 use Rattle.task_code_loops.specs.Bounds.{AreBelow}
 use Rattle.task_code_loops.specs.Known.{AreKnown}
 use Rattle.task_code_statements.specs.declared.contexts.Context.{Context}
 use Rattle.task_code_names.specs.Names.{AreNames}
+use Rattle.task_code_runs.specs.AtOnce.{MayRun}
 use Rattle.task_code_statements.specs.Contexts.{Meets, MeetsLoop, MeetsZero, IsEmpty}
 use Rattle.task_code_statements.specs.Statements.{EmitsStatement}
 use Rattle.task_code_statements.proofs.Plainness.{named-same}
-use Rattle.task_code_statements.specs.Tasks.{AppendsTask, Begins, StaysMet, drawn, is_own, restored}
+use Rattle.task_code_statements.specs.Drawing.{Begins, StaysMet, drawn, is_own}
+use Rattle.task_code_statements.specs.Tasks.{AppendsTask, DoesTask, HasDrawn, restored}
 
 -- ---- the beginning
 
@@ -59,7 +65,7 @@ drawn-begins own tasks counter scope outside context ep es small empty within = 
 -- ---- the end
 
 module _ (w : World) (m : List ℕ) (l : length m ≡ w.size) where
-  record Restores (f : ℕ → ℕ) (ticket tasks : ℕ) : Type 0 where
+  pub record Restores (f : ℕ → ℕ) (ticket tasks : ℕ) : Type 0 where
     pub after : ℕ → ℕ
     pub line : Line w (restored ticket tasks) f m after m
     pub ticket_is : after 13 ≡ ticket
@@ -68,7 +74,7 @@ module _ (w : World) (m : List ℕ) (l : length m ≡ w.size) where
     pub tasks_are : after 16 ≡ tasks
     pub others : (q : ℕ) → q < 13 → after q ≡ f q
 
-  restores : (f : ℕ → ℕ) (ticket tasks : ℕ) → ticket + 4 < 2 ^ 32 → tasks < 2 ^ 32 → Restores f ticket tasks
+  pub restores : (f : ℕ → ℕ) (ticket tasks : ℕ) → ticket + 4 < 2 ^ 32 → tasks < 2 ^ 32 → Restores f ticket tasks
   restores f ticket tasks lt ls =
       let i1 = literal-sets w m l f 13 ticket (omega arith) (omega arith) (omega (arith, lt)) in
       let i2 = literal-sets w m l i1.after 14 (ticket + 4) (omega arith) (omega arith) lt in
@@ -94,31 +100,30 @@ kept-harts : (scope : List Held) → IsKept scope 10 × IsKept scope 11
 kept-harts [] = (inr (inl refl), inr (inr refl))
 kept-harts (own ∷ others) = let k = kept-harts others in (inr k.0, inr k.1)
 
-pub task-emits : (phase : Phase) (places : Places) (ticket : ℕ) (scope : List Held) (context : Context) (c0 c1 c2 : List ℕ) → ticket + 4 < 2 ^ 32
-    → phase.tasks < 2 ^ 32 → Begins phase.counter phase.tasks scope context → EmitsStatement c0 c1 places scope (Meets context) phase.body
-    → Emits c1 c2 (restored ticket phase.tasks) → AppendsTask c0 c2 phase places ticket
-task-emits phase places ticket scope context c0 c1 c2 lt ls begins x z =
-    let ends = restored ticket phase.tasks in
-    record {
-      insns = x.insns ++ ends;
-      emits = emits_then x.emits z;
-      does = record {
-        turns = λ task. x.turns (task_values phase.counter task) + length ends;
+module _ (phase : Phase) (places : Places) (ticket : ℕ) where
+  -- code does a phase's statement wherever a task's number was drawn
+  abbrev pub DoesBody : List Insn → (ℕ → ℕ) → List Held → Type 0
+  DoesBody insns turns scope =
+      (own : Setting) → IsSetting own → own.places ≡ places → (task : ℕ) → task < phase.tasks → MayRun own phase.body (task_values phase.counter task)
+      → (f : ℕ → ℕ) (memory : List ℕ) (funcs : Planes) → HoldsFuncs own memory funcs → HasDrawn own task f
+      → Did own insns (turns task) f memory (IsKept scope) (run own.points own.inputs phase.body (task_values phase.counter task) funcs)
+      (stored_points own phase.body (task_values phase.counter task) funcs)
+
+  -- behind it stands what leaves the numbers that are looked for
+  pub task-done : (insns : List Insn) (turns : ℕ → ℕ) (scope : List Held) → ticket + 4 < 2 ^ 32 → phase.tasks < 2 ^ 32 → DoesBody insns turns scope
+      → DoesTask places phase ticket (insns ++ restored ticket phase.tasks)
+  task-done insns turns scope lt ls body =
+      let ends = restored ticket phase.tasks in
+      record {
+        turns = λ task. turns task + length ends;
         does = λ own good at-places task less sound once sure f memory funcs holds is.
-            let values = task_values phase.counter task in
-            let knows = begins.knows own.world.hart task f less is.none is.number is.drawn in
-            let a = x.does own good at-places values values (named-same values) begins.holders (begins.meets task less) (record {
-              sound = sound;
-              at_once =
-                  once;
-              in_runs = sure;
-            }) f memory funcs holds knows in
+            let a = body own good at-places task less (record { sound = sound; at_once = once; in_runs = sure }) f memory funcs holds is in
             let b = restores own.world a.left a.holds.size a.after ticket phase.tasks lt ls in
             let k = kept-harts scope in
             record {
               after = b.after;
               left = a.left;
-              block = block-then own.world x.insns ends (x.turns values) (length ends) f a.after b.after memory a.left a.left a.block b.line;
+              block = block-then own.world insns ends (turns task) (length ends) f a.after b.after memory a.left a.left a.block b.line;
               number = b.others 10 (omega arith) ∙ a.keeps 10 k.0 ∙ is.number;
               all = b.others 11 (omega arith) ∙ a.keeps 11 k.1 ∙ is.all;
               ticket_is = b.ticket_is;
@@ -129,11 +134,23 @@ task-emits phase places ticket scope context c0 c1 c2 lt ls begins x z =
               elsewhere = a.elsewhere;
               are_bytes = a.are_bytes;
               writes = λ func x' y byte at stored of stand.
-                  writes-first own.world at (x.turns values) (length ends) f memory byte
-                  (a.writes func x' y byte at stored of (stand-front own.world.text at x.insns ends stand));
+                  writes-first own.world at (turns task) (length ends) f memory byte
+                  (a.writes func x' y byte at stored of (stand-front own.world.text at insns ends stand));
             };
-      };
-    }
+      }
+
+  pub task-emits : (scope : List Held) (context : Context) (c0 c1 c2 : List ℕ) → ticket + 4 < 2 ^ 32
+      → phase.tasks < 2 ^ 32 → Begins phase.counter phase.tasks scope context → EmitsStatement c0 c1 places scope (Meets context) phase.body
+      → Emits c1 c2 (restored ticket phase.tasks) → AppendsTask c0 c2 phase places ticket
+  task-emits scope context c0 c1 c2 lt ls begins x z = record {
+    insns = x.insns ++ restored ticket phase.tasks;
+    emits = emits_then x.emits z;
+    does = task-done x.insns (λ task. x.turns (task_values phase.counter task)) scope lt ls
+        (λ own good at-places task less may f memory funcs holds is.
+        let values = task_values phase.counter task in
+        x.does own good at-places values values (named-same values) begins.holders (begins.meets task less) may f memory funcs holds
+        (begins.knows own.world.hart task f less is.none is.number is.drawn));
+  }
 
 -- ---- variables that no loop has
 

@@ -1,4 +1,5 @@
 pub mod Contexts
+pub mod Drawing
 pub mod Lacking
 pub mod Laying
 pub mod Lessers

@@ -1,12 +1,10 @@
 -- What instructions do that do each task of a phase, wherever they stand: what the phase's statement does for that task; and they leave the numbers
 -- that the draw and the gate look for. Which instructions they are isn't said. This project's own.
-use Rattle.std.specs.Prelude.{◌≡◌, ◌<◌, ℕ, ◌+◌, true, List, [], ◌∷◌, ◌++◌, Bool, false, Option, Some, None}
+use Rattle.std.specs.Prelude.{◌≡◌, ◌<◌, ℕ, ◌+◌, true, List, ◌++◌}
 use Rattle.rv_insn.specs.declared.instructions.Insn.{Insn}
 use Rattle.memory.specs.Access.{byte_at, AreBytes}
 use Rattle.halide_pipeline.specs.Pixel.{Planes}
-use Rattle.loop_ir.specs.declared.expressions.Counter.{Counter}
 use Rattle.loop_ir.specs.declared.statements.Phase.{Phase}
-use Rattle.loop_ir.specs.Counters.{same_counter}
 use Rattle.loop_ir.specs.Running.{run_task, task_values}
 use Rattle.loop_ir.specs.Stores.{is_stored_by_task}
 use Rattle.multi_hart_logic.specs.Paths.{Stand, Block, Writes}
@@ -15,13 +13,7 @@ use Rattle.task_code_scalar.specs.Code.{literal}
 use Rattle.task_code_scalar.specs.Layout.{IsOf, IsElsewhere}
 use Rattle.task_code_scalar.specs.Doing.{Setting, IsSetting, SoundIn, RunsIn, HoldsFuncs}
 use Rattle.task_code_scalar.specs.Words.{Emits}
-use Rattle.task_code_registers.specs.declared.scopes.Held.{Held}
-use Rattle.task_code_registers.specs.Registers.{zero_register, hart_number}
-use Rattle.task_code_registers.specs.Scopes.{Knows, AreHolders}
-use Rattle.task_code_loops.specs.Beginning.{variable}
 use Rattle.task_code_runs.specs.AtOnce.{AtOnceIn}
-use Rattle.task_code_statements.specs.declared.contexts.Context.{Context}
-use Rattle.task_code_statements.specs.Contexts.{Meets}
 
 -- where a task begins: its number was drawn
 pub record HasDrawn (own : Setting) (task : ℕ) (f : ℕ → ℕ) : Type 0 where
@@ -71,27 +63,3 @@ pub record AppendsTask (old new : List ℕ) (phase : Phase) (places : Places) (t
 -- what leaves the numbers that the draw and the gate look for: the addresses of the ticket and of the gate, 1, and the number of tasks
 abbrev pub restored : ℕ → ℕ → List Insn
 restored ticket tasks = literal 13 ticket ++ (literal 14 (ticket + 4) ++ (literal 15 1 ++ literal 16 tasks))
-
--- ---- where a task begins
-
--- x12 holds its number
-abbrev pub drawn : Counter → List Held
-drawn counter = record { register = 12; form = variable counter } ∷ []
-
--- Where the number of one of so many tasks is drawn registers hold the scope's forms, and loop variables are as known.
-pub record Begins (counter : Option Counter) (tasks : ℕ) (scope : List Held) (context : Context) : Type 0 where
-  pub holders : AreHolders scope
-  pub knows : (hart task : ℕ) (f : ℕ → ℕ) → task < tasks → f zero_register ≡ 0 → f hart_number ≡ hart → f 12 ≡ task
-      → Knows hart scope (task_values counter task) f
-  pub meets : (task : ℕ) → task < tasks → Meets context (task_values counter task)
-
--- ---- variables that no loop has
-
--- the variable of the task's number
-abbrev pub is_own : Option Counter → Counter → Bool
-is_own None counter = false
-is_own (Some own) counter = same_counter counter own
-
--- Where one context meets what variables stand at before a task, another one does.
-pub record StaysMet (own : Option Counter) (context made : Context) : Type 0 where
-  pub meets : (task : ℕ) → Meets context (task_values own task) → Meets made (task_values own task)

@@ -2,8 +2,9 @@
 
 ghost use Rattle.std.specs.Prelude.{◌≡◌, ◌<◌, ◌+◌, ◌^◌, [], IfOk, IfSome, OnOk};
 ghost use Rattle.task_code_scalar.specs.Words.{Emits};
-ghost use Rattle.task_code_statements.specs.Tasks as spec;
-ghost use Rattle.task_code_statements.specs.Tasks.{AppendsTask, Begins, StaysMet};
+ghost use Rattle.task_code_statements.specs.Drawing as spec;
+ghost use Rattle.task_code_statements.specs.Drawing.{Begins, StaysMet};
+ghost use Rattle.task_code_statements.specs.Tasks.{AppendsTask, restored};
 
 use crate::contexts::{Context, in_loop, nothing_known, with_zero};
 use crate::mentions::mentioned_variables;
@@ -38,8 +39,12 @@ struct Start {
     context: Context,
 }
 
-/// A loop variable that stands at the task's number.
-fn with_drawn(alloc: Global, counter: Counter) -> Result<Vec<Held>, AllocError>
+/// A loop variable that stands at the task's number, in the register where that is drawn.
+///
+/// # Errors
+///
+/// Memory ran out.
+pub fn with_drawn(alloc: Global, counter: Counter) -> Result<Vec<Held>, AllocError>
     ensures { IfOk result (λ made. made.items ≡ spec.drawn counter) }
 {
     let form = variable(alloc, counter)?;
@@ -108,9 +113,13 @@ fn beginning(
 }
 
 /// Appends what leaves the numbers that the draw and the gate look for.
+///
+/// # Errors
+///
+/// Memory ran out.
 pub fn emit_restored(code: &mut Vec<u32>, ticket: u32, tasks: u32) -> Result<(), AllocError>
     requires { ticket + 4 < 2 ^ 32 }
-    ensures { OnOk result (Emits code.old.items code.new.items (spec.restored ticket tasks) × (tasks < 2 ^ 32)) }
+    ensures { OnOk result (Emits code.old.items code.new.items (restored ticket tasks) × (tasks < 2 ^ 32)) }
 {
     emit_literal(code, TICKET, ticket)?;
     emit_literal(code, GATE, ticket + 4)?;
@@ -177,7 +186,7 @@ fn tried_words(
 ///
 /// # Errors
 ///
-/// As of [`emit_statement`], for loop variables first.
+/// Memory ran out, or there is no such code, which is answered as [`CodeFault::TooDeep`].
 pub fn emit_task(
     alloc: Global,
     phase: &Phase,

@@ -1,0 +1,33 @@
+-- What registers hold and what is known where a task begins. This project's own.
+use Rattle.std.specs.Prelude.{◌≡◌, ◌<◌, ℕ, List, [], ◌∷◌, Bool, false, Option, Some, None}
+use Rattle.loop_ir.specs.declared.expressions.Counter.{Counter}
+use Rattle.loop_ir.specs.Counters.{same_counter}
+use Rattle.loop_ir.specs.Running.{task_values}
+use Rattle.task_code_registers.specs.declared.scopes.Held.{Held}
+use Rattle.task_code_registers.specs.Registers.{zero_register, hart_number}
+use Rattle.task_code_registers.specs.Scopes.{Knows, AreHolders}
+use Rattle.task_code_loops.specs.Beginning.{variable}
+use Rattle.task_code_statements.specs.declared.contexts.Context.{Context}
+use Rattle.task_code_statements.specs.Contexts.{Meets}
+
+-- x12 holds its number
+abbrev pub drawn : Counter → List Held
+drawn counter = record { register = 12; form = variable counter } ∷ []
+
+-- Where the number of one of so many tasks is drawn registers hold the scope's forms, and loop variables are as known.
+pub record Begins (counter : Option Counter) (tasks : ℕ) (scope : List Held) (context : Context) : Type 0 where
+  pub holders : AreHolders scope
+  pub knows : (hart task : ℕ) (f : ℕ → ℕ) → task < tasks → f zero_register ≡ 0 → f hart_number ≡ hart → f 12 ≡ task
+      → Knows hart scope (task_values counter task) f
+  pub meets : (task : ℕ) → task < tasks → Meets context (task_values counter task)
+
+-- ---- variables that no loop has
+
+-- the variable of the task's number
+abbrev pub is_own : Option Counter → Counter → Bool
+is_own None counter = false
+is_own (Some own) counter = same_counter counter own
+
+-- Where one context meets what variables stand at before a task, another one does.
+pub record StaysMet (own : Option Counter) (context made : Context) : Type 0 where
+  pub meets : (task : ℕ) → Meets context (task_values own task) → Meets made (task_values own task)
