@@ -1,95 +1,48 @@
 -- The example meets what is asked of tasks.
 use Rattle.std.proofs.Common.{◌≡◌, ℕ, zero, suc, ◌+◌, ◌*◌, ◌%◌, ◌^◌, ◌<◌, List, [], ◌∷◌, ◌++◌, length, true, refl, ap, ◌∙◌, sym, subst, arith}
-use Rattle.std.specs.Prelude.{◌==◌, ◌&&◌, map, nat_lt, if◌then◌else◌, pos, Some, slice_index, replicate}
+use Rattle.std.specs.Prelude.{◌==◌, ◌&&◌, map, if◌then◌else◌, pos, Some, slice_index, replicate}
 use Rattle.std.specs.List.{list_all}
 use Rattle.std.proofs.lemmas.Bool.{and_parts, true≢false}
 use Rattle.std.proofs.lemmas.Bool.Decides.{nat_tests}
-use Rattle.rv_insn.specs.declared.instructions.Insn.{Insn}
-use Rattle.rv_insn.specs.declared.instructions.Insn.TheVariants.{Store as Save}
-use Rattle.rv_insn.specs.declared.operations.StoreOp.TheVariants as save_ops
+use Rattle.rv_insn.specs.declared.instructions.Insn.TheVariants.{Lui, AluImm, Shift, Alu}
+use Rattle.rv_insn.specs.declared.operations.AluImmOp.TheVariants.{Addi}
+use Rattle.rv_insn.specs.declared.operations.AluOp.TheVariants.{Add}
+use Rattle.rv_insn.specs.declared.operations.ShiftOp.TheVariants.{Slli}
 use Rattle.memory.specs.Access.{Word, access_at, number_in, touched}
 use Rattle.halide_pipeline.specs.declared.expressions.Source.{Source}
 use Rattle.halide_pipeline.specs.declared.expressions.Source.TheVariants as sources
 use Rattle.halide_pipeline.specs.Pixel.{Planes, Reads, reads_of}
 use Rattle.halide_pipeline.specs.Points.{Point, Seen}
-use Rattle.loop_ir.specs.declared.expressions.Counter.{Counter}
 use Rattle.loop_ir.specs.declared.expressions.Expr.TheVariants as e
 use Rattle.loop_ir.specs.declared.expressions.Linear.{Linear}
 use Rattle.loop_ir.specs.Buffers.{put}
 use Rattle.loop_ir.specs.Counters.{Values}
 use Rattle.loop_ir.specs.Expressions.{value, value_at, loads, seen, seen_at, linear_value}
-use Rattle.loop_ir.specs.Running.{run_task, task_values}
+use Rattle.loop_ir.specs.Running.{run_task, stored, task_values}
 use Rattle.loop_ir.proofs.Folds.{at_number, at_linear}
 use Rattle.loop_ir.specs.Rounds.{Rounds}
 use Rattle.loop_ir.proofs.Rounds.{rounds_store}
 use Rattle.loop_ir.proofs.Sound.{sound_store}
 use Rattle.loop_ir.proofs.Trees.{run_store}
 use Rattle.multi_hart_logic.specs.LaneMemory.{firsts}
-use Rattle.multi_hart_logic.specs.Paths.{Stand, end, Path}
-use Rattle.task_code_scalar.specs.Code.{leaf, Deep, deep, deep_at, deep_leaf, is_linear, linear_code, literal, move, addressed}
-use Rattle.task_code_statements.specs.Tasks.{restored}
-use Rattle.task_code.specs.inner.Code.{task_code}
+use Rattle.multi_hart_logic.specs.Alone.{World}
+use Rattle.multi_hart_logic.specs.Paths.{Line, end, update}
+use Rattle.multi_hart_logic.proofs.Paths.{block-then, line-then, stand-back, stand-front, update-other, update-same, writes-first, writes-later}
+use Rattle.multi_hart_logic.proofs.Rows as rows
 use Rattle.task_code_scalar.specs.Evaluation.{IsPlace, ArePlaces}
-use Rattle.task_code_scalar.specs.Fitting.{has_room, is_word}
-use Rattle.task_code.specs.inner.Fitting.{fits_task, task_turns}
-use Rattle.task_code_scalar.specs.Layout.{func_point, address_of, size_of, IsAt, MayStore, MayLoad, Laid}
-use Rattle.task_code_scalar.specs.Doing.{IsSetting, MayBeWrittenAtOnce, SoundIn, HoldsFuncs}
+use Rattle.task_code_scalar.specs.Layout.{func_point, address_of, size_of, AreWords, IsAt, MayStore, MayLoad, Laid}
+use Rattle.task_code_scalar.specs.Doing.{Setting, IsSetting, MayBeWrittenAtOnce, SoundIn, RunsIn, HoldsFuncs}
+use Rattle.task_code_scalar.proofs.Spelling.{stand-spelled}
+use Rattle.task_code_scalar.proofs.Tracing.{hit-store}
+use Rattle.task_code_scalar.proofs.Values.{Sets, alu-sets, imm-sets, shift-sets}
+use Rattle.task_code_registers.proofs.Going.{Does}
+use Rattle.task_code_values.proofs.Saving.{equal-parts, is-single, saved}
 use Rattle.task_code_runs.specs.AtOnce.{AtOnceIn}
+use Rattle.task_code_statements.specs.Tasks.{EachTaskEnds, restored}
+use Rattle.task_code_statements.proofs.Tasking.{restores}
 use Rattle.task_code.specs.Example.{example_counter, counted, example_store, example_phase, example_place, example_places, example_ticket, example_text}
 use Rattle.task_code.specs.Example.{example_data, example_world, nothing, its_points, is_its_point, example_setting, ExampleIsDone}
-use Rattle.task_code_scalar.proofs.Spelling.{stand-spelled}
-use Rattle.task_code.proofs.Unrolled.{code-store, fits-store, turns-store}
-use Rattle.task_code.proofs.Finishing.{tasks-done}
-use Rattle.task_code.proofs.ExampleWords.{example_insns, example-spelled}
-
--- ---- its code
-
-abbrev scope : List Counter
-scope = example_counter ∷ []
-
-linear-made : (own : Linear) → deep example_places scope (e.Linear own) ≡ deep_leaf (leaf (is_linear own) (linear_code scope own))
-unfolding deep
-linear-made own = at_linear Deep (deep_at example_places scope) own
-
-number-made : (n : ℕ) → deep example_places scope (e.Number n) ≡ deep_leaf (leaf (nat_lt n (2 ^ 32)) (λ r. literal r n))
-unfolding deep
-number-made n = at_number Deep (deep_at example_places scope) n
-
-abbrev sum : ℕ → Deep
-sum n = deep_leaf (leaf (is_linear (counted n)) (linear_code scope (counted n)))
-
-abbrev zero-made : Deep
-zero-made = deep_leaf (leaf (nat_lt 0 (2 ^ 32)) (λ r. literal r 0))
-
--- of what is made of a store's parts
-by-parts : {A : Type 0} (f : Deep → Deep → Deep → A)
-    → f (deep example_places scope example_store.x) (deep example_places scope example_store.y) (deep example_places scope example_store.value)
-    ≡ f (sum 0) zero-made (sum 7)
-by-parts f =
-    ap (λ a. f a (deep example_places scope example_store.y) (deep example_places scope example_store.value)) (linear-made (counted 0))
-    ∙ ap (λ b. f (sum 0) b (deep example_places scope example_store.value)) (number-made 0)
-    ∙ ap (λ c. f (sum 0) zero-made c) (linear-made (counted 7))
-
-abbrev joined : Deep → Deep → Deep → List Insn
-joined a b c = a.code 0 ++ (move 15 20 ++ (b.code 0 ++ (addressed example_place 15 20 ++ (c.code 0 ++ (Save save_ops.Sw 15 20 (pos 0) ∷ [])))))
-
-code-is : task_code example_phase example_places example_ticket ≡ example_insns
-code-is =
-    ap (λ code. code ++ restored example_ticket 2) (code-store example_places example_store scope)
-    ∙ by-parts (λ a b c. joined a b c ++ restored example_ticket 2)
-
-turns-are : (task : ℕ) → task_turns example_phase example_places example_ticket task ≡ 36
-turns-are task =
-    ap (λ n. n + 8) (turns-store example_places example_store scope (task_values (Some example_counter) task))
-    ∙ by-parts (λ a b c. length (joined a b c) + 8)
-
-fits-is : fits_task example_phase example_places ≡ true
-fits-is =
-    ap (λ b. b && is_word 2) (fits-store example_places example_store scope)
-    ∙ by-parts (λ a b c. (has_room example_places a && (has_room example_places b && has_room example_places c)) && is_word 2)
-
-stands : Stand example_text 65536 (task_code example_phase example_places example_ticket)
-stands = subst (Stand example_text 65536) (sym code-is) (stand-spelled [] example_text [] example_insns (omega arith) example-spelled)
+use Rattle.task_code.proofs.ExampleWords.{example_insns, example-spelled, making, saving}
 
 -- ---- its values
 
@@ -299,22 +252,132 @@ module _ (task : ℕ) (small : task < 2) where
       empty (sources.Input k) x y = refl
       empty (sources.Func k) x y = refl
 
+-- ---- what its instructions do
+
+module _ (w : World) (m : List ℕ) (l : length m ≡ w.size) (f : ℕ → ℕ) (task : ℕ) (small : task < 2) (is : f 12 ≡ task) where
+  one : Sets w m l (AluImm Addi 20 12 (pos 7) ∷ []) f 20 ((task + 7) % 2 ^ 32)
+  one = imm-sets w m l Addi f 20 12 (pos 7) task (omega arith) (omega arith) (omega arith) is
+
+  two : Sets w m l (Shift Slli 15 12 2 ∷ []) one.after 15 (task * 4 % 2 ^ 32)
+  two = shift-sets w m l Slli one.after 15 12 2 task (omega arith) (omega arith) (omega arith) (one.others 12 (λ e. omega (arith, e)) ∙ is)
+
+  three : Sets w m l (Lui 13 512 ∷ []) two.after 13 0x00200000
+  three = record {
+    after = update two.after 13 0x00200000;
+    line = rows.lui w two.after m l 13 512 (omega arith) (omega arith);
+    value = update-same two.after 13 0x00200000;
+    others = λ q n. update-other two.after 13 0x00200000 q n;
+  }
+
+  four : Sets w m l (Alu Add 15 15 13 ∷ []) three.after 15 ((task * 4 % 2 ^ 32 + 0x00200000) % 2 ^ 32)
+  four = alu-sets w m l Add three.after 15 15 13 _ _ (omega arith) (omega arith) (omega arith) (omega arith)
+      (three.others 15 (λ e. omega (arith, e)) ∙ two.value) three.value
+
+  record Makes : Type 0 where
+    pub after : ℕ → ℕ
+    pub line : Line w making f m after m
+    pub value : after 20 ≡ 7 + task
+    pub address : after 15 ≡ 0x00200000 + 4 * task
+    pub others : (q : ℕ) → q < 12 → after q ≡ f q
+
+  makes : Makes
+  makes = record {
+    after = four.after;
+    line = line-then w (AluImm Addi 20 12 (pos 7) ∷ []) (Shift Slli 15 12 2 ∷ (Lui 13 512 ∷ (Alu Add 15 15 13 ∷ []))) f one.after four.after m m m one.line
+        (line-then w (Shift Slli 15 12 2 ∷ []) (Lui 13 512 ∷ (Alu Add 15 15 13 ∷ [])) one.after two.after four.after m m m two.line
+        (line-then w (Lui 13 512 ∷ []) (Alu Add 15 15 13 ∷ []) two.after three.after four.after m m m three.line four.line));
+    value = four.others 20 (λ e. omega (arith, e)) ∙ three.others 20 (λ e. omega (arith, e)) ∙ two.others 20 (λ e. omega (arith, e)) ∙ one.value
+        ∙ (let g : (task + 7) % 2 ^ 32 ≡ 7 + task = omega (arith, small) in g);
+    address = four.value ∙ (let g : (task * 4 % 2 ^ 32 + 0x00200000) % 2 ^ 32 ≡ 0x00200000 + 4 * task = omega (arith, small) in g);
+    others = λ q first.
+        four.others q (λ e. omega (arith, e, first)) ∙ three.others q (λ e. omega (arith, e, first)) ∙ two.others q (λ e. omega (arith, e, first))
+        ∙ one.others q (λ e. omega (arith, e, first));
+  }
+
+module _ (own : Setting) (good : IsSetting own) (at-places : own.places ≡ example_places) (task : ℕ) (small : task < 2)
+    (sound : SoundIn own example_phase.body (task_values (Some example_counter) task))
+    (sure : RunsIn own example_phase.body (task_values (Some example_counter) task)) (funcs : Planes) (words : AreWords funcs) where
+  abbrev w : World
+  w = own.world
+
+  abbrev at-task : Values
+  at-task = task_values (Some example_counter) task
+
+  abbrev reads : Reads
+  reads = reads_of own.inputs funcs
+
+  abbrev its_hits : ℕ → ℕ → ℕ → Type 0
+  its_hits func i j = (0 ≡ func) × ((value reads at-task example_store.x ≡ i) × (value reads at-task example_store.y ≡ j))
+
+  spot-is : address_of w own.places (func_point 0 (value reads at-task example_store.x) (value reads at-task example_store.y)) ≡ 0x00200008 + 4 * task
+  spot-is =
+      ap (λ a. address_of w own.places (func_point 0 a (value reads at-task example_store.y))) (x-is task small reads)
+      ∙ ap (λ b. address_of w own.places (func_point 0 task b)) (number-is task small reads)
+      ∙ ap (λ p. address_of w p (func_point 0 task 0)) at-places
+      ∙ (let g : address_of w example_places (func_point 0 task 0) ≡ 0x00200008 + 4 * task = omega arith in g)
+
+  value-is : value reads at-task example_store.value ≡ 7 + task
+  value-is = linear-is task small reads 7 (omega arith)
+
+  stores : (f : ℕ → ℕ) (memory : List ℕ) → HoldsFuncs own memory funcs → f 15 ≡ 0x00200000 + 4 * task → f 20 ≡ 7 + task
+      → Does own saving 1 f memory (λ q. Unit {0}) (stored own.points reads example_store at-task funcs) its_hits
+  stores f memory holds e15 e20 =
+      let k = and_parts (own.written 0 (value reads at-task example_store.x) (value reads at-task example_store.y)) _
+      (sym (sound_store reads own.written own.loaded example_store at-task) ∙ sound funcs words) in
+      let g : ((2097152 + 4 * task) + 8) % 2 ^ 32 ≡ 2097160 + 4 * task = omega (arith, small) in
+      saved own good at-task (λ q. Unit {0}) example_store 15 20 (pos 8) f memory funcs (omega arith) (omega arith) holds k.0
+      (is-single own good at-task example_store sure funcs words) (subst (λ n. n < 2 ^ 32) (sym value-is) (omega (arith, small)))
+      (ap (λ n. (n + 8) % 2 ^ 32) e15 ∙ g ∙ sym spot-is) (e20 ∙ sym value-is)
+
+example-does : EachTaskEnds example_places example_phase example_ticket example_insns (λ task. 13)
+example-does own good at-places task less sound once sure f memory funcs holds is =
+    let w = own.world in
+    let values = task_values (Some example_counter) task in
+    let a = makes w memory holds.size f task less is.drawn in
+    let b = stores own good at-places task less sound sure funcs holds.are_words a.after memory holds a.address a.value in
+    let c = restores w b.left b.holds.size b.after example_ticket 2 (omega arith) (omega arith) in
+    let ends = restored example_ticket 2 in
+    let still : (q : ℕ) → q < 12 → c.after q ≡ f q = (λ q low. c.others q (omega (arith, low)) ∙ b.keeps q tt ∙ a.others q low) in
+    record {
+      after = c.after;
+      left = b.left;
+      block = block-then w making (saving ++ ends) 4 9 f a.after c.after memory memory b.left a.line
+          (block-then w saving ends 1 8 a.after b.after c.after memory b.left b.left b.path c.line);
+      number = still 10 (omega arith) ∙ is.number;
+      all = still 11 (omega arith) ∙ is.all;
+      ticket_is = c.ticket_is;
+      gate_is = c.gate_is;
+      one = c.one;
+      tasks_are = c.tasks_are;
+      holds = subst (HoldsFuncs own b.left) (sym (run_store own.points own.inputs example_store values funcs)) b.holds;
+      elsewhere = b.elsewhere;
+      are_bytes = b.are_bytes;
+      writes = λ func i j byte at hit of stand.
+          let reads = reads_of own.inputs funcs in
+          let back = stand-back w.text at making (saving ++ ends) stand in
+          let hits = equal-parts 0 func (value reads values example_store.x) i (value reads values example_store.y) j
+          (sym (hit-store own.points own.inputs func i j example_store values funcs) ∙ hit) in
+          let last = b.writes func i j byte (end at making) hits of (stand-front w.text (end at making) saving ends back) in
+          writes-later w at (end at making) 4 9 f a.after memory memory byte (a.line at (stand-front w.text at making (saving ++ ends) stand))
+          (writes-first w (end at making) 1 8 a.after memory byte last);
+    }
+
 pub example-done : ExampleIsDone
 example-done task f small drawn =
-    let a = tasks-done (example_setting task) (good task small) example_phase example_ticket task fits-is (omega arith) (omega (arith, small))
-    (sound-is task small) (once-is task small) (λ funcs are func runs. absurd (true≢false (sym runs))) f example_data nothing (holds-nothing task small)
-    drawn in
-    let path : Path (example_world task) 65536 (end 65536 (task_code example_phase example_places example_ticket)) (task_turns example_phase example_places
-    example_ticket task) f example_data a.after a.left = a.block 65536 stands in
-    let ended : Path (example_world task) 65536 65680 (task_turns example_phase example_places example_ticket task) f example_data a.after a.left =
-    subst (λ code. Path (example_world task) 65536 (end 65536 code) (task_turns example_phase example_places example_ticket task) f example_data a.after a.left)
-    code-is path in
+    let a = example-does (example_setting task) (good task small) refl task small (sound-is task small) (once-is task small)
+    (λ funcs are func runs. absurd (true≢false (sym runs))) f example_data nothing (holds-nothing task small) drawn in
+    let stands = stand-spelled [] example_text [] example_insns (omega arith) example-spelled in
     let at-address : address_of (example_world task) example_places (func_point 0 task 0) ≡ 0x00200008 + 4 * task = omega arith in
     record {
+      good = good task small;
+      sound = sound-is task small;
+      at_once = once-is task small;
+      in_runs = λ funcs are func runs. absurd (true≢false (sym runs));
+      held = holds-nothing task small;
       after = a.after;
       left = a.left;
-      path = subst (λ n. Path (example_world task) 65536 65680 n f example_data a.after a.left) (turns-are task) ended;
-      draws_again = a.tasks_are;
-      holds = subst (λ b. number_in example_text a.left Word b ≡ 7 + task) at-address (a.holds.holds (func_point 0 task 0) (its-point task small)
-          ∙ left-is task small);
+      path = a.block 65536 stands;
+      tasks_are = a.tasks_are;
+      holds = subst (λ b. number_in example_text a.left Word b ≡ 7 + task) at-address
+          (a.holds.holds (func_point 0 task 0) (its-point task small) ∙ left-is task small);
     }

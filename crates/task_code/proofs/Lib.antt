@@ -1,12 +1,5 @@
-pub mod Choosing
-pub mod Collecting
 pub mod Counting
 pub mod ExampleTask
 pub mod ExampleWords
-pub mod Finishing
-pub mod Following
-pub mod Lengths
-pub mod Nests
 pub mod Promising
-pub mod StmtRefusing
-pub mod Unrolled
+pub mod Standing

@@ -1,4 +1,4 @@
--- One phase of two tasks, each with one store, and a text that spells its code: an instance of all that is promised of tasks, so that no
+-- One phase of two tasks, each with one store, and a text that spells code of it: an instance of all that is promised of tasks, so that no
 -- premise of it is one that nothing meets. This project's own.
 --
 -- Task t stores 7 + t at column t of the only buffer, which lies behind the phase's two words.
@@ -16,13 +16,15 @@ use Rattle.loop_ir.specs.declared.statements.Phase.{Phase}
 use Rattle.loop_ir.specs.declared.statements.Store.{Store}
 use Rattle.loop_ir.specs.declared.statements.Stmt.TheVariants as s
 use Rattle.loop_ir.specs.Buffers.{Points}
+use Rattle.loop_ir.specs.Running.{task_values}
 use Rattle.multi_hart_logic.specs.Uses.{Use, Control, Fixed, Owned, Task}
 use Rattle.multi_hart_logic.specs.Alone.{World}
 use Rattle.multi_hart_logic.specs.Paths.{Path}
 use Rattle.task_code_scalar.specs.declared.places.Pixels.TheVariants as pixels
 use Rattle.task_code_scalar.specs.declared.places.Place.{Place}
 use Rattle.task_code_scalar.specs.declared.places.Places.{Places}
-use Rattle.task_code_scalar.specs.Doing.{Setting}
+use Rattle.task_code_scalar.specs.Doing.{Setting, IsSetting, SoundIn, RunsIn, HoldsFuncs}
+use Rattle.task_code_runs.specs.AtOnce.{AtOnceIn}
 use Rattle.task_code_statements.specs.Tasks.{HasDrawn}
 
 -- ---- the phase
@@ -53,34 +55,11 @@ example_ticket = 0x00200000
 
 -- from 0x00010000 on:
 --
---     Lui 20 0
---     AluImm Addi 20 20 (pos 0)
---     Lui 13 0
---     AluImm Addi 13 13 (pos 1)
---     Alu Mul 13 13 12
---     Alu Add 20 20 13
---     AluImm Addi 15 20 (pos 0)
---     Lui 20 0
---     AluImm Addi 20 20 (pos 0)
---     Lui 13 0
---     AluImm Addi 13 13 (pos 2)
---     Alu Mul 20 20 13
---     Alu Add 15 15 20
---     Shift Slli 15 15 2
+--     AluImm Addi 20 12 (pos 7)
+--     Shift Slli 15 12 2
 --     Lui 13 512
---     AluImm Addi 13 13 (pos 8)
 --     Alu Add 15 15 13
---     Lui 13 0
---     AluImm Addi 13 13 (pos 0)
---     Alu Mul 13 13 10
---     Alu Add 15 15 13
---     Lui 20 0
---     AluImm Addi 20 20 (pos 7)
---     Lui 13 0
---     AluImm Addi 13 13 (pos 1)
---     Alu Mul 13 13 12
---     Alu Add 20 20 13
---     Store Sw 15 20 (pos 0)
+--     Store Sw 15 20 (pos 8)
 --     Lui 13 512
 --     AluImm Addi 13 13 (pos 0)
 --     Lui 14 512
@@ -91,34 +70,11 @@ example_ticket = 0x00200000
 --     AluImm Addi 16 16 (pos 2)
 abbrev pub example_text : List ℕ
 example_text =
-    0x00000A37
-    ∷ 0x000A0A13
-    ∷ 0x000006B7
-    ∷ 0x00168693
-    ∷ 0x02C686B3
-    ∷ 0x00DA0A33
-    ∷ 0x000A0793
-    ∷ 0x00000A37
-    ∷ 0x000A0A13
-    ∷ 0x000006B7
-    ∷ 0x00268693
-    ∷ 0x02DA0A33
-    ∷ 0x014787B3
-    ∷ 0x00279793
+    0x00760A13
+    ∷ 0x00261793
     ∷ 0x002006B7
-    ∷ 0x00868693
     ∷ 0x00D787B3
-    ∷ 0x000006B7
-    ∷ 0x00068693
-    ∷ 0x02A686B3
-    ∷ 0x00D787B3
-    ∷ 0x00000A37
-    ∷ 0x007A0A13
-    ∷ 0x000006B7
-    ∷ 0x00168693
-    ∷ 0x02C686B3
-    ∷ 0x00DA0A33
-    ∷ 0x0147A023
+    ∷ 0x0147A423
     ∷ 0x002006B7
     ∷ 0x00068693
     ∷ 0x00200737
@@ -167,12 +123,18 @@ example_setting task = record {
 
 -- ---- what it comes to
 
--- behind its code, with the task's number and 7 in the task's word
+-- The setting is one, the phase's statement may run there, and memory holds the buffers; behind its code the task's number and 7 stand in the
+-- task's word.
 pub record ExampleEnds (task : ℕ) (f : ℕ → ℕ) : Type 0 where
+  pub good : IsSetting (example_setting task)
+  pub sound : SoundIn (example_setting task) example_phase.body (task_values example_phase.counter task)
+  pub at_once : AtOnceIn (example_setting task) example_phase.body (task_values example_phase.counter task)
+  pub in_runs : RunsIn (example_setting task) example_phase.body (task_values example_phase.counter task)
+  pub held : HoldsFuncs (example_setting task) example_data nothing
   pub after : ℕ → ℕ
   pub left : List ℕ
-  pub path : Path (example_world task) text_start (text_start + 144) 36 f example_data after left
-  pub draws_again : after 16 ≡ 2
+  pub path : Path (example_world task) text_start (text_start + 52) 13 f example_data after left
+  pub tasks_are : after 16 ≡ 2
   pub holds : word_at example_text left (0x00200008 + 4 * task) ≡ 7 + task
 
 abbrev pub ExampleIsDone : Type 0

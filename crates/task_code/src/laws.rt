@@ -8,7 +8,7 @@ pub fn appended_words_stand()
     ensures { AppendedWordsStand }
 {}
 
-/// A phase of two tasks over a text of 36 words meets all that is asked of tasks: each leaves its number and 7 in its
+/// A phase of two tasks over a text of 13 words meets all that is asked of tasks: each leaves its number and 7 in its
 /// own word.
 pub fn two_tasks_are_done()
     ensures { ExampleIsDone }

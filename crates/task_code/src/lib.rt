@@ -1,15 +1,13 @@
 //! The machine code of one task of a phase.
 //!
 //! - [`emit`]: appends words that do each task of a phase, wherever they stand (`specs/Tasks.antt`), or says why there
-//!   are none (`specs/Faults.antt`). Which instructions they are is its own matter: the code function by which those by
-//!   variables are proved stands below `specs/inner/`.
+//!   are none (`specs/Faults.antt`). Which instructions they are is its own matter.
 //! - [`laws`]: appended words stand in the text that goes on from there, and an instance of all that is promised of
 //!   tasks (`specs/Example.antt`).
 #![tactic(auto)]
 
 pub mod laws;
 mod sizes;
-mod statements;
-mod turns;
+mod tasks;
 
-pub use crate::statements::emit;
+pub use crate::tasks::emit;

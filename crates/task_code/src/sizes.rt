@@ -6,7 +6,6 @@ ghost use Rattle.task_code.specs.Tasks.{task_size};
 
 use loop_ir::expressions::Expr;
 use loop_ir::statements::{LoopKind, Phase, Stmt, Store};
-use task_code_scalar::loops::are_copies;
 
 fn plus(a: u32, b: u32) -> u32
     requires { (a ≤ 2 ^ 18) × (b ≤ 2 ^ 18) }
@@ -80,7 +79,7 @@ fn store_size(store: &Store) -> u32
 }
 
 /// Whether a loop of this kind is laid out, one copy of its body a round.
-pub(crate) fn is_laid_out(kind: LoopKind) -> bool
+fn is_laid_out(kind: LoopKind) -> bool
     ensures { result ≡ spec.is_laid_out kind }
 {
     match kind {
@@ -88,6 +87,13 @@ pub(crate) fn is_laid_out(kind: LoopKind) -> bool
         LoopKind::Unrolled => true,
         LoopKind::Vectorized => false,
     }
+}
+
+/// Whether there is a copy of a loop's body for each round.
+fn are_copies(is_laid: bool, count: u32) -> bool
+    ensures { result ≡ spec.are_copies is_laid count }
+{
+    is_laid && count > 0
 }
 
 /// So many times a size.
@@ -102,7 +108,7 @@ fn times(count: u32, size: u32) -> u32
     }
 }
 
-/// Of a loop in so many turns around a body of so many words.
+/// Of a loop of so many iterations around a body of so many words.
 fn loop_size(is_laid: bool, count: u32, body: u32) -> u32
     requires { body ≤ 2 ^ 18 }
     ensures { (result ≤ 2 ^ 18) × ((n : ℕ) → body ≡ min n (2 ^ 18)
@@ -123,8 +129,8 @@ fn whole_size(stmt: &Stmt) -> u32
         Stmt::Store(store) => store_size(store),
         Stmt::Sequence(first, second) => plus(whole_size(first.get()), whole_size(second.get())),
         Stmt::For(_, count, kind, body) => {
-            let turns = loop_size(is_laid_out(*kind), *count, whole_size(body.get()));
-            plus(turns, 31)
+            let loop_words = loop_size(is_laid_out(*kind), *count, whole_size(body.get()));
+            plus(loop_words, 31)
         }
         Stmt::Bind(_, _, _, body) => plus(whole_size(body.get()), 25),
     }

@@ -78,9 +78,6 @@ pub none-subtracted : (v w : ℕ) → v < 2 ^ 32 → w ≡ 0 → subtract v w �
 unfolding subtract
 none-subtracted v w small zero = omega (arith, small, zero)
 
-pub is-zero : (range : Range) (v : ℕ) → range.low ≡ 2 ^ 31 → range.high ≡ 2 ^ 31 → v < 2 ^ 32 → LiesIn range v → v ≡ 0
-is-zero range v el eh small l = let a = l.low in let b = l.high in omega (arith, el, eh, small, a, b)
-
 pub sum-word : (values : Values) (own : Linear) → linear_value values own < 2 ^ 32
 unfolding linear_value
 sum-word values own = omega arith

@@ -11,8 +11,7 @@ ghost use Rattle.task_code_clamps.specs.Ranges.{IsByte, LiesIn};
 use halide_pipeline::Source;
 use loop_ir::expressions::Linear;
 use task_code_loops::bounds::{Bound, most_of};
-use task_code_scalar::expressions::place_of;
-use task_code_scalar::places::{Pixels, Places};
+use task_code_scalar::places::{Pixels, Places, place_of};
 
 /// Between which levels a word lies; its level is how far it lies above -2^31, as a signed number.
 #[derive(Clone, Copy, Debug)]

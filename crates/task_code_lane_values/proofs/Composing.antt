@@ -95,16 +95,6 @@ module _ (w : World) (m : List ℕ) (l : length m ≡ w.size) (group : Group) (n
       → LeavesLanes w m is f group k n x
   left-of is f k x small a = record { after = a.after; line = a.line; value = a.value; small = small; keeps = λ q u. a.keeps q (under-kept group k q u) }
 
-  pub left-as : (is : List Insn) (f : ℕ → ℕ) (k : ℕ) (x y : ℕ → ℕ) → ((i : ℕ) → i < n → x i ≡ y i) → LeavesLanes w m is f group k n x
-      → LeavesLanes w m is f group k n y
-  left-as is f k x y same a = record {
-    after = a.after;
-    line = a.line;
-    value = λ i b. a.value i b ∙ same i b;
-    small = λ i b. subst (λ z. z < 2 ^ 32) (same i b) (a.small i b);
-    keeps = a.keeps;
-  }
-
 -- ---- scalars
 
 -- a number or a form is one that a register holds or gets

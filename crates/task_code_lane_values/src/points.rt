@@ -25,9 +25,8 @@ use task_code_registers::points::point_form;
 use task_code_registers::registers::{ADDRESS, FIRST_VALUE};
 use task_code_registers::scopes::Held;
 use task_code_scalar::CodeFault;
-use task_code_scalar::expressions::place_of;
 use task_code_scalar::instructions::alu;
-use task_code_scalar::places::{Pixels, Place};
+use task_code_scalar::places::{Pixels, Place, place_of};
 use task_code_values::accesses::bytes_of;
 use task_code_values::expressions::sum_of;
 

@@ -111,7 +111,7 @@ pub record MakesLoop (old new : List ℕ) (most : ℕ) (scope inner : List Held)
       → (f : ℕ → ℕ) (memory : List ℕ) (funcs : Planes) → HoldsFuncs own memory funcs → Knows hart scope values f
       → Did own insns (before + total count (λ i. t i + cost i)) f memory (IsKept scope) (turns count one funcs) (stored count funcs)
 
--- A loop is begun, its body is appended, and it is ended.
+-- What is begun, and ended behind its body, is a loop.
 abbrev pub LoopsAreMade : Type 0
 LoopsAreMade =
     (c0 c1 c2 c3 : List ℕ) (most : ℕ) (counter : Counter) (count reserved : ℕ) (scope : List Held) (begun : Begun) (body : List Insn)

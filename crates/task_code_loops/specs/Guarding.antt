@@ -31,7 +31,7 @@ pub record Comes (world : World) (whole : List Insn) (to : ℕ → ℕ) (n : ℕ
   pub keeps : (q : ℕ) → q ≢ scratch → q ≢ second_scratch → q ≢ address_register → after q ≡ f q
   pub path : (at : ℕ) → Stand world.text at whole → Path world at (to at) n f memory after memory
 
--- Appended code does what a body does where a form is below an extent, and else nothing. Its turns hang on that alone.
+-- Appended code does what a body does where a form is below an extent, and else nothing. Its turns hang on that and on the body's alone.
 pub record Guards (old new : List ℕ) (most : ℕ) (scope : List Held) (form : Form) (extent : ℕ) (body : List Insn) : Type 0 where
   pub insns : List Insn
   pub emits : Emits old new insns

@@ -15,8 +15,7 @@ use task_code_registers::numbers::fits;
 use task_code_registers::points::point_form;
 use task_code_registers::scopes::Form;
 use task_code_registers::sums::distance;
-use task_code_scalar::expressions::place_of;
-use task_code_scalar::places::Places;
+use task_code_scalar::places::{Places, place_of};
 
 /// As many uses a sum counts for whose value is wanted and not only an address: there is no code for it where no
 /// register holds it.

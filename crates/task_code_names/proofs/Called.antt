@@ -14,15 +14,6 @@ use Rattle.task_code_names.specs.declared.names.Named.{Named}
 use Rattle.task_code_names.specs.Names.{IsNameOf, IsNamedExpr}
 use Rattle.task_code_names.proofs.Alike.{loads_linear}
 
-pub first-is : (others : List Named) (first : Named) (own : Expr) → first.e ≡ own → IsNameOf (first ∷ others) own first.counter
-first-is others first own same values are =
-    let k = are.0 in
-    record {
-      value_is = λ reads. sym (ap (λ x. value reads values x) same) ∙ k.value_is reads;
-      none = λ reads. sym (ap (λ x. loads reads values x) same) ∙ k.none reads;
-      small = k.small;
-    }
-
 variable-is : (values : Values) (counter : Counter) → values counter < 2 ^ 32 → linear_value values (variable counter).sum ≡ values counter
 unfolding linear_value
 variable-is values counter small =

@@ -8,10 +8,7 @@ use Rattle.multi_hart_logic.specs.Paths.{Stand, end, Path, Writes}
 use Rattle.multi_hart_logic.proofs.Paths.{path-then, writes-first, writes-later}
 use Rattle.task_code_scalar.specs.Layout.{IsOf, IsElsewhere}
 use Rattle.task_code_scalar.specs.Doing.{Setting, HoldsFuncs}
-
--- points of Funcs
-abbrev pub Hits : Type 1
-Hits = ℕ → ℕ → ℕ → Type 0
+pub use Rattle.task_code_scalar.proofs.Tracing.{Hits}
 
 abbrev pub no_hits : Hits
 no_hits func x y = ⊥

@@ -22,12 +22,6 @@ use Rattle.task_code_registers.proofs.Making.{puts-then, puts-is, short-then, ba
 
 -- ---- distances
 
-pub zero-more : (values : Values) (terms rest : List Term) (first : Term) → terms ≡ first ∷ rest → first.stride ≡ 0 → sum_of values rest ≡ 0
-    → sum_of values terms ≡ 0
-zero-more values terms rest first e z r =
-    ap (sum_of values) e ∙ (let g : values first.counter * 0 + 0 ≡ 0 = omega arith in
-    ap (λ s. values first.counter * s + sum_of values rest) z ∙ ap (λ s. values first.counter * 0 + s) r ∙ g)
-
 apart-by : (a b d : ℕ) → a < 2 ^ 32 → b < 2 ^ 32 → d ≡ (a + (2 ^ 32 - b)) % 2 ^ 32 → a ≡ (b + d) % 2 ^ 32
 apart-by a b d la lb e = omega (arith, la, lb, e)
 
@@ -105,11 +99,6 @@ form-is scope n most r c0 c1 of other fits x e = record {
   short = let k = x.short in omega (arith, k, fits);
   does = λ w m hart values f l holders free knows. puts-is w m l (e hart values) (x.does w m hart values f l holders free knows);
 }
-
--- what is longer than a number and no more
-pub long-enough : (own : Form) → (own.per_hart ≢ 0) ⊎ (1 ≤ length own.sum.terms) → 6 ≤ sum_words own.per_hart own.sum.terms
-long-enough own (inl some) = let b = base-some own.per_hart some in omega (arith, b)
-long-enough own (inr some) = let b = base-least own.per_hart in omega (arith, b, some)
 
 pub near-form : (scope : List Held) (own : Form) (s n r : ℕ) (c0 c1 : List ℕ) → IsNear scope own s n → IsWorth own n
     → MakesOf c0 c1 3 r s (λ v. (v + n) % 2 ^ 32) → (Fits n → MakesOf c0 c1 1 r s (λ v. (v + n) % 2 ^ 32))

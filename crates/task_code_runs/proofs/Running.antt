@@ -37,7 +37,7 @@ use Rattle.task_code_scalar.specs.Doing.{Setting, IsSetting, AreRun, HoldsFuncs,
 use Rattle.task_code_scalar.specs.Words.{Emits}
 use Rattle.task_code_scalar.proofs.Looping.{each-turn}
 use Rattle.task_code_scalar.proofs.Spelling.{emits_then}
-use Rattle.task_code_scalar.proofs.Spilling.{all-loaded}
+use Rattle.task_code_scalar.proofs.Loading.{all-loaded}
 use Rattle.task_code_scalar.proofs.Tracing.{hit-for}
 use Rattle.task_code_registers.specs.declared.scopes.Form.{Form}
 use Rattle.task_code_registers.specs.declared.scopes.Held.{Held}
@@ -258,7 +258,7 @@ stored-as places scope lanes_of store place b u addressing c0 c1 c2 c3 ep eu p t
           let each = may-store own good lanes_of body store values named n agrees may funcs memory holds in
           let loaded = λ (e : Expr) (k : ℕ) (may-load : list_all own.loaded (loads reads_now (at k) e) ≡ true).
           subst (λ ps. AllByRecursion (Loads w ps memory reads_now) (loads reads_now (at k) e)) at-places
-          (all-loaded own good [] (at k) funcs memory holds (loads reads_now (at k) e) may-load) in
+          (all-loaded own good funcs memory holds (loads reads_now (at k) e) may-load) in
           let are : ArePlaces places = subst ArePlaces at-places good.are_places in
           let a = p.does w memory named reads_now n f holds.size are holders knows has agrees.some agrees.few
           (λ k few. let q = each k few in loaded store.value k q.of_value) in

@@ -22,7 +22,7 @@ use task_code_registers::points::point_form;
 use task_code_registers::registers::FIRST_VALUE;
 use task_code_registers::scopes::are_registers;
 use task_code_scalar::CodeFault;
-use task_code_scalar::expressions::place_of;
+use task_code_scalar::places::place_of;
 use task_code_values::expressions::sum_of;
 use task_code_values::sites::Site;
 

@@ -10,7 +10,7 @@ use Rattle.multi_hart_logic.specs.Alone.{World}
 use Rattle.halide_pipeline.specs.Points.{Point}
 use Rattle.task_code_scalar.specs.declared.places.Places.{Places}
 use Rattle.task_code_scalar.specs.Code.{frame_words}
-use Rattle.task_code_scalar.specs.Layout.{frame_start, frame_word, OwnsFrame, FramesLie, address_of, bytes_of}
+use Rattle.task_code_scalar.specs.Layout.{frame_start, frame_word, OwnsFrame, IsFrame, address_of, bytes_of}
 
 one-in : (b other : ℕ) (rest : List ℕ) → is_in b (other ∷ rest) ≡ true → (b ≡ other) ⊎ (is_in b rest ≡ true)
 one-in b other rest is = by-test (b == other) refl is
@@ -20,7 +20,7 @@ one-in b other rest is = by-test (b == other) refl is
     by-test false e i = inr i
 
 -- one of the four bytes of a word
-pub in-word : (a b : ℕ) → is_in b (a ∷ (a + 1) ∷ (a + 2) ∷ (a + 3) ∷ []) ≡ true → (a ≤ b) × (b < a + 4)
+in-word : (a b : ℕ) → is_in b (a ∷ (a + 1) ∷ (a + 2) ∷ (a + 3) ∷ []) ≡ true → (a ≤ b) × (b < a + 4)
 in-word a b is = first (one-in b a ((a + 1) ∷ (a + 2) ∷ (a + 3) ∷ []) is)
   where
     fourth : (b ≡ a + 3) ⊎ (is_in b [] ≡ true) → (a ≤ b) × (b < a + 4)
@@ -78,7 +78,9 @@ module _ (w : World) (places : Places) (loaded : Point → Bool) (own : OwnsFram
       → w.rule task (touched (one_access Word at)) ≡ true
   not-owned address task is owned = let k = in-word at address is in absurd (unowned address task k.0 k.1 owned)
 
-pub frames-lie : FramesLie
+-- where there are frames and the hart has such a one, it lies so
+pub frames-lie : (w : World) (places : Places) (loaded : Point → Bool) → (0 < frame_words places.frames → OwnsFrame w places loaded)
+    → IsFrame w places loaded
 frames-lie w places loaded owns = record {
   low = λ word l. let o = own word l in let a = o.below in let b = o.low in let n = few word l in omega (arith, a, b, n);
   may_write = λ word l. let o = own word l in let a = o.above in let b = o.below in let c = o.aligned in let n = few word l in record {

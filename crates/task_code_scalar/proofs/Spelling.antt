@@ -28,9 +28,6 @@ emits_then {a} {b} {c} {is} {js} x y = record {
 pub emits-none : (old : List ℕ) → Emits old old []
 emits-none old = record { words = []; appended = sym (append-nil old); spelled = tt }
 
-pub emits-is : {a b : List ℕ} {is js : List Insn} → Emits a b is → is ≡ js → Emits a b js
-emits-is {a} {b} {is} {js} x e = subst (Emits a b) e x
-
 pub emits-one : (old : List ℕ) (word : ℕ) (insn : Insn) → decoded word ≡ Some insn → Emits old (old ++ word ∷ []) (insn ∷ [])
 emits-one old word insn e = record { words = word ∷ []; appended = refl; spelled = (e, tt) }
 

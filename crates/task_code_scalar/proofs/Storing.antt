@@ -24,6 +24,7 @@ use Rattle.task_code_scalar.specs.declared.places.Places.{Places}
 use Rattle.task_code_scalar.specs.Code.{place_of, pixel_bytes, address}
 use Rattle.task_code_scalar.specs.Evaluation.{load_op}
 use Rattle.task_code_scalar.specs.Layout.{func_point, address_of, bytes_of, size_of, Laid, Holds, IsElsewhere, AreWords}
+use Rattle.task_code_scalar.proofs.Evaluation.{chosen-below}
 
 -- ---- bytes
 
@@ -98,10 +99,6 @@ put-away points func x y v inputs funcs (sources.Func place) i j never =
     let t = missed place func i x j y (λ e f g. never (ap sources.Func e) f g) in
     let u : (points func x y && (place == func && (i == x && j == y))) ≡ false = and_right (points func x y) _ t in
     ap (λ b. if b then v else funcs place i j) u
-
-chosen-below : (t : Bool) (a b n : ℕ) → a < n → b < n → (if t then a else b) < n
-chosen-below true a b n la lb = la
-chosen-below false a b n la lb = lb
 
 pub words-put : (points : Points) (func x y v : ℕ) (funcs : Planes) → AreWords funcs → v < 2 ^ 32 → AreWords (put_point points func x y v funcs)
 words-put points func x y v funcs are small place i j li lj = chosen-below (points func x y && (place == func && (i == x && j == y))) v (funcs place i j)

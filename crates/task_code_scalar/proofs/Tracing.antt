@@ -18,6 +18,10 @@ use Rattle.loop_ir.specs.Running.{run, turns, whole_value}
 use Rattle.loop_ir.specs.Stores.{Trace, trace, trace_at, is_stored_by}
 use Rattle.loop_ir.proofs.Trees.{run_store, run_sequence, run_for, run_bind}
 
+-- points of Funcs
+abbrev pub Hits : Type 1
+Hits = ℕ → ℕ → ℕ → Type 0
+
 -- what buffers hold so far, and whether the point was stored
 abbrev mark : Planes → Bool → Trace
 mark funcs is_stored = record { funcs = funcs; is_stored = is_stored }

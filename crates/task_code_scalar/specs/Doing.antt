@@ -1,11 +1,8 @@
--- Where code runs, and what code of a statement leaves: what the statement does to the buffers, in turns that hang on no buffer.
--- This project's own.
+-- What stays while a task is done, and what is asked of its statement and of memory. This project's own.
 use Rattle.std.specs.Prelude.{◌≡◌, ℕ, ◌<◌, Bool, true, List, length}
-use Rattle.rv_insn.specs.declared.instructions.Insn.{Insn}
-use Rattle.memory.specs.Access.{Word, touched, byte_at, AreBytes}
+use Rattle.memory.specs.Access.{Word, touched, AreBytes}
 use Rattle.halide_pipeline.specs.Pixel.{Planes, reads_of}
 use Rattle.halide_pipeline.specs.Points.{Point}
-use Rattle.loop_ir.specs.declared.expressions.Counter.{Counter}
 use Rattle.loop_ir.specs.declared.statements.Stmt.{Stmt}
 use Rattle.loop_ir.specs.Buffers.{Points}
 use Rattle.loop_ir.specs.Counters.{Values}
@@ -14,10 +11,9 @@ use Rattle.loop_ir.specs.Soundness.{is_sound, Have}
 use Rattle.loop_ir.specs.Stores.{is_stored_by}
 use Rattle.multi_hart_logic.specs.Alone.{World, Keeps}
 use Rattle.multi_hart_logic.specs.LaneMemory.{accesses_to}
-use Rattle.multi_hart_logic.specs.Paths.{Stand, Block, Writes}
 use Rattle.task_code_scalar.specs.declared.places.Places.{Places}
-use Rattle.task_code_scalar.specs.Evaluation.{Knows, ArePlaces}
-use Rattle.task_code_scalar.specs.Layout.{func_point, address_of, IsOf, Laid, Holds, IsElsewhere, AreWords}
+use Rattle.task_code_scalar.specs.Evaluation.{ArePlaces}
+use Rattle.task_code_scalar.specs.Layout.{func_point, address_of, Laid, Holds, AreWords}
 
 -- what stays while a task is done: where the hart runs and how many there are, where buffers lie and what inputs hold, which points the
 -- Funcs' buffers have, which of them may be written, and which points of any source may be loaded; at which Funcs' points code stores in whole
@@ -75,19 +71,6 @@ pub record HoldsFuncs (own : Setting) (memory : List ℕ) (funcs : Planes) : Typ
   pub are_bytes : AreBytes memory
   pub are_words : AreWords funcs
   pub holds : Holds own.world own.places own.loaded memory (reads_of own.inputs funcs)
-
--- the code comes to its end in so many turns; memory then holds these buffers, and each point of `stored` was written on the way
-pub record Done (own : Setting) (code : List Insn) (turns : ℕ) (scope : List Counter) (values : Values) (f : ℕ
-    → ℕ) (memory : List ℕ) (funcs : Planes) (stored : Points) : Type 0 where
-  pub after : ℕ → ℕ
-  pub left : List ℕ
-  pub block : Block own.world code turns f memory after left
-  pub knows : Knows own.world own.harts scope values after
-  pub holds : HoldsFuncs own left funcs
-  pub elsewhere : (byte : ℕ) → IsElsewhere own.world own.places own.written byte → byte_at own.world.text left byte ≡ byte_at own.world.text memory byte
-  pub are_bytes : AreBytes memory → AreBytes left
-  pub writes : (func x y byte at : ℕ) → stored func x y ≡ true → IsOf own.world own.places func x y byte → Stand own.world.text at code
-      → Writes own.world at turns f memory byte
 
 -- the points of Funcs at which a statement's run stores
 abbrev pub stored_points : Setting → Stmt → Values → Planes → Points

@@ -92,11 +92,6 @@ pub record OwnsFrame (world : World) (places : Places) (loaded : Point → Bool)
   pub apart : (point : Point) → loaded point ≡ true
       → (address_of world places point + bytes_of places point ≤ frame_start world places) ⊎ (frame_start world places + 4096 ≤ address_of world places point)
 
--- Where there are frames and the hart has such a one, it lies so.
-abbrev pub FramesLie : Type 0
-FramesLie = (world : World) (places : Places) (loaded : Point → Bool) → (0 < frame_words places.frames → OwnsFrame world places loaded)
-    → IsFrame world places loaded
-
 -- The points that may be written lie so, and those that may be loaded. Where bytes of one that is written and one that is loaded meet,
 -- both are one point.
 pub record Laid (world : World) (places : Places) (written : Points) (loaded : Point → Bool) : Type 0 where

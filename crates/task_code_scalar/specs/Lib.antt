@@ -1,9 +1,7 @@
 pub mod Code
-pub mod Depths
 pub mod Doing
 pub mod Evaluation
 pub mod Faults
 pub mod Fitting
 pub mod Layout
-pub mod Values
 pub mod Words

@@ -1,12 +1,10 @@
-//! Single instructions as words.
+//! Words, and single instructions as words.
 
-ghost use Rattle.std.specs.Prelude.{◌≡◌, ℕ, ◌+◌, ◌*◌, ◌-◌, ◌/◌, ◌%◌, ◌^◌, ◌<◌, ◌≤◌, [], ◌∷◌, ◌++◌, IfErr, OnOk, pos};
-ghost use Rattle.rv_insn.specs.declared.instructions.Insn.TheVariants.{Alu, AluImm, Branch, Jal, Load as Fetch, Lui};
-ghost use Rattle.rv_insn.specs.declared.instructions.Insn.TheVariants.{Shift, Store as Save};
+ghost use Rattle.std.specs.Prelude.{◌≡◌, ℕ, ◌+◌, ◌*◌, ◌-◌, ◌/◌, ◌%◌, ◌^◌, ◌<◌, ◌≤◌, [], ◌∷◌, ◌++◌, pos};
+ghost use Rattle.std.specs.Prelude.{IfErr, OnErr, OnOk};
+ghost use Rattle.rv_insn.specs.declared.instructions.Insn.TheVariants.{Alu, AluImm, Branch, Jal, Lui, Shift};
 ghost use Rattle.rv_insn.specs.declared.operations.AluImmOp.TheVariants.{Addi};
 ghost use Rattle.rv_insn.specs.declared.operations.BranchOp.TheVariants.{Bltu};
-ghost use Rattle.rv_insn.specs.declared.operations.LoadOp.TheVariants.{Lw};
-ghost use Rattle.rv_insn.specs.declared.operations.StoreOp.TheVariants.{Sw};
 ghost use Rattle.task_code_scalar.specs.Code.{back, forth, literal, lower, upper};
 ghost use Rattle.task_code_scalar.specs.Faults.{IsFault};
 ghost use Rattle.task_code_scalar.specs.Words.{Emits};
@@ -14,10 +12,19 @@ ghost use Rattle.task_code_scalar.specs.Words.{Emits};
 use crate::CodeFault;
 use rv_encoding::{decoded_is_meant, encode};
 use rv_insn::{
-    AluImmOp, AluOp, BranchOffset, BranchOp, Imm12, Imm20, Insn, JumpOffset, LoadOp, Reg,
-    ShiftAmount, ShiftOp, StoreOp,
+    AluImmOp, AluOp, BranchOffset, BranchOp, Imm12, Imm20, Insn, JumpOffset, Reg, ShiftAmount,
+    ShiftOp,
 };
 use std::alloc::AllocError;
+
+/// Appends words.
+pub fn append(code: &mut Vec<u32>, more: &[u32]) -> Result<(), AllocError>
+    ensures ok { OnOk result (code.new.items ≡ code.old.items ++ more.now) }
+    ensures err { OnErr result (code.new.items ≡ code.old.items) }
+{
+    code.extend_from_slice(more)?;
+    Ok(())
+}
 
 /// The register with this number.
 pub fn register(number: u8) -> Reg
@@ -150,65 +157,6 @@ pub fn emit_literal(code: &mut Vec<u32>, r: u8, value: u32) -> Result<(), AllocE
 {
     load_upper(code, r, value)?;
     add_lower(code, r, value)?;
-    Ok(())
-}
-
-/// Appends a load of what lies at the address in a register, which then holds it.
-pub fn load(code: &mut Vec<u32>, op: LoadOp, r: u8) -> Result<(), AllocError>
-    requires { r < 32 }
-    ensures { OnOk result (Emits code.old.items code.new.items (Fetch op r r (pos 0) ∷ [])) }
-{
-    let rd = register(r);
-    let imm = Imm12::new(0).unwrap();
-    put(
-        code,
-        &Insn::Load {
-            op,
-            rd,
-            rs1: rd,
-            imm,
-        },
-    )?;
-    Ok(())
-}
-
-/// Appends a load of the word at the address in a register.
-pub fn load_word(code: &mut Vec<u32>, r: u8, base: u8) -> Result<(), AllocError>
-    requires { (r < 32) × (base < 32) }
-    ensures { OnOk result (Emits code.old.items code.new.items (Fetch Lw r base (pos 0) ∷ [])) }
-{
-    let rd = register(r);
-    let rs1 = register(base);
-    let imm = Imm12::new(0).unwrap();
-    put(
-        code,
-        &Insn::Load {
-            op: LoadOp::Lw,
-            rd,
-            rs1,
-            imm,
-        },
-    )?;
-    Ok(())
-}
-
-/// Appends a store of a register's word at the address in another.
-pub fn store_word(code: &mut Vec<u32>, r: u8, s: u8) -> Result<(), AllocError>
-    requires { (r < 32) × (s < 32) }
-    ensures { OnOk result (Emits code.old.items code.new.items (Save Sw r s (pos 0) ∷ [])) }
-{
-    let rs1 = register(r);
-    let rs2 = register(s);
-    let imm = Imm12::new(0).unwrap();
-    put(
-        code,
-        &Insn::Store {
-            op: StoreOp::Sw,
-            rs1,
-            rs2,
-            imm,
-        },
-    )?;
     Ok(())
 }
 

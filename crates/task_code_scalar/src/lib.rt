@@ -1,37 +1,34 @@
-//! The machine code of expressions, stores, loops and tests, in scalar registers and the hart's frame.
+//! What code of tasks stands on, whichever code it is.
 //!
-//! - [`places`]: where buffers lie in memory.
-//! - [`expressions`], [`frames`]: append what leaves an expression's value (`specs/Code.antt`); `depths` counts for how
-//!   much of one the stack has no room.
-//! - [`loops`]: appends loops and tests around the words of their bodies.
-//! - [`operations`], [`instructions`]: append operations and single instructions, for the code around tasks too.
-//! - [`laws`]: what the code of expressions does, wherever it stands (`specs/Evaluation.antt`), where buffers lie so
-//!   (`specs/Layout.antt`) and the registers suffice (`specs/Fitting.antt`).
+//! - [`instructions`]: single scalar instructions, appended as words (`specs/Words.antt`); literals and jumps are those
+//!   of `specs/Code.antt`.
+//! - [`places`]: where buffers lie in memory. Which of their points may be written and loaded, and where a hart's frame
+//!   lies: `specs/Layout.antt`; what an expression loads: `specs/Evaluation.antt`.
+//! - [`loops`]: loop variables around a statement; `specs/Fitting.antt` adds up the turns of a loop's rounds.
+//! - [`CodeFault`]: why no code is given, and what has room (`specs/Faults.antt`).
+//!
+//! A *setting* (`specs/Doing.antt`) is what stays while a task is done. There stands, too, what is asked of its
+//! statement, and of memory.
 #![tactic(auto)]
 
 ghost use Rattle.std.specs.Prelude.{◌≡◌};
 ghost use Rattle.task_code_scalar.specs.declared.CodeFault.TheVariants as faults;
 
-mod depths;
-pub mod expressions;
-pub mod frames;
 pub mod instructions;
-pub mod laws;
 pub mod loops;
-pub mod operations;
 pub mod places;
 
-pub use crate::loops::append;
+pub use crate::instructions::append;
 use std::alloc::AllocError;
 
 /// Why no code is given (`specs/Faults.antt`).
 #[derive(Debug, Drop)]
 pub enum CodeFault {
     OutOfMemory(AllocError),
-    /// The code has as many words as a text may have, or more.
+    /// The code asks for as many words as a text may have, or more.
     TooLong,
     /// An expression takes more registers than there are and more words than a hart's frame has, frames lie
-    /// in the last 64 KiB of addresses, a divisor is 0, or more than 14 counters stand around a statement.
+    /// in the last 64 KiB of addresses, a divisor is 0, or more than 14 loop variables stand around a statement.
     TooDeep,
 }
 

@@ -1,5 +1,9 @@
 //! Where buffers lie in memory.
 
+ghost use Rattle.std.specs.Prelude.{◌≡◌, slice_index_or};
+ghost use Rattle.task_code_scalar.specs.Code as spec;
+
+use halide_pipeline::Source;
 use sqlite_items::Items;
 
 /// How a buffer holds its pixels.
@@ -43,5 +47,29 @@ impl Drop for Places {
         } = self;
         drop(inputs);
         drop(funcs);
+    }
+}
+
+fn place_in(places: &[Place], number: usize) -> Place
+    ensures { result ≡ slice_index_or places.now number spec.nowhere }
+{
+    match places.get(number) {
+        Some(place) => *place,
+        None => Place {
+            start: 0,
+            width: 0,
+            distance: 0,
+            pixels: Pixels::Words,
+        },
+    }
+}
+
+/// Where a source's buffer lies.
+pub fn place_of(places: &Places, source: Source) -> Place
+    ensures { result ≡ spec.place_of places.now source }
+{
+    match source {
+        Source::Input(number) => place_in(places.inputs.as_slice(), number),
+        Source::Func(number) => place_in(places.funcs.as_slice(), number),
     }
 }

@@ -1,7 +1,8 @@
 -- The values of split loops in registers.
 use Rattle.std.proofs.Common.{◌≡◌, ℕ, suc, ◌+◌, ◌*◌, ◌-◌, ◌%◌, ◌^◌, ◌<◌, ◌≤◌, List, [], ◌∷◌, ◌++◌, length, Bool, true, false, refl, ap, ◌∙◌, sym, subst}
-use Rattle.std.proofs.Common.{arith, inl}
-use Rattle.std.specs.Prelude.{◌≢◌, if◌then◌else◌, min, nat_lt, IfSome, Option, Some, None}
+use Rattle.std.proofs.Common.{arith, inl, inr}
+use Rattle.std.specs.Prelude.{◌≢◌, ◌⊎◌, ◌==◌, if◌then◌else◌, min, nat_lt, IfSome, Option, Some, None}
+use Rattle.std.proofs.lemmas.Bool.{true≢false}
 use Rattle.std.proofs.lemmas.Bool.Decides.{nat_tests}
 use Rattle.std.proofs.lemmas.Nat.{mul-mod_first}
 use Rattle.rv_insn.specs.declared.instructions.Insn.TheVariants.{Alu}
@@ -20,8 +21,8 @@ use Rattle.task_code_scalar.proofs.Values.{alu-sets}
 use Rattle.task_code_registers.specs.declared.scopes.Form.{Form}
 use Rattle.task_code_registers.specs.declared.scopes.Held.{Held}
 use Rattle.task_code_registers.specs.Emitting.{HoldsVariable, Makes}
-use Rattle.task_code_registers.specs.Registers.{IsPlace, IsSource, address_register, scratch, zero_register}
-use Rattle.task_code_registers.specs.Scopes.{AreHolders, IsKept, IsLeft, Knows, has_variable, left_count}
+use Rattle.task_code_registers.specs.Registers.{IsPlace, IsSource, address_register, hart_count, hart_number, may_hold, scratch, zero_register}
+use Rattle.task_code_registers.specs.Scopes.{AreHolders, IsFree, IsKept, IsLeft, Knows, has_variable, left_count}
 use Rattle.task_code_registers.proofs.Counting.{still-left}
 use Rattle.task_code_registers.proofs.Knowing.{kept-apart, knows-still, knows-zero, may-hold, fails-at}
 use Rattle.task_code_registers.proofs.Making.{short-then}
@@ -92,6 +93,33 @@ variable-kept scope counter r q hart numbers f holds left knows e =
     let changed : g r ≡ suc (f q) = ap g e ∙ update-same f q (suc (f q)) in
     let same : f r ≡ f q = ap f e in
     omega (arith, one, two, changed, same)
+
+-- so it is one of the scope's
+kept-or-free : (scope : List Held) (r : ℕ) → may_hold r ≡ true → IsKept scope r ⊎ IsFree scope r
+kept-or-free [] r may = inr (λ q kept e. elim kept [
+  | inl z ↦ fails-at r zero_register may refl (sym e ∙ z)
+  | inr o ↦ elim o [ inl n ↦ fails-at r hart_number may refl (sym e ∙ n) | inr n ↦ fails-at r hart_count may refl (sym e ∙ n) ]
+])
+kept-or-free (own ∷ others) r may = elim (kept-or-free others r may) [
+  | inl kept ↦ inl (inr kept)
+  | inr free ↦ by-test (r == own.register) refl free
+]
+  where
+    by-test : (t : Bool) → (r == own.register) ≡ t → IsFree others r → IsKept (own ∷ others) r ⊎ IsFree (own ∷ others) r
+    by-test true is free = let e : r ≡ own.register = grind (arith, nat_tests, is) in inl (inl e)
+    by-test false is free =
+        let n : r ≢ own.register = (λ e. let f : (r == own.register) ≡ true = grind (arith, nat_tests, e) in true≢false (sym f ∙ is)) in
+        inr (λ q kept e. elim kept [ inl k ↦ n (sym e ∙ k) | inr k ↦ free q k e ])
+
+pub kept-variable : (scope : List Held) (counter : Counter) (r hart : ℕ) (numbers : Values) (f : ℕ → ℕ) → HoldsVariable scope counter r
+    → Knows hart scope numbers f → IsKept scope r
+kept-variable scope counter r hart numbers f holds knows = elim (kept-or-free scope r holds.may) [
+  | inl kept ↦ kept
+  | inr free ↦ absurd (variable-kept scope counter r r hart numbers f holds (holds.may, free) knows refl)
+]
+
+pub variable-low : (scope : List Held) (counter : Counter) (r : ℕ) → HoldsVariable scope counter r → r < 32
+variable-low scope counter r holds = let m = may-hold r holds.may in let high = m.high in omega (arith, high)
 
 pub variable-standing : (scope : List Held) (around : List Counter) (counter own : Counter) (r : ℕ) → standing around counter ≡ Some own
     → HoldsVariable scope own r → HoldsStanding scope around counter r
@@ -234,7 +262,13 @@ split-entered scope inner around whole r form c0 c1 holds left x ef ei =
           record {
             after = a.after;
             line = a.line;
-            keeps = same;
+            keeps = λ q h. elim h [
+              | inl kept ↦ same q kept
+              | inr high ↦
+                  let m = may-hold r left.0.0 in
+                  let low = m.high in
+                  a.others q (λ e. omega (arith, high, low, e)) (λ e. omega (arith, high, e)) (λ e. omega (arith, high, e)) (λ e. omega (arith, high, e))
+            ];
             mark = subst (λ i. Knows hart i (with number v numbers) a.after) (sym is) (
               a.value ∙ sym (variable-value number hart v numbers (whole-small whole values)),
               knows-with number v hart scope numbers a.after none (knows-still hart scope numbers f a.after same knows),

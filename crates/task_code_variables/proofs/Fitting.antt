@@ -1,20 +1,18 @@
 -- What fits with its parts, and why a statement has no code.
-use Rattle.std.proofs.Common.{◌≡◌, ℕ, zero, suc, ◌+◌, ◌*◌, ◌^◌, ◌≤◌, List, [], ◌∷◌, length, Bool, true, false, refl, ap, ◌∙◌, sym, subst, arith, inl, inr}
-use Rattle.std.specs.Prelude.{◌||◌, ◌&&◌, if◌then◌else◌, min, Option, Result, IfErr, IsErrAnd}
+use Rattle.std.proofs.Common.{◌≡◌, ℕ, zero, suc, ◌+◌, ◌*◌, ◌^◌, ◌≤◌, List, length, Bool, true, false, refl, ap, ◌∙◌, sym, subst, arith, inl, inr}
+use Rattle.std.specs.Prelude.{◌&&◌, if◌then◌else◌, min, Option, Result, IfErr, IsErrAnd}
 use Rattle.std.proofs.lemmas.Bool.{true≢false}
 use Rattle.std.proofs.lemmas.Result.{err_from_is_err_and}
 use Rattle.loop_ir.specs.declared.expressions.Counter.{Counter}
 use Rattle.loop_ir.specs.declared.statements.LoopKind.{LoopKind}
+use Rattle.loop_ir.specs.declared.statements.LoopKind.TheVariants as kinds
 use Rattle.loop_ir.specs.declared.expressions.Expr.{Expr}
-use Rattle.loop_ir.specs.declared.statements.Stmt.{Stmt, fold-Stmt, fold-roll-Stmt}
+use Rattle.loop_ir.specs.declared.statements.Stmt.{Stmt}
 use Rattle.loop_ir.specs.declared.statements.Stmt.TheVariants as s
-use Rattle.loop_ir.specs.declared.statements.Stmt.TheVariants.{rolls-Sequence, rolls-For, rolls-Bind}
-use Rattle.loop_ir.specs.declared.statements.Stmt.TheOpen as parts
 use Rattle.loop_ir.specs.declared.statements.Store.{Store}
 use Rattle.loop_ir.specs.declared.statements.Whole.{Whole}
 use Rattle.loop_ir.specs.Depths.{depth}
 use Rattle.loop_ir.specs.Needs.{Need, need, greatest_need}
-use Rattle.loop_ir.specs.Rounds.{is_vectorized}
 use Rattle.loop_ir.specs.Sizes.{is_laid_out, whole_size}
 use Rattle.loop_ir.proofs.Depths.{depth_sequence, depth_for, depth_bind}
 use Rattle.loop_ir.proofs.Needs.{greatest_store, greatest_sequence, greatest_for, greatest_bind}
@@ -23,17 +21,16 @@ use Rattle.task_code_scalar.specs.declared.CodeFault.{CodeFault}
 use Rattle.task_code_scalar.specs.declared.CodeFault.TheVariants as faults
 use Rattle.task_code_scalar.specs.declared.places.Places.{Places}
 use Rattle.task_code_scalar.specs.Faults.{IsFault, HasRoom, LieLow, FitsFrame}
-use Rattle.task_code_scalar.proofs.Spelling.{emits-length}
 use Rattle.task_code_registers.specs.declared.scopes.Form.{Form}
 use Rattle.task_code_registers.specs.declared.scopes.Held.{Held}
 use Rattle.task_code_registers.specs.Scopes.{has_variable, have_registers, is_left, left_below, left_count}
 use Rattle.task_code_loops.specs.Beginning.{HasNoRegister, variable}
 use Rattle.task_code_loops.proofs.Knowledge.{variable-there}
-use Rattle.task_code_values.specs.Storing.{FitsStore}
+use Rattle.task_code_values.specs.Storing.{FitsParked, FitsStore}
 use Rattle.task_code_variables.specs.Renaming.{HoldsAround, IsRenamed, IsRenamedStore, numbered}
 use Rattle.task_code_variables.specs.Splits.{EntersSplit}
-use Rattle.task_code_variables.specs.Statements.{AppendsStatement, FitsStatement, IsLoopFault, IsStatementFault, has_vectorized, vectorized_at}
-use Rattle.task_code_variables.proofs.Nesting.{room-for}
+use Rattle.task_code_variables.specs.Statements.{FitsStatement, IsLoopFault, IsStatementFault}
+use Rattle.task_code_variables.proofs.Nesting.{room-for, room-vector}
 
 -- ---- no more registers than there are
 
@@ -45,28 +42,6 @@ left-few scope (suc q) = by-test (is_left scope q) (left-few scope q)
     by-test : (t : Bool) → left_below scope q ≤ q → (if t then suc (left_below scope q) else left_below scope q) ≤ suc q
     by-test true few = omega (arith, few)
     by-test false few = omega (arith, few)
-
--- ---- vectorized loops
-
-vectorized-sequence : (first second : Stmt) → has_vectorized (s.Sequence first second) ≡ (has_vectorized first || has_vectorized second)
-unfolding has_vectorized
-vectorized-sequence first second = ap (fold-Stmt Bool vectorized_at) (sym (rolls-Sequence first second))
-    ∙ fold-roll-Stmt Bool vectorized_at (parts.Sequence first second)
-
-vectorized-for : (counter : Counter) (count : ℕ) (kind : LoopKind) (body : Stmt)
-    → has_vectorized (s.For counter count kind body) ≡ (is_vectorized kind || has_vectorized body)
-unfolding has_vectorized
-vectorized-for counter count kind body = ap (fold-Stmt Bool vectorized_at) (sym (rolls-For counter count kind body))
-    ∙ fold-roll-Stmt Bool vectorized_at (parts.For counter count kind body)
-
-vectorized-bind : (counter : Counter) (whole : Whole) (extent : ℕ) (body : Stmt) → has_vectorized (s.Bind counter whole extent body) ≡ has_vectorized body
-unfolding has_vectorized
-vectorized-bind counter whole extent body = ap (fold-Stmt Bool vectorized_at) (sym (rolls-Bind counter whole extent body))
-    ∙ fold-roll-Stmt Bool vectorized_at (parts.Bind counter whole extent body)
-
-neither : (a b : Bool) → (a || b) ≡ false → (a ≡ false) × (b ≡ false)
-neither true b e = absurd (true≢false e)
-neither false b e = (refl, e)
 
 -- ---- room
 
@@ -80,7 +55,6 @@ module _ (places : Places) (scope : List Held) where
     low = fits.low;
     room = let g = greatest_sequence first second in less-room places.frames (greatest_need first) _ (omega (arith, g)) fits.room;
     few = let d = depth_sequence first second in let few = fits.few in omega (arith, d, few);
-    in_turn = (neither (has_vectorized first) (has_vectorized second) (sym (vectorized-sequence first second) ∙ fits.in_turn)).0;
   }
 
   second-fits : (first second : Stmt) → FitsStatement places scope (s.Sequence first second) → FitsStatement places scope second
@@ -88,7 +62,6 @@ module _ (places : Places) (scope : List Held) where
     low = fits.low;
     room = let g = greatest_sequence first second in less-room places.frames (greatest_need second) _ (omega (arith, g)) fits.room;
     few = let d = depth_sequence first second in let few = fits.few in omega (arith, d, few);
-    in_turn = (neither (has_vectorized first) (has_vectorized second) (sym (vectorized-sequence first second) ∙ fits.in_turn)).1;
   }
 
   loop-fits : (counter : Counter) (count : ℕ) (kind : LoopKind) (body : Stmt) (inner : List Held) (reserved : ℕ) → reserved ≡ min (depth body) 20
@@ -101,7 +74,6 @@ module _ (places : Places) (scope : List Held) where
         let few = fits.few in
         let most = left-few scope 20 in
         omega (arith, d, few, most, is, left);
-    in_turn = (neither (is_vectorized kind) (has_vectorized body) (sym (vectorized-for counter count kind body) ∙ fits.in_turn)).1;
   }
 
   split-fits : (counter : Counter) (whole : Whole) (extent : ℕ) (body : Stmt) (inner : List Held) → left_count scope ≤ suc (left_count inner)
@@ -110,7 +82,6 @@ module _ (places : Places) (scope : List Held) where
     low = fits.low;
     room = let g = greatest_bind counter whole extent body in less-room places.frames (greatest_need body) _ (omega (arith, g)) fits.room;
     few = let d = depth_bind counter whole extent body in let few = fits.few in omega (arith, d, few, fewer);
-    in_turn = sym (vectorized-bind counter whole extent body) ∙ fits.in_turn;
   }
 
 -- ---- faults
@@ -172,16 +143,54 @@ module _ (places : Places) (scope : List Held) where
       let r = room-for (is_laid_out kind) count (whole_size body) some in
       omega (arith, l, w, r, short, few)) (λ no. absurd no) e
 
-  pub for-faulty : (own body x : Stmt) (counter : Counter) (count : ℕ) (kind : LoopKind) (fault : CodeFault) → own ≡ s.For counter count kind body → x ≡ body
-      → is_vectorized kind ≡ false → IsLoopFault places scope counter count x fault → IsStatementFault places scope own fault
-  for-faulty own body x counter count kind fault is ex plain e =
-      fault-as own (s.For counter count kind x) fault (is ∙ ap (s.For counter count kind) (sym ex)) (e kind plain)
+  -- so it is of a vectorized loop too
+  any-fits : (counter : Counter) (count : ℕ) (kind : LoopKind) (body : Stmt) → FitsStatement places scope (s.For counter count kind body)
+      → FitsStatement places scope (s.For counter count kinds.Serial body)
+  any-fits counter count kind body fits = record {
+    low = fits.low;
+    room =
+        let one = greatest_for counter count kind body in
+        let other = greatest_for counter count kinds.Serial body in
+        less-room places.frames _ _ (omega (arith, one, other)) fits.room;
+    few =
+        let one = depth_for counter count kind body in
+        let other = depth_for counter count kinds.Serial body in
+        let few = fits.few in
+        omega (arith, one, other, few);
+  }
 
-  -- a vectorized loop doesn't fit
-  pub vectorized-faulty : (own body : Stmt) (counter : Counter) (count : ℕ) (kind : LoopKind) → own ≡ s.For counter count kind body
-      → is_vectorized kind ≡ true → IsStatementFault places scope own faults.TooDeep
-  vectorized-faulty own body counter count kind is vector = fault-as own (s.For counter count kind body) faults.TooDeep is
-      (λ fits. true≢false (sym vector ∙ (neither (is_vectorized kind) (has_vectorized body) (sym (vectorized-for counter count kind body) ∙ fits.in_turn)).0))
+  pub any-faulty : (counter : Counter) (count : ℕ) (kind : LoopKind) (body : Stmt) (fault : CodeFault) → IsLoopFault places scope counter count body fault
+      → IsStatementFault places scope (s.For counter count kind body) fault
+  any-faulty counter count kinds.Serial body fault e = e kinds.Serial refl
+  any-faulty counter count kinds.Unrolled body fault e = e kinds.Unrolled refl
+  any-faulty counter count kinds.Vectorized body fault e =
+      fault-is _ _ _ _ fault
+      (λ l.
+      let one = whole_for counter count kinds.Serial body in
+      let other = whole_for counter count kinds.Vectorized body in
+      omega (arith, l, one, other))
+      (λ no fits. no (any-fits counter count kinds.Vectorized body fits)) (e kinds.Serial refl)
+
+  pub collected-faulty : (counter : Counter) (count n : ℕ) (kind other : LoopKind) (body : Stmt) (fault : CodeFault) → count ≡ n → kind ≡ other
+      → IsStatementFault places scope (s.For counter n other body) fault → IsStatementFault places scope (s.For counter count kind body) fault
+  collected-faulty counter count n kind other body fault en ek e =
+      subst (λ k. IsStatementFault places scope (s.For counter k kind body) fault) (sym en)
+      (subst (λ k. IsStatementFault places scope (s.For counter n k body) fault) (sym ek) e)
+
+  -- the end of a loop that collects its pixels is too far from its beginning
+  pub collected-long : (counter : Counter) (count words moves : ℕ) (body : Stmt) (fault : CodeFault) → words ≤ whole_size body + 6 → moves ≤ 1
+      → IsFault (2 ^ 18 ≤ words + (3 * moves + 4)) ⊥ fault → IsStatementFault places scope (s.For counter count kinds.Vectorized body) fault
+  collected-long counter count words moves body fault short few e =
+      fault-is _ ⊥ _ _ fault
+      (λ l.
+      let w = whole_for counter count kinds.Vectorized body in
+      let r = room-vector count (whole_size body) in
+      omega (arith, l, w, r, short, few)) (λ no. absurd no) e
+
+  pub for-faulty : (own body x : Stmt) (counter : Counter) (count : ℕ) (kind : LoopKind) (fault : CodeFault) → own ≡ s.For counter count kind body → x ≡ body
+      → IsStatementFault places scope (s.For counter count kind x) fault → IsStatementFault places scope own fault
+  for-faulty own body x counter count kind fault is ex e =
+      fault-as own (s.For counter count kind x) fault (is ∙ ap (s.For counter count kind) (sym ex)) e
 
   pub split-full : (counter : Counter) (whole : Whole) (extent : ℕ) (body : Stmt) (fault : CodeFault) → IsFault ⊥ (left_count scope ≡ 0) fault
       → IsStatementFault places scope (s.Bind counter whole extent body) fault
@@ -199,16 +208,14 @@ module _ (places : Places) (scope : List Held) where
 
   pub split-long : (counter : Counter) (whole : Whole) (extent : ℕ) (body : Stmt) (around : List Counter) (inner view : List Held) (c0 c1 words : List ℕ)
       (fault : CodeFault) → EntersSplit c0 c1 scope inner around whole → view ≡ inner
-      → AppendsStatement [] words places view (counter ∷ around) body
+      → length words ≤ whole_size body + 6
       → IsFault (2 ^ 18 ≤ length words + 1) (HasNoRegister view (variable (numbered (length around)))) fault
       → IsStatementFault places scope (s.Bind counter whole extent body) fault
-  split-long counter whole extent body around inner view c0 c1 words fault enters ev x e =
+  split-long counter whole extent body around inner view c0 c1 words fault enters ev few e =
       fault-is _ _ _ _ fault
       (λ l.
       let w = whole_bind counter whole extent body in
-      let n = emits-length words x.insns x.emits in
-      let k = x.short in
-      omega (arith, l, w, n, k))
+      omega (arith, l, w, few))
       (λ no fits. true≢false (sym there ∙ no)) e
     where
       own : Held
@@ -234,30 +241,39 @@ module _ (places : Places) (scope : List Held) where
       let e : need made ≡ need own = ap (λ (n : Need). n.count) is.need_is in
       (low, less-room places.frames (need made) most (omega (arith, e, less)) room)
 
+  parked-fits : (around : List Counter) (store made : Store) → HoldsAround around scope → IsRenamedStore around store made
+      → FitsStatement places scope (s.Store store) → FitsParked places scope made
+  parked-fits around store made holds is fits =
+      let g = greatest_store store in
+      record {
+        registers = holds.registers;
+        column_held = is.column.held scope holds;
+        row_held = is.row.held scope holds;
+        value_held = is.pixel.held scope holds;
+        column_room = room-of around store.x made.x (greatest_need (s.Store store)) is.column (omega (arith, g)) fits.low fits.room;
+        row_room = room-of around store.y made.y (greatest_need (s.Store store)) is.row (omega (arith, g)) fits.low fits.room;
+        room = room-of around store.value made.value (greatest_need (s.Store store)) is.pixel (omega (arith, g)) fits.low fits.room;
+      }
+
   pub store-faulty : (around : List Counter) (store made : Store) (fault : CodeFault) → HoldsAround around scope → IsRenamedStore around store made
       → IsFault ⊥ (FitsStore places scope made → ⊥) fault → IsStatementFault places scope (s.Store store) fault
   store-faulty around store made fault holds is e =
-      fault-is ⊥ _ _ _ fault (λ no. absurd no) (λ no fits. no (fitting fits)) e
+      fault-is ⊥ _ _ _ fault (λ no. absurd no) (λ no fits. no (fitting (parked-fits around store made holds is fits))) e
     where
-      fitting : FitsStatement places scope (s.Store store) → FitsStore places scope made
-      fitting fits =
-          let g = greatest_store store in
-          let value = room-of around store.value made.value (greatest_need (s.Store store)) is.pixel (omega (arith, g)) fits.low fits.room in
-          record {
-            column_held = is.column.held scope holds;
-            row_held = is.row.held scope holds;
-            value_held = is.pixel.held scope holds;
-            room = value;
-            indexes = inr (record {
-              registers = holds.registers;
-              column_held = is.column.held scope holds;
-              row_held = is.row.held scope holds;
-              value_held = is.pixel.held scope holds;
-              column_room = room-of around store.x made.x (greatest_need (s.Store store)) is.column (omega (arith, g)) fits.low fits.room;
-              row_room = room-of around store.y made.y (greatest_need (s.Store store)) is.row (omega (arith, g)) fits.low fits.room;
-              room = value;
-            });
-          }
+      fitting : FitsParked places scope made → FitsStore places scope made
+      fitting fits = record {
+        column_held = fits.column_held;
+        row_held = fits.row_held;
+        value_held = fits.value_held;
+        room = fits.room;
+        indexes = inr fits;
+      }
+
+  -- a store's pixel and address have no code
+  pub parked-faulty : (around : List Counter) (store made : Store) (fault : CodeFault) → HoldsAround around scope → IsRenamedStore around store made
+      → IsFault ⊥ (FitsParked places scope made → ⊥) fault → IsStatementFault places scope (s.Store store) fault
+  parked-faulty around store made fault holds is e =
+      fault-is ⊥ _ _ _ fault (λ no. absurd no) (λ no fits. no (parked-fits around store made holds is fits)) e
 
 -- ---- tests
 

@@ -1,7 +1,14 @@
 pub mod Arms
+pub mod Choosing
 pub mod Entering
 pub mod Fitting
+pub mod Gathering
 pub mod Holding
+pub mod Iterating
+pub mod Looping
+pub mod Marking
 pub mod Nesting
+pub mod Passing
 pub mod Renamed
 pub mod Stores
+pub mod Tasking

@@ -1,6 +1,6 @@
 -- Statements one behind the other, loops, and split loops, where registers hold loop variables alone.
 use Rattle.std.proofs.Common.{◌≡◌, ℕ, zero, suc, ◌+◌, ◌*◌, ◌-◌, ◌<◌, ◌≤◌, List, [], ◌∷◌, ◌++◌, length, length-append, Bool, true, false, refl, ap, ◌∙◌}
-use Rattle.std.proofs.Common.{sym, subst, arith, inr}
+use Rattle.std.proofs.Common.{sym, subst, arith, inl, inr}
 use Rattle.std.specs.Prelude.{◌==◌, if◌then◌else◌, nat_lt}
 use Rattle.std.proofs.Math.Nat.{suc-mul}
 use Rattle.std.proofs.lemmas.Bool.{or_cases, true≢false}
@@ -140,6 +140,10 @@ room-for true count body some =
     let p = least-times count (body + 1) some in
     subst (λ b. body + 23 ≤ (if b then count * (body + 1) + 1 else body + 7) + 31) (sym t) (omega (arith, p))
 
+-- nor is that of a loop that collects its pixels
+pub room-vector : (count body : ℕ) → body + 31 ≤ loop_room false count body
+room-vector count body = omega arith
+
 pub none-appends : (places : Places) (scope : List Held) (around : List Counter) (counter : Counter) (count : ℕ) (kind : LoopKind) (body : Stmt) (c : List ℕ)
     → count ≡ 0 → AppendsStatement c c places scope around (s.For counter count kind body)
 unfolding turns
@@ -214,7 +218,7 @@ module _ (places : Places) (scope inner : List Held) (around : List Counter) (co
   abbrev within : Values → Values
   within numbers = with number (at-numbers numbers) numbers
 
-  value-same : (values numbers : Values) → StandFor around values numbers → whole_value whole values ≡ at-numbers numbers
+  pub value-same : (values numbers : Values) → StandFor around values numbers → whole_value whole values ≡ at-numbers numbers
   value-same values numbers stand =
       ap (λ n. word.add (at_most whole.last (word.multiply n whole.factor)) (values whole.inner)) (stand whole.outer)
       ∙ ap (λ n. word.add (at_most whole.last (word.multiply (value_in around numbers whole.outer) whole.factor)) n) (stand whole.inner)
@@ -222,7 +226,8 @@ module _ (places : Places) (scope inner : List Held) (around : List Counter) (co
   is-below : (n k : ℕ) → n < k → nat_lt n k ≡ true
   is-below n k less = grind (arith, nat_tests, less)
 
-  pub split-appends : (c0 c1 c2 words : List ℕ) → EntersSplit c0 c1 scope inner around whole → (x : AppendsStatement [] words places inner (counter ∷ around) body)
+  pub split-appends : (c0 c1 c2 words : List ℕ) → EntersSplit c0 c1 scope inner around whole
+      → (x : AppendsStatement [] words places inner (counter ∷ around) body)
       → GuardsWords c1 c2 inner form extent words → 4 + 6 ≤ 15 → AppendsStatement c0 c2 places scope around (s.Bind counter whole extent body)
   split-appends c0 c1 c2 words enters x guards room =
       let g = guards x.insns x.emits in
@@ -250,7 +255,7 @@ module _ (places : Places) (scope inner : List Held) (around : List Counter) (co
               after = step.after;
               left = memory;
               block = λ at s. step.line at s;
-              keeps = step.keeps;
+              keeps = λ q kept. step.keeps q (inl kept);
               holds = holds;
               elsewhere = λ byte apart. refl;
               are_bytes = λ b. b;
@@ -280,11 +285,10 @@ module _ (places : Places) (scope inner : List Held) (around : List Counter) (co
       }
 
 pub for-arm : (places : Places) (scope : List Held) (around : List Counter) (own : Stmt) (counter : Counter) (count : ℕ) (kind : LoopKind) (body x : Stmt)
-    (c0 c1 : List ℕ) → own ≡ s.For counter count kind body → x ≡ body → is_vectorized kind ≡ false
-    → ((kind : LoopKind) → is_vectorized kind ≡ false → AppendsStatement c0 c1 places scope around (s.For counter count kind x))
+    (c0 c1 : List ℕ) → own ≡ s.For counter count kind body → x ≡ body → AppendsStatement c0 c1 places scope around (s.For counter count kind x)
     → AppendsStatement c0 c1 places scope around own
-for-arm places scope around own counter count kind body x c0 c1 is ex plain made =
-    subst (λ y. AppendsStatement c0 c1 places scope around y) (sym (is ∙ ap (s.For counter count kind) (sym ex))) (made kind plain)
+for-arm places scope around own counter count kind body x c0 c1 is ex made =
+    subst (λ y. AppendsStatement c0 c1 places scope around y) (sym (is ∙ ap (s.For counter count kind) (sym ex))) made
 
 pub bind-arm : (places : Places) (scope : List Held) (around : List Counter) (own : Stmt) (counter : Counter) (whole : Whole) (extent : ℕ) (body x : Stmt)
     (c0 c1 : List ℕ) → own ≡ s.Bind counter whole extent body → x ≡ body → AppendsStatement c0 c1 places scope around (s.Bind counter whole extent x)

@@ -94,13 +94,6 @@ both-true a b ea eb = ap (λ t. t && b) ea ∙ eb
 
 -- ---- terms, one by one
 
-pub none-renamed : (made old : List Term) (around : List Counter) (terms : List Term) → made ≡ old → terms ≡ [] → made ≡ old ++ renamed around terms
-none-renamed made old around terms is none = is ∙ sym (append-none old) ∙ ap (λ t. old ++ renamed around t) (sym none)
-  where
-    append-none : (l : List Term) → l ++ [] ≡ l
-    append-none [] = refl
-    append-none (x ∷ xs) = ap (λ l. x ∷ l) (append-none xs)
-
 -- ---- expressions
 
 abbrev point : Source → ℕ → ℕ → Point

@@ -47,7 +47,7 @@ module _ (around : List Counter) (store made : Store) (is : IsRenamedStore aroun
       (is.pixel.loads_are values numbers stand reads)
 
   module _ (own : Setting) where
-    sound-renamed : SoundIn own (s.Store store) values → SoundIn own (s.Store made) numbers
+    pub sound-renamed : SoundIn own (s.Store store) values → SoundIn own (s.Store made) numbers
     sound-renamed sound p words =
         let reads = reads_of own.inputs p in
         sound_store reads own.written own.loaded made numbers ∙ same-sound reads own.written own.loaded
@@ -84,7 +84,7 @@ module _ (around : List Counter) (store made : Store) (is : IsRenamedStore aroun
         ∙ ap (λ k. store.func == func && (value reads values store.x == x && k == y)) (is.row.value_is values numbers stand reads)
         ∙ sym (hit-store own.points own.inputs func x y store values funcs)
 
-fewer-words : (around : List Counter) (store made : Store) → IsRenamedStore around store made → store_words made ≤ store_size store
+pub fewer-words : (around : List Counter) (store made : Store) → IsRenamedStore around store made → store_words made ≤ store_size store
 fewer-words around store made is =
     let x = is.column.short in
     let y = is.row.short in

@@ -1,3 +1,5 @@
+pub mod Collecting
 pub mod Renaming
 pub mod Splits
 pub mod Statements
+pub mod Tasks

@@ -51,7 +51,7 @@ renamed_sum around own = record { number = own.number; terms = renamed around ow
 
 -- ---- what registers hold
 
--- a register has each variable of so many loops, and none has one of a loop inside; vector units hold nothing
+-- a register has each variable of so many loops, and none has one of a loop inside; registers hold all of the scope's forms
 pub record HoldsAround (around : List Counter) (scope : List Held) : Type 0 where
   pub have : (depth : ℕ) → depth < length around → has_variable scope (numbered depth) ≡ true
   pub lack : (depth : ℕ) → length around ≤ depth → mentions (numbered depth) scope ≡ false

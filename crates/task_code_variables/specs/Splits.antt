@@ -1,5 +1,5 @@
 -- The values of split loops in registers. This project's own.
-use Rattle.std.specs.Prelude.{◌≡◌, ◌≢◌, ◌<◌, ◌≤◌, ℕ, suc, ◌%◌, ◌^◌, List, ◌∷◌, length, Option}
+use Rattle.std.specs.Prelude.{◌≡◌, ◌≢◌, ◌⊎◌, ◌<◌, ◌≤◌, ℕ, suc, ◌%◌, ◌^◌, List, ◌∷◌, length, Option}
 use Rattle.rv_insn.specs.declared.instructions.Insn.{Insn}
 use Rattle.multi_hart_logic.specs.Alone.{World}
 use Rattle.multi_hart_logic.specs.Paths.{Line}
@@ -47,6 +47,10 @@ pub record MakesWhole (old new : List ℕ) (scope : List Held) (around : List Co
       → IsLeft scope r → StandFor around values numbers → Knows hart scope numbers f
       → LeavesIn world memory insns f r (whole_value whole values)
 
+-- registers of a scope, and the numbers behind the scalar registers, of lanes and their configuration
+abbrev pub IsKeptOrLane : List Held → ℕ → Type 0
+IsKeptOrLane scope q = IsKept scope q ⊎ (32 ≤ q)
+
 -- At most ten give it to a register, in a scope with the variable of one more loop.
 pub record EntersSplit (old new : List ℕ) (scope inner : List Held) (around : List Counter) (whole : Whole) : Type 0 where
   pub insns : List Insn
@@ -59,4 +63,4 @@ pub record EntersSplit (old new : List ℕ) (scope inner : List Held) (around : 
   pub holders : AreHolders scope → AreHolders inner
   pub does : (world : World) (memory : List ℕ) (hart : ℕ) (values numbers : Values) (f : ℕ → ℕ) → length memory ≡ world.size → AreHolders scope
       → StandFor around values numbers → Knows hart scope numbers f
-      → Stepped world memory insns f (IsKept scope) (Knows hart inner (with (numbered (length around)) (whole_value whole values) numbers))
+      → Stepped world memory insns f (IsKeptOrLane scope) (Knows hart inner (with (numbered (length around)) (whole_value whole values) numbers))

@@ -1,13 +1,11 @@
 -- What appended code does of a statement, where registers hold the variables of the loops around it; how many words it has, and when there is none.
 -- This project's own.
-use Rattle.std.specs.Prelude.{◌≡◌, ◌≤◌, ℕ, ◌^◌, ◌||◌, Bool, false, List, length}
+use Rattle.std.specs.Prelude.{◌≡◌, ◌≤◌, ℕ, ◌^◌, false, List, length}
 use Rattle.rv_insn.specs.declared.instructions.Insn.{Insn}
 use Rattle.halide_pipeline.specs.Pixel.{Planes}
 use Rattle.loop_ir.specs.declared.expressions.Counter.{Counter}
 use Rattle.loop_ir.specs.declared.statements.LoopKind.{LoopKind}
-use Rattle.loop_ir.specs.declared.statements.Stmt.{Stmt, fold-Stmt}
-use Rattle.loop_ir.specs.declared.statements.Stmt.TheOpen.{Stmt-F}
-use Rattle.loop_ir.specs.declared.statements.Stmt.TheOpen as parts
+use Rattle.loop_ir.specs.declared.statements.Stmt.{Stmt}
 use Rattle.loop_ir.specs.declared.statements.Stmt.TheVariants as statements
 use Rattle.loop_ir.specs.Counters.{Values}
 use Rattle.loop_ir.specs.Depths.{depth}
@@ -45,22 +43,11 @@ AppendsLoop old new places scope around counter count body =
 
 -- ---- what fits
 
-abbrev pub vectorized_at : Stmt-F Bool → Bool
-vectorized_at (parts.Store store) = false
-vectorized_at (parts.Sequence first second) = first || second
-vectorized_at (parts.For counter count kind body) = is_vectorized kind || body
-vectorized_at (parts.Bind counter whole extent body) = body
-
--- some loop is vectorized
-unfoldable pub has_vectorized : Stmt → Bool
-has_vectorized statement = fold-Stmt Bool vectorized_at statement
-
--- The stack or the hart's frame has room for each expression, and a register is left for each loop; none is vectorized.
+-- The stack or the hart's frame has room for each expression, and a register is left for each loop and each split loop's value.
 pub record FitsStatement (places : Places) (scope : List Held) (statement : Stmt) : Type 0 where
   pub low : LieLow places.frames
   pub room : HasRoom places.frames (greatest_need statement) 0
   pub few : depth statement ≤ left_count scope
-  pub in_turn : has_vectorized statement ≡ false
 
 -- for each fault what stands then
 abbrev pub IsStatementFault : Places → List Held → Stmt → CodeFault → Type 0

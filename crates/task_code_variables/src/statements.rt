@@ -2,7 +2,6 @@
 
 ghost use Rattle.std.specs.Prelude.{◌≡◌, ◌≤◌, ◌+◌, ◌^◌, IfErr, OnOk, length, min};
 ghost use Rattle.loop_ir.specs.Depths as depths;
-ghost use Rattle.loop_ir.specs.Rounds as rounds;
 ghost use Rattle.loop_ir.specs.declared.statements.Stmt.TheVariants as stmts;
 ghost use Rattle.task_code_loops.specs.Beginning as beginning;
 ghost use Rattle.task_code_loops.specs.Beginning.{HasNoRegister};
@@ -11,6 +10,7 @@ ghost use Rattle.task_code_scalar.specs.Faults.{IsFault};
 ghost use Rattle.task_code_variables.specs.Renaming.{HoldsAround};
 ghost use Rattle.task_code_variables.specs.Statements.{AppendsLoop, AppendsStatement, IsLoopFault, IsStatementFault};
 
+use crate::collecting::{VectorLoop, emit_collected, group_collected};
 use crate::renaming::{numbered, renamed_store};
 use crate::splits::enter_split;
 use loop_ir::expressions::Counter;
@@ -33,7 +33,7 @@ const MANY: usize = 20;
 
 /// How many loops stand around the innermost store of a statement, counted up to more than have registers.
 #[tactic(auto, unfolding(loop_ir::specs::Depths::depth))]
-fn depth(statement: &Stmt) -> usize
+pub(crate) fn depth(statement: &Stmt) -> usize
     ensures { result ≡ min (depths.depth statement.now) 20 }
 {
     match statement {
@@ -54,17 +54,6 @@ fn one_more(count: usize) -> usize
     ensures { result ≡ min (count + 1) 20 }
 {
     if count < MANY { count + 1 } else { MANY }
-}
-
-/// Whether all iterations of a loop of this kind are to store at once.
-fn is_vectorized(kind: LoopKind) -> bool
-    ensures { result ≡ rounds.is_vectorized kind }
-{
-    match kind {
-        LoopKind::Serial => false,
-        LoopKind::Unrolled => false,
-        LoopKind::Vectorized => true,
-    }
 }
 
 /// Appends a store.
@@ -151,9 +140,57 @@ fn emit_tested(
     Ok(())
 }
 
+/// A loop without its body: its variable, how many iterations it has, and of which kind it is.
+#[derive(Clone, Copy, Debug)]
+pub(crate) struct Loop {
+    pub counter: Counter,
+    pub count: u32,
+    pub kind: LoopKind,
+}
+
+/// Appends a loop: its iterations collect their pixels where they are to store at once, else they come in turn. A
+/// vectorized loop that isn't of 4, 8 or 16 iterations of one store each is one that nothing asks for (`AtOnceIn`).
+#[cycle(statements)]
+fn emit_loop(
+    alloc: Global,
+    code: &mut Code,
+    site: &Site<'_>,
+    around: &[Counter],
+    own: Loop,
+    body: &Stmt,
+) -> Result<(), CodeFault>
+    requires { HoldsAround around.now site.now.scope.now }
+    ensures ok { OnOk result (AppendsStatement code.old.words.items code.new.words.items site.now.places.now
+        site.now.scope.now around.now (stmts.For own.counter own.count own.kind body.now)) }
+    ensures err { IfErr result (IsStatementFault site.now.places.now site.now.scope.now
+        (stmts.For own.counter own.count own.kind body.now)) }
+{
+    let Loop {
+        counter,
+        count,
+        kind,
+    } = own;
+    match group_collected(count, kind, body) {
+        None => {
+            let numbers = Bound { counter, count };
+            emit_iterations(alloc, code, site, around, numbers, body)?;
+            Ok(())
+        }
+        Some(group) => {
+            let collecting = VectorLoop {
+                counter,
+                group,
+                body,
+            };
+            emit_collected(alloc, &mut code.words, site, around, &collecting)?;
+            Ok(())
+        }
+    }
+}
+
 /// A loop variable that stands for a split loop, and the number below which its body is run.
 #[derive(Clone, Copy, Debug)]
-pub struct Split {
+pub(crate) struct Split {
     pub counter: Counter,
     pub whole: Whole,
     pub extent: u32,
@@ -192,10 +229,10 @@ fn emit_split(
 ///
 /// # Errors
 ///
-/// Memory ran out, the statement asks for as many words as a text may have, or it has a vectorized loop or doesn't fit
+/// Memory ran out, the statement asks for as many words as a text may have, or it doesn't fit
 /// (`specs/Statements.antt`).
 #[cycle(statements)]
-pub fn emit_statement(
+pub(crate) fn emit_statement(
     alloc: Global,
     code: &mut Code,
     site: &Site<'_>,
@@ -223,14 +260,12 @@ pub fn emit_statement(
             Ok(())
         }
         Stmt::For(counter, count, kind, body) => {
-            if is_vectorized(*kind) {
-                return Err(CodeFault::TooDeep);
-            }
-            let own = Bound {
+            let own = Loop {
                 counter: *counter,
                 count: *count,
+                kind: *kind,
             };
-            emit_iterations(alloc, code, site, around, own, body.get())?;
+            emit_loop(alloc, code, site, around, own, body.get())?;
             Ok(())
         }
         Stmt::Bind(counter, whole, extent, body) => {

@@ -13,7 +13,7 @@ use Rattle.vector_codegen_sharing.specs.Turns.{ticket_word}
 use Rattle.task_code_scalar.specs.declared.places.Places.{Places}
 use Rattle.task_code_scalar.specs.Words.{Emits}
 use Rattle.task_code.specs.Tasks.{EmitsTask}
-use Rattle.task_code.proofs.Finishing.{appended-stand}
+use Rattle.task_code.proofs.Standing.{appended-stand}
 use Rattle.task_code_scalar.proofs.Spelling.{emits_then, spell-length}
 use Rattle.vector_codegen.specs.PhaseCode.{Part, ends_from, phase_code, program}
 use Rattle.vector_codegen.specs.Programs.{ArePartsOf, HasFewTasks, IsProgramTo, ProgramsStand}

@@ -1,4 +1,4 @@
-use Rattle.task_code.proofs.Finishing.{appended-stand}
+use Rattle.task_code.proofs.Standing.{appended-stand}
 use Rattle.task_code.proofs.laws.appended_words_stand.Goals as goal
 
 pub returns : goal.returns

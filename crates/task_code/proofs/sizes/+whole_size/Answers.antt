@@ -16,8 +16,8 @@ pub returns-in-For : goal.returns-in-For
 returns-in-For t c = (
   c.plus-in-For.ensures.0,
   for-whole c.args.stmt.now c.in-For.body c.get-in-For.result.now c.in-For.field-0 c.in-For.count c.in-For.kind c.is_laid_out.result c.whole_size-in-For.result
-      c.loop_size-turns.result c.plus-in-For.result c.in-For.is c.get-in-For.ensures c.is_laid_out.ensures
-      c.whole_size-in-For.ensures.1 c.loop_size-turns.ensures.1 c.plus-in-For.ensures.1,
+      c.loop_size-loop_words.result c.plus-in-For.result c.in-For.is c.get-in-For.ensures c.is_laid_out.ensures
+      c.whole_size-in-For.ensures.1 c.loop_size-loop_words.ensures.1 c.plus-in-For.ensures.1,
 )
 
 pub returns-in-Bind : goal.returns-in-Bind

@@ -2,8 +2,9 @@ use Rattle.std.proofs.Common.{sym, ap, ◌∙◌, refl, arith, length}
 use Rattle.loop_ir.specs.declared.statements.Stmt.TheVariants as s
 use Rattle.task_code_registers.specs.Holding.{mentions}
 use Rattle.task_code_variables.proofs.Arms.{loop-appended, loop-holds, loop-late, split-appended, split-holds, split-late}
-use Rattle.task_code_variables.proofs.Fitting.{fault-as, first-faulty, for-faulty, loop-faulty, loop-full, passed-on, second-faulty}
-use Rattle.task_code_variables.proofs.Fitting.{bind-faulty, split-faulty, split-full, vectorized-faulty}
+use Rattle.task_code_variables.proofs.Choosing.{collected, collected-one, in-turn, is-collected}
+use Rattle.task_code_variables.proofs.Fitting.{any-faulty, collected-faulty, fault-as, first-faulty, for-faulty, loop-faulty, loop-full, passed-on}
+use Rattle.task_code_variables.proofs.Fitting.{bind-faulty, second-faulty, split-faulty, split-full}
 use Rattle.task_code_variables.proofs.Nesting.{bind-arm, for-arm, none-appends, sequence-arm, store-arm}
 use Rattle.task_code_variables.proofs.statements.+statements.Goals as goal
 
@@ -40,24 +41,16 @@ emit_statement-returns-in_err-emit_statement-in-Sequence-2-clause-err t c =
     (second-faulty c.args.site.now.places.now c.args.site.now.scope.now c.args.statement.now c.in-Sequence.first c.in-Sequence.second
     c.get-in-Sequence.result.now _ c.in-Sequence.is c.get-in-Sequence.ensures) c.in_err-emit_statement-in-Sequence-2.ensures.err
 
-pub emit_statement-returns-then-is_vectorized-clause-err : goal.emit_statement-returns-then-is_vectorized-clause-err
-emit_statement-returns-then-is_vectorized-clause-err t c =
-    vectorized-faulty c.args.site.now.places.now c.args.site.now.scope.now c.args.statement.now c.in-For.body c.in-For.counter c.in-For.count c.in-For.kind
-    c.in-For.is (sym c.is_vectorized.ensures ∙ c.if-is_vectorized.true)
-
-pub emit_statement-returns-in_ok-emit_iterations-in-For-clause-ok : goal.emit_statement-returns-in_ok-emit_iterations-in-For-clause-ok
-emit_statement-returns-in_ok-emit_iterations-in-For-clause-ok t c =
+pub emit_statement-returns-in_ok-emit_loop-in-For-clause-ok : goal.emit_statement-returns-in_ok-emit_loop-in-For-clause-ok
+emit_statement-returns-in_ok-emit_loop-in-For-clause-ok t c =
     for-arm c.args.site.now.places.now c.args.site.now.scope.now c.args.around.now c.args.statement.now c.in-For.counter c.in-For.count c.in-For.kind
-    c.in-For.body c.get-in-For.result.now _ _ c.in-For.is c.get-in-For.ensures (sym c.is_vectorized.ensures ∙ c.if-is_vectorized.false)
-    c.in_ok-emit_iterations-in-For.ensures.ok
+    c.in-For.body c.get-in-For.result.now _ _ c.in-For.is c.get-in-For.ensures c.in_ok-emit_loop-in-For.ensures.ok
 
-pub emit_statement-returns-in_err-emit_iterations-in-For-clause-err : goal.emit_statement-returns-in_err-emit_iterations-in-For-clause-err
-emit_statement-returns-in_err-emit_iterations-in-For-clause-err t c =
-    passed-on _ c.from_residual-in_err-emit_iterations-in-For.result c.in_err-emit_iterations-in-For.field-0.0
-    c.from_residual-in_err-emit_iterations-in-For.ensures.1
+pub emit_statement-returns-in_err-emit_loop-in-For-clause-err : goal.emit_statement-returns-in_err-emit_loop-in-For-clause-err
+emit_statement-returns-in_err-emit_loop-in-For-clause-err t c =
+    passed-on _ c.from_residual-in_err-emit_loop-in-For.result c.in_err-emit_loop-in-For.field-0.0 c.from_residual-in_err-emit_loop-in-For.ensures.1
     (for-faulty c.args.site.now.places.now c.args.site.now.scope.now c.args.statement.now c.in-For.body c.get-in-For.result.now c.in-For.counter
-    c.in-For.count c.in-For.kind _ c.in-For.is c.get-in-For.ensures (sym c.is_vectorized.ensures ∙ c.if-is_vectorized.false))
-    c.in_err-emit_iterations-in-For.ensures.err
+    c.in-For.count c.in-For.kind _ c.in-For.is c.get-in-For.ensures) c.in_err-emit_loop-in-For.ensures.err
 
 pub emit_statement-returns-in_ok-emit_split-in-Bind-clause-ok : goal.emit_statement-returns-in_ok-emit_split-in-Bind-clause-ok
 emit_statement-returns-in_ok-emit_split-in-Bind-clause-ok t c =
@@ -71,6 +64,34 @@ emit_statement-returns-in_err-emit_split-in-Bind-clause-err t c =
     c.in-Bind.whole c.in-Bind.extent _ c.in-Bind.is c.get-in-Bind.ensures) c.in_err-emit_split-in-Bind.ensures.err
 
 -- ---- loops
+
+pub emit_loop-returns-in_ok-emit_iterations-in-None-clause-ok : goal.emit_loop-returns-in_ok-emit_iterations-in-None-clause-ok
+emit_loop-returns-in_ok-emit_iterations-in-None-clause-ok t c =
+    in-turn c.args.site.now.places.now c.args.site.now.scope.now c.args.around.now c.args.own.counter c.args.own.count c.args.own.kind c.args.body.now _ _
+    (sym c.group_collected.ensures ∙ c.in-None.is) c.in_ok-emit_iterations-in-None.ensures.ok
+
+pub emit_loop-returns-in_err-emit_iterations-in-None-clause-err : goal.emit_loop-returns-in_err-emit_iterations-in-None-clause-err
+emit_loop-returns-in_err-emit_iterations-in-None-clause-err t c =
+    passed-on _ c.from_residual.result c.in_err-emit_iterations-in-None.field-0.0 c.from_residual.ensures.1
+    (any-faulty c.args.site.now.places.now c.args.site.now.scope.now c.args.own.counter c.args.own.count c.args.own.kind c.args.body.now _)
+    c.in_err-emit_iterations-in-None.ensures.err
+
+pub emit_loop-emit_collected-requires-clause-one : goal.emit_loop-emit_collected-requires-clause-one
+emit_loop-emit_collected-requires-clause-one t c =
+    collected-one c.args.own.count c.args.own.kind c.args.body.now c.group_collected.result c.in-Some.group c.group_collected.ensures c.in-Some.is
+
+pub emit_loop-returns-in_ok-emit_collected-in-Some-clause-ok : goal.emit_loop-returns-in_ok-emit_collected-in-Some-clause-ok
+emit_loop-returns-in_ok-emit_collected-in-Some-clause-ok t c =
+    collected c.args.site.now.places.now c.args.site.now.scope.now c.args.around.now c.args.own.counter c.args.own.count c.args.own.kind c.args.body.now
+    c.in-Some.group _ _ (sym c.group_collected.ensures ∙ c.in-Some.is) c.in_ok-emit_collected-in-Some.ensures.ok
+
+pub emit_loop-returns-in_err-emit_collected-in-Some-clause-err : goal.emit_loop-returns-in_err-emit_collected-in-Some-clause-err
+emit_loop-returns-in_err-emit_collected-in-Some-clause-err t c =
+    let k = is-collected c.args.own.count c.args.own.kind c.args.body.now c.in-Some.group (sym c.group_collected.ensures ∙ c.in-Some.is) in
+    passed-on _ c.from_residual-in_err-emit_collected-in-Some.result c.in_err-emit_collected-in-Some.field-0.0
+    c.from_residual-in_err-emit_collected-in-Some.ensures.1
+    (collected-faulty c.args.site.now.places.now c.args.site.now.scope.now c.args.own.counter c.args.own.count _ c.args.own.kind _ c.args.body.now _
+    k.count_is k.kind_is) c.in_err-emit_collected-in-Some.ensures.err
 
 pub emit_iterations-returns-then-own-eq0-clause-ok : goal.emit_iterations-returns-then-own-eq0-clause-ok
 emit_iterations-returns-then-own-eq0-clause-ok t c = λ kind plain.
@@ -125,7 +146,8 @@ emit_iterations-returns-in_err-end_loop-clause-err t c =
 pub emit_split-returns-clause-ok : goal.emit_split-returns-clause-ok
 emit_split-returns-clause-ok t c =
     split-appended c.args.site.now.scope.now c.in_ok-scope.scope.items c.as_slice.result.now c.args.around.now c.as_slice-2.result.now
-    c.args.split.counter c.args.split.whole _ _ c.requires c.in_ok-scope.ensures.ok c.as_slice.ensures.value (c.as_slice-2.ensures.value ∙ c.in_ok-inner.ensures)
+    c.args.split.counter c.args.split.whole _ _ c.requires c.in_ok-scope.ensures.ok c.as_slice.ensures.value
+    (c.as_slice-2.ensures.value ∙ c.in_ok-inner.ensures)
     c.args.site.now.places.now c.args.split.extent c.args.body.now c.numbered-counter.result _ _ _ c.no_words_beside-made.ensures
     c.numbered-counter.ensures c.in_ok-emit_statement.ensures.ok c.in_ok-emit_tested.ensures.ok
 
@@ -133,7 +155,8 @@ pub emit_split-emit_statement-requires : goal.emit_split-emit_statement-requires
 emit_split-emit_statement-requires t c = (
   omega (arith, c.decreases),
   split-holds c.args.site.now.scope.now c.in_ok-scope.scope.items c.as_slice.result.now c.args.around.now c.as_slice-2.result.now
-      c.args.split.counter c.args.split.whole _ _ c.requires c.in_ok-scope.ensures.ok c.as_slice.ensures.value (c.as_slice-2.ensures.value ∙ c.in_ok-inner.ensures),
+      c.args.split.counter c.args.split.whole _ _ c.requires c.in_ok-scope.ensures.ok c.as_slice.ensures.value
+      (c.as_slice-2.ensures.value ∙ c.in_ok-inner.ensures),
 )
 
 pub emit_split-returns-in_err-scope-clause-err : goal.emit_split-returns-in_err-scope-clause-err
@@ -153,6 +176,7 @@ pub emit_split-returns-in_err-emit_tested-clause-err : goal.emit_split-returns-i
 emit_split-returns-in_err-emit_tested-clause-err t c =
     passed-on _ c.from_residual-in_err-emit_tested.result c.in_err-emit_tested.field-0.0 c.from_residual-in_err-emit_tested.ensures.1
     (split-late c.args.site.now.scope.now c.in_ok-scope.scope.items c.as_slice.result.now c.args.around.now c.as_slice-2.result.now
-    c.args.split.counter c.args.split.whole _ _ c.requires c.in_ok-scope.ensures.ok c.as_slice.ensures.value (c.as_slice-2.ensures.value ∙ c.in_ok-inner.ensures)
+    c.args.split.counter c.args.split.whole _ _ c.requires c.in_ok-scope.ensures.ok c.as_slice.ensures.value
+    (c.as_slice-2.ensures.value ∙ c.in_ok-inner.ensures)
     c.args.site.now.places.now c.args.split.extent c.args.body.now c.numbered-counter.result _ _ _ c.no_words_beside-made.ensures
     c.numbered-counter.ensures c.in_ok-emit_statement.ensures.ok) c.in_err-emit_tested.ensures.err

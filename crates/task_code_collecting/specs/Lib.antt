@@ -1,3 +1,0 @@
-pub mod Collected
-pub mod CollectedDoing
-pub mod Faults

@@ -1,4 +1,0 @@
-use Rattle.task_code_scalar.proofs.frames.+need.Given as goal
-
-abbrev pub decreases-need : goal.decreases-need
-decreases-need l = goal.size-need l

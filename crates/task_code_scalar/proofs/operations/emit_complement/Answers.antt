@@ -1,5 +1,0 @@
-use Rattle.task_code_scalar.proofs.Spelling.{emits_then}
-use Rattle.task_code_scalar.proofs.operations.emit_complement.Goals as goal
-
-pub returns : goal.returns
-returns c = emits_then c.in_ok-alu.ensures c.in_ok-alu-2.ensures
