@@ -1,5 +1,5 @@
--- One phase of two tasks, each with one store, and a text that spells code of it: an instance of all that is promised of tasks, so that no
--- premise of it is one that nothing meets. This project's own.
+-- One phase of two tasks, each with one store, and a text that spells code of it: the premises of what is promised of tasks, all met
+-- at once, and a run from there. There is no loop, no run and no frame in it. This project's own.
 --
 -- Task t stores 7 + t at column t of the only buffer, which lies behind the phase's two words.
 use Rattle.std.specs.Prelude.{◌%◌, ◌≡◌, ◌<◌, ℕ, ◌+◌, ◌*◌, ◌-◌, ◌/◌, ◌==◌, ◌&&◌, nat_lt, if◌then◌else◌, Bool, false, List, [], ◌∷◌, length, replicate, Some}

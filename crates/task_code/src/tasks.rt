@@ -49,15 +49,15 @@ fn emit_by_forms(
 /// Appends the code of one task of a phase.
 ///
 /// It finds the task's number in x12 and the hart's in x10, and ends behind its last word, with the addresses of the
-/// ticket word and of the gate word behind it in x13 and x14, 1 in x15 and the number of tasks in x16. Wherever it
-/// stands it does each task of the phase to the buffers in memory, in turns that hang on the task alone (`DoesTask` of
-/// `task_code_statements/specs/Tasks.antt`), and it has no more words than the phase asks for. It also adds which of
-/// the words it takes for the code of stages inside the phase; no clause speaks of that.
+/// ticket word and of the gate word behind it in x13 and x14, 1 in x15 and the number of tasks in x16; x10 and x11
+/// stay. Wherever it stands it does each task of the phase to the buffers in memory, in turns that hang on the task
+/// alone (`DoesTask` of `task_code_statements/specs/Tasks.antt`), and it has no more words than the phase asks for. It
+/// also adds which of the words it takes for the code of stages inside the phase; no clause speaks of that.
 ///
 /// # Errors
 ///
 /// Where memory runs out, the phase asks for 2^18 words or more, or an expression or a nest of loops has no registers
-/// left: what stands then is in `specs/Faults.antt`, and nothing was appended.
+/// left: what stands then is in `specs/Faults.antt`, and no code was appended. What the list of stages then has is open.
 pub fn emit(
     alloc: Global,
     phase: &Phase,

@@ -143,6 +143,11 @@ fn need(e: &Expr, counter: Counter) -> Taking {
     }
 }
 
+/// How many groups of the stack an expression's values take, a lane for each iteration of a loop.
+pub fn groups_needed(e: &Expr, counter: Counter) -> u8 {
+    need(e, counter).groups
+}
+
 // ---- code
 
 fn groups_from(group: Group, k: u8) -> u8 {

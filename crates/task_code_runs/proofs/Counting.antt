@@ -1,5 +1,5 @@
 -- Lanes that are configured.
-use Rattle.std.proofs.Common.{◌≡◌, ℕ, ◌*◌, ◌<◌, List, [], ◌∷◌, ◌++◌, true, refl, ap, ◌∙◌, sym, subst, arith, inl, inr}
+use Rattle.std.proofs.Common.{◌≡◌, ℕ, ◌*◌, ◌<◌, ◌≤◌, List, [], ◌∷◌, ◌++◌, true, refl, ap, ◌∙◌, sym, subst, arith}
 use Rattle.std.specs.Prelude.{min, ◌^◌, ◌==◌, if◌then◌else◌, Bool, false, Option, Some, None}
 use Rattle.std.proofs.lemmas.Bool.Decides.{nat_tests}
 use Rattle.rv_insn.specs.declared.instructions.Insn.TheVariants.{Vector}
@@ -9,14 +9,14 @@ use Rattle.loop_ir.specs.Counters.{Values, with}
 use Rattle.loop_ir.specs.declared.expressions.Counter.{Counter}
 use Rattle.halide_pipeline.specs.Words as word
 use Rattle.halide_pipeline.specs.declared.expressions.Operation.TheVariants as op
-use Rattle.multi_hart_logic.specs.Paths.{configure}
+use Rattle.multi_hart_logic.specs.Paths.{configure, update}
 use Rattle.multi_hart_logic.proofs.Configurations.{configure-at, configure-by}
-use Rattle.multi_hart_logic.proofs.Paths.{line-then}
+use Rattle.multi_hart_logic.proofs.Paths.{line-then, update-other}
 use Rattle.task_code_scalar.specs.Words.{Emits}
 use Rattle.task_code_scalar.proofs.Spelling.{emits_then}
 use Rattle.task_code_registers.specs.declared.scopes.Held.{Held}
 use Rattle.task_code_registers.specs.Registers.{first_value, zero_register}
-use Rattle.task_code_registers.specs.Scopes.{IsKept, are_registers}
+use Rattle.task_code_registers.specs.Scopes.{are_registers}
 use Rattle.task_code_registers.proofs.Knowing.{kept-apart, kept-low, knows-still, knows-zero}
 use Rattle.task_code_values.specs.Making.{MakesOfTwo}
 use Rattle.task_code_lanes.specs.declared.groups.Group.{Group}
@@ -31,7 +31,12 @@ use Rattle.task_code_runs.specs.Runs.{all_lanes, least_left, left_by, left_lanes
 use Rattle.task_code_runs.specs.inner.Making.{group_lanes, Configures, MakesLeast, MakesLeft}
 use Rattle.task_code_runs.proofs.Sharing.{left-small, value-free}
 
-all-of : (group : Group) → min (group_lanes group) (most_elements (vtype_of group)) ≡ 4 * registers group
+-- what lanes hold stays
+pub lanes-configured : (f : ℕ → ℕ) (n vtype q : ℕ) → 34 ≤ q → configure f n vtype q ≡ f q
+lanes-configured f n vtype q high =
+    update-other (update f 32 n) 33 vtype q (λ e. omega (arith, e, high)) ∙ update-other f 32 n q (λ e. omega (arith, e, high))
+
+pub all-of : (group : Group) → min (group_lanes group) (most_elements (vtype_of group)) ≡ 4 * registers group
 all-of groups.One = refl
 all-of groups.Two = refl
 all-of groups.Four = refl
@@ -49,6 +54,7 @@ all-configured scope own c0 c1 all z = record {
         line = configure-at w f m l (group_lanes own.group) (vtype_of own.group) (supported own.group);
         has = subst (λ k. HasLanes own.group k (configure f n (vtype_of own.group))) e (has-lanes own.group f n (omega (arith, e)));
         keeps = λ q kept. configured-others f n (vtype_of own.group) q (kept-low scope q all kept);
+        lanes_stay = λ q high. lanes-configured f n (vtype_of own.group) q high;
       };
 }
 
@@ -71,6 +77,9 @@ left-configured scope own left b c0 c1 c2 all p z = record {
         keeps = λ q kept.
             let u = kept-apart scope q holders kept in
             configured-others a.after n (vtype_of own.group) q (kept-low scope q all kept) ∙ a.others q (address-free scope holders q kept) u.0 u.1;
+        lanes_stay = λ q high.
+            lanes-configured a.after n (vtype_of own.group) q high
+            ∙ a.others q (λ e. omega (arith, e, high)) (λ e. omega (arith, e, high)) (λ e. omega (arith, e, high));
       };
 }
 
@@ -95,6 +104,9 @@ least-configured scope own first others c0 c1 c2 all p z = record {
             let u = kept-apart scope q holders kept in
             configured-others a.after n (vtype_of own.group) q (kept-low scope q all kept)
             ∙ a.others q (value-free scope holders q kept) (address-free scope holders q kept) u.0 u.1;
+        lanes_stay = λ q high.
+            lanes-configured a.after n (vtype_of own.group) q high
+            ∙ a.others q (λ e. omega (arith, e, high)) (λ e. omega (arith, e, high)) (λ e. omega (arith, e, high)) (λ e. omega (arith, e, high));
       };
 }
 
@@ -107,7 +119,7 @@ less-than-both x y n one two = go (word.less y x)
     go true = two
     go false = one
 
-least-small : (counter : Counter) (first : Left) (others : List Left) (values : Values) → least_left counter first others values < 2 ^ 32
+pub least-small : (counter : Counter) (first : Left) (others : List Left) (values : Values) → least_left counter first others values < 2 ^ 32
 least-small counter first [] values = left-small counter first values
 least-small counter first (next ∷ others) values =
     less-than-both (least_left counter next others values) (left_by counter first values) (2 ^ 32) (least-small counter next others values)

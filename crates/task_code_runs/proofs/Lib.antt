@@ -1,7 +1,9 @@
 pub mod Aiming
 pub mod Counting
 pub mod Fronts
+pub mod Going
 pub mod Idling
+pub mod Parting
 pub mod Pointing
 pub mod Running
 pub mod Sharing

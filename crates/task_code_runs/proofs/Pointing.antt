@@ -1,17 +1,14 @@
 -- A register points where lanes begin.
-use Rattle.std.proofs.Common.{◌≡◌, ℕ, ◌+◌, ◌*◌, ◌%◌, ◌^◌, List, refl, ap, ◌∙◌, sym, arith, inl}
+use Rattle.std.proofs.Common.{◌≡◌, ℕ, List, refl, ◌∙◌, arith, inl}
 use Rattle.loop_ir.specs.declared.expressions.Counter.{Counter}
-use Rattle.loop_ir.specs.Counters.{Values, with}
-use Rattle.loop_ir.specs.Expressions.{sum_of}
+use Rattle.loop_ir.specs.Counters.{with}
 use Rattle.task_code_registers.specs.declared.scopes.Form.{Form}
 use Rattle.task_code_registers.specs.declared.scopes.Held.{Held}
 use Rattle.task_code_registers.specs.Emitting.{IsNear, MakesValue}
 use Rattle.task_code_registers.specs.Holding.{IsAt}
 use Rattle.task_code_registers.specs.Registers.{address_register}
 use Rattle.task_code_registers.specs.Scopes.{AreHolders, IsFree, form_value}
-use Rattle.task_code_registers.specs.Strides.{strides, others_of}
 use Rattle.task_code_registers.proofs.Knowing.{may-hold, working-free}
-use Rattle.task_code_registers.proofs.Striding.{linear-with}
 use Rattle.task_code_values.proofs.Standing.{held-near}
 use Rattle.task_code_runs.specs.inner.Making.{MakesPointer}
 

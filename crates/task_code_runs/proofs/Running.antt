@@ -1,7 +1,7 @@
 -- What a vectorized loop's code does is what its iterations do in turn.
-use Rattle.std.proofs.Common.{◌≡◌, ℕ, ◌+◌, ◌*◌, ◌%◌, ◌^◌, ◌<◌, ◌≤◌, ◌-◌, List, [], ◌∷◌, ◌++◌, length, Bool, true, refl, ap, ◌∙◌, sym, subst, arith, inl, inr}
+use Rattle.std.proofs.Common.{◌≡◌, ℕ, ◌+◌, ◌^◌, ◌<◌, ◌≤◌, ◌-◌, List, [], ◌∷◌, ◌++◌, length, Bool, true, refl, ap, ◌∙◌, sym, subst, arith, inl, inr}
 use Rattle.std.proofs.Common.{length-append}
-use Rattle.std.specs.Prelude.{◌≢◌, ◌⊎◌, ◌&&◌, Option, Some, None}
+use Rattle.std.specs.Prelude.{◌⊎◌, ◌&&◌, Option, Some, None}
 use Rattle.std.specs.List.{AllByRecursion, list_all}
 use Rattle.std.proofs.lemmas.Bool.{and_parts}
 use Rattle.std.proofs.lemmas.List.Folds.{list_all-append}
@@ -19,7 +19,7 @@ use Rattle.loop_ir.specs.declared.statements.Stmt.{Stmt}
 use Rattle.loop_ir.specs.declared.statements.Stmt.TheVariants as s
 use Rattle.loop_ir.specs.AtOnce.{Effect, effect}
 use Rattle.loop_ir.specs.Counters.{Values, with}
-use Rattle.loop_ir.specs.Expressions.{value, loads, linear_value}
+use Rattle.loop_ir.specs.Expressions.{value, loads}
 use Rattle.loop_ir.specs.Rounds.{is_round_count, are_apart, all_step_up, rounds, Rounds}
 use Rattle.loop_ir.specs.Running.{run}
 use Rattle.loop_ir.specs.Soundness.{is_sound, store_loads}
@@ -27,7 +27,7 @@ use Rattle.loop_ir.proofs.AtOnce.{effect_store, in_turn}
 use Rattle.loop_ir.proofs.Rounds.{rounds_for}
 use Rattle.loop_ir.proofs.Sound.{sound_for, sound_store}
 use Rattle.loop_ir.proofs.Trees.{run_for}
-use Rattle.multi_hart_logic.specs.Paths.{end, lane, vl_number, vtype_number}
+use Rattle.multi_hart_logic.specs.Paths.{end}
 use Rattle.multi_hart_logic.proofs.Paths.{stand-front, stand-back, end-append}
 use Rattle.task_code_scalar.specs.declared.places.Place.{Place}
 use Rattle.task_code_scalar.specs.declared.places.Places.{Places}
@@ -39,32 +39,21 @@ use Rattle.task_code_scalar.proofs.Looping.{each-turn}
 use Rattle.task_code_scalar.proofs.Spelling.{emits_then}
 use Rattle.task_code_scalar.proofs.Loading.{all-loaded}
 use Rattle.task_code_scalar.proofs.Tracing.{hit-for}
-use Rattle.task_code_registers.specs.declared.scopes.Form.{Form}
 use Rattle.task_code_registers.specs.declared.scopes.Held.{Held}
 use Rattle.task_code_registers.specs.Doing.{Did}
-use Rattle.task_code_registers.specs.Points.{IsPoint}
-use Rattle.task_code_registers.specs.Registers.{address_register, first_value, scratch}
-use Rattle.task_code_registers.specs.Scopes.{AreHolders, IsHolder, IsKept}
-use Rattle.task_code_registers.specs.Strides.{strides}
+use Rattle.task_code_registers.specs.Scopes.{IsKept}
 use Rattle.task_code_registers.proofs.Going.{Hits, no_hits, Went, Does, within, went-then, went-hits, went-is, still}
-use Rattle.task_code_registers.proofs.Knowing.{may-hold, kept-apart, knows-still}
+use Rattle.task_code_registers.proofs.Knowing.{knows-still}
 use Rattle.task_code_registers.proofs.Looping.{did-went}
-use Rattle.task_code_values.specs.Operands.{IsSum}
-use Rattle.task_code_values.proofs.Pointing.{own-word}
-use Rattle.task_code_lanes.specs.declared.groups.Group.{Group}
-use Rattle.task_code_lanes.specs.declared.groups.Group.TheVariants as groups
-use Rattle.task_code_lanes.specs.Groups.{slot, slots}
-use Rattle.task_code_lanes.proofs.Rows as rows
+use Rattle.task_code_lanes.specs.Groups.{slot}
 use Rattle.task_code_lane_values.specs.declared.vectorized.Lanes.{Lanes}
-use Rattle.task_code_lane_values.specs.Leaving.{IsUnder, MakesLanes}
 use Rattle.task_code_lanes.proofs.Effects.{HitBy, laid, laid-same, laid-cut}
 use Rattle.task_code_lanes.proofs.Configured.{few-lanes}
 use Rattle.task_code_lanes.proofs.Runs.{same-runs, pixels-are-run, loop-runs}
 use Rattle.task_code_lanes.proofs.Storing.{hits-at-once}
 use Rattle.task_code_runs.specs.AtOnce.{MayRun}
 use Rattle.task_code_runs.specs.Runs.{all_lanes, run_of, StoresAs, EmitsRun}
-use Rattle.task_code_runs.specs.inner.Making.{Configures, MakesPointer, StoresLanes}
-use Rattle.task_code_lane_values.proofs.Composing.{kept-under, lanes-under, slot-under}
+use Rattle.task_code_runs.specs.inner.Parting.{MakesRun}
 use Rattle.task_code_runs.proofs.Aiming.{MakesAims}
 use Rattle.task_code_runs.proofs.Storing.{row-saved}
 
@@ -238,17 +227,18 @@ module _ (own : Setting) (good : IsSetting own) (lanes_of : Lanes) (body : Stmt)
 
 -- ---- values and a store
 
-pub stored-as : (places : Places) (scope : List Held) (lanes_of : Lanes) (store : Store) (place : Place) (b u : ℕ) (addressing : Addressing)
-    (c0 c1 c2 c3 : List ℕ) → place ≡ place_of places (sources.Func store.func) → u ≡ slot lanes_of.group 0
-    → MakesLanes c0 c1 places scope lanes_of 0 store.value → MakesAims c1 c2 places scope lanes_of store place b addressing
-    → Emits c2 c3 (Vector (v.StoreElements Bits32 u b addressing true) ∷ []) → StoresLanes c0 c3 places scope lanes_of store
-stored-as places scope lanes_of store place b u addressing c0 c1 c2 c3 ep eu p t z =
+pub stored-as : (places : Places) (scope : List Held) (lanes_of : Lanes) (count : Values → ℕ) (store : Store) (place : Place) (b u : ℕ)
+    (addressing : Addressing) (c0 c1 c2 c3 : List ℕ) → place ≡ place_of places (sources.Func store.func) → u ≡ slot lanes_of.group 0
+    → MakesRun c0 c1 places scope lanes_of count 0 store.value → MakesAims c1 c2 places scope lanes_of count store place b addressing
+    → Emits c2 c3 (Vector (v.StoreElements Bits32 u b addressing true) ∷ []) → EmitsRun c0 c3 places scope lanes_of count store
+stored-as places scope lanes_of count store place b u addressing c0 c1 c2 c3 ep eu p t z =
     let last_code : List Insn = Vector (v.StoreElements Bits32 (slot lanes_of.group 0) b addressing true) ∷ [] in
     record {
       insns = p.insns ++ (t.insns ++ last_code);
       emits = emits_then p.emits (emits_then t.emits (subst (λ r. Emits c2 c3 (Vector (v.StoreElements Bits32 r b addressing true) ∷ [])) eu z));
-      does = λ own good at-places values named body n holders agrees may f memory funcs holds knows has.
+      does = λ own good at-places values named body holders agrees may f memory funcs holds knows.
           let w = own.world in
+          let n = count named in
           let group = lanes_of.group in
           let reads_now : Reads = reads_of own.inputs funcs in
           let at : ℕ → Values = (λ k. with lanes_of.counter k named) in
@@ -260,14 +250,11 @@ stored-as places scope lanes_of store place b u addressing c0 c1 c2 c3 ep eu p t
           subst (λ ps. AllByRecursion (Loads w ps memory reads_now) (loads reads_now (at k) e)) at-places
           (all-loaded own good funcs memory holds (loads reads_now (at k) e) may-load) in
           let are : ArePlaces places = subst ArePlaces at-places good.are_places in
-          let a = p.does w memory named reads_now n f holds.size are holders knows has agrees.some agrees.few
+          let a = p.does w memory named reads_now f holds.size are holders knows agrees.some agrees.few
           (λ k few. let q = each k few in loaded store.value k q.of_value) in
-          let kept = λ (q : ℕ) (h : IsKept scope q). a.keeps q (kept-under group 0 scope q holders h) in
-          let ka = knows-still w.hart scope (at 0) f a.after kept knows in
-          let has1 = lanes-under w memory holds.size group n 0 f a.after a.keeps has in
-          let c = t.does w memory named reads_now n a.after holds.size are holders ka has1 agrees.some agrees.few
+          let ka = knows-still w.hart scope (at 0) f a.after a.keeps knows in
+          let c = t.does w memory named reads_now a.after holds.size are holders ka a.has agrees.some agrees.few
           (λ k few. let q = each k few in loaded store.x k q.of_x) (λ k few. let q = each k few in loaded store.y k q.of_y) in
-          let has2 = lanes-under w memory holds.size group n 1 a.after c.after c.keeps has1 in
           let here = λ (k : ℕ).
           ap (λ ps. address (place_of ps (sources.Func store.func)) w.hart (xv k) (yv k)) at-places ∙ ap (λ pl. address pl w.hart (xv k) (yv k)) (sym ep) in
           let where-is = λ (k : ℕ) (few : k < n).
@@ -275,14 +262,13 @@ stored-as places scope lanes_of store place b u addressing c0 c1 c2 c3 ep eu p t
           let m = good.laid.stores store.func (xv k) (yv k) q.writes in
           c.reaches k few (subst (λ i. i < 2 ^ 32) (here k) m.low) ∙ sym (here k) in
           let first : Does own p.insns (length p.insns) f memory (IsKept scope) funcs no_hits =
-          still own (λ i. i) (λ i. end i p.insns) (length p.insns) a.after holds kept (λ i st. a.line i st) in
+          still own (λ i. i) (λ i. end i p.insns) (length p.insns) a.after holds a.keeps (λ i st. a.line i st) in
           let second : Does own t.insns (length t.insns) a.after memory (IsKept scope) funcs no_hits =
-          still own (λ i. i) (λ i. end i t.insns) (length t.insns) c.after holds (λ q h. c.keeps q (kept-under group 1 scope q holders h))
-          (λ i st. c.line i st) in
+          still own (λ i. i) (λ i. end i t.insns) (length t.insns) c.after holds c.keeps (λ i st. c.line i st) in
           let last = row-saved own good (IsKept scope) group store.func n (let e = agrees.few in let l = few-lanes group in omega (arith, e, l)) xv yv pv
           (λ k few. let q = each k few in q.writes) a.small (are-run own good lanes_of body store values named n agrees may funcs memory holds) addressing b
-          c.after memory funcs t.low t.fit holds has2 where-is
-          (λ k few. c.keeps (lane (slot group 0) k) (slot-under group 0 k n (some-slot group) agrees.few few) ∙ a.value k few) in
+          c.after memory funcs t.low t.fit holds c.has where-is
+          (λ k few. c.stays k few ∙ a.value k few) in
           let e = length-both p.insns t.insns (Vector (v.StoreElements Bits32 (slot group 0) b addressing true)) in
           did-went (went-hits own (all-hit own good lanes_of body store values named n agrees may funcs memory holds)
           (went-is own (sym e) (laid-is own good lanes_of body store values named n agrees may funcs memory holds)
@@ -294,26 +280,3 @@ stored-as places scope lanes_of store place b u addressing c0 c1 c2 c3 ep eu p t
         let a = length-append is (js ++ (k ∷ [])) in
         let b = length-append js (k ∷ []) in
         omega (arith, a, b)
-
-    some-slot : (group : Group) → 0 < slots group
-    some-slot groups.One = omega arith
-    some-slot groups.Two = omega arith
-    some-slot groups.Four = omega arith
-
--- ---- with lanes configured in front
-
-pub run-emitted : (places : Places) (scope : List Held) (lanes_of : Lanes) (count : Values → ℕ) (store : Store) (c0 c1 c2 : List ℕ)
-    → Configures c0 c1 scope lanes_of count → StoresLanes c1 c2 places scope lanes_of store → EmitsRun c0 c2 places scope lanes_of count store
-run-emitted places scope lanes_of count store c0 c1 c2 x y = record {
-  insns = x.insns ++ y.insns;
-  emits = emits_then x.emits y.emits;
-  does = λ own good at-places values named body holders agrees may f memory funcs holds knows.
-      let w = own.world in
-      let at0 = with lanes_of.counter 0 named in
-      let a = x.does w memory named f holds.size holders knows in
-      let first : Does own x.insns (length x.insns) f memory (IsKept scope) funcs no_hits =
-      still own (λ i. i) (λ i. end i x.insns) (length x.insns) a.after holds a.keeps (λ i st. a.line i st) in
-      let ka = knows-still w.hart scope at0 f a.after a.keeps knows in
-      let b = y.does own good at-places values named body (count named) holders agrees may a.after memory funcs holds ka a.has in
-      did-went (went-is own (sym (length-append x.insns y.insns)) refl (does-then own first (went-of b)));
-}

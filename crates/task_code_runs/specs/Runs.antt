@@ -49,7 +49,7 @@ left_lanes own (first ∷ others) values = min (least_left own.counter first oth
 abbrev pub run_of : Lanes → Stmt → Stmt
 run_of own body = statements.For own.counter (all_lanes own) Vectorized body
 
--- In each of the first so many iterations, of which there is one, a body stores what a store stores where names have values too, and is sound only
+-- In each of the first so many iterations, at least one, a body stores what a store stores where names have values too, and is sound only
 -- if that is. In the others it stores nothing.
 pub record StoresAs (own : Lanes) (body : Stmt) (store : Store) (values named : Values) (count : ℕ) : Type 0 where
   pub some : 1 ≤ count

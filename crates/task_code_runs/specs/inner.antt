@@ -1,1 +1,4 @@
+pub mod Far
+pub mod Going
 pub mod Making
+pub mod Parting

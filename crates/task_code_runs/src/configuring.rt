@@ -49,7 +49,7 @@ fn lane_count(group: Group) -> Length5
 }
 
 /// Appends the instruction that configures as many lanes as groups have.
-fn put_all(code: &mut Vec<u32>, group: Group) -> Result<(), AllocError>
+pub(crate) fn put_all(code: &mut Vec<u32>, group: Group) -> Result<(), AllocError>
     ensures { OnOk result (Emits code.old.items code.new.items
         (vector_row (v.Vsetivli 0 (spec.group_lanes group) (groups.vtype_of group)) ∷ [])) }
 {
@@ -64,7 +64,7 @@ fn put_all(code: &mut Vec<u32>, group: Group) -> Result<(), AllocError>
 
 /// Appends what leaves the least number of iterations that one of some sums leaves, as numbers with a sign, where
 /// values are made.
-fn emit_least(
+pub(crate) fn emit_least(
     alloc: Global,
     code: &mut Vec<u32>,
     scope: &[Held],

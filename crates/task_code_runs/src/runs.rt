@@ -1,20 +1,26 @@
 //! The code of a vectorized loop of one store.
 
-ghost use Rattle.std.specs.Prelude.{OnOk};
+ghost use Rattle.std.specs.Prelude.{◌≡◌, OnOk, true};
+ghost use Rattle.task_code_registers.specs.Scopes.{are_registers};
 ghost use Rattle.task_code_values.specs.Operands.{IsSum};
 ghost use Rattle.task_code_runs.specs.Runs.{EmitsRun, left_lanes};
-ghost use Rattle.task_code_runs.specs.inner.Making.{StoresLanes};
+ghost use Rattle.task_code_runs.specs.inner.Far.{MakesFar};
+ghost use Rattle.task_code_runs.specs.inner.Parting.{MakesRun};
 
 use crate::configuring::emit_left_lanes;
+use crate::distances::distance_of;
 use crate::left::Left;
+use crate::parts::{Target, emit_in_parts};
 use crate::pointers::emit_pointer;
 use halide_pipeline::Source;
-use loop_ir::expressions::Linear;
+use loop_ir::expressions::{Expr, Linear};
 use loop_ir::statements::Store;
 use std::alloc::Global;
+use task_code_lane_values::needs::groups_needed;
 use task_code_lane_values::sharing::emit_values;
 use task_code_lane_values::values::{BufferPoint, emit_point_distances};
 use task_code_lane_values::vectorized::{LaneSite, Lanes};
+use task_code_lanes::groups::Group;
 use task_code_lanes::vectors::{store_at, store_row, store_strided};
 use task_code_registers::holding::stride_of;
 use task_code_registers::numbers::emit_number;
@@ -29,7 +35,10 @@ use task_code_values::sites::Site;
 /// How far points lie apart whose words lie one behind the other.
 const WORD_BYTES: u32 = 4;
 
-/// The group of the stack for distances of points, behind that of the values that are stored there.
+/// The group of the stack for the values that are stored.
+const VALUES: u8 = 0;
+
+/// The group of the stack for distances of the points at which they are.
 const DISTANCES: u8 = 1;
 
 /// The sums that the indexes of a point are.
@@ -48,37 +57,111 @@ impl Drop for Point {
     }
 }
 
+/// The smaller groups in which values that need so many groups from group k on are made, where there are fewer; none
+/// where there are enough, or no smaller ones.
+fn part_group(whole: Group, k: u8, needed: u8) -> Option<Group> {
+    if k.saturating_add(needed) <= whole.slots() {
+        return None;
+    }
+    match whole {
+        Group::One => None,
+        Group::Two => Some(Group::One),
+        Group::Four => {
+            // the second half of group k is group 2k + 1
+            if k.saturating_add(k).saturating_add(needed) < Group::Two.slots() {
+                Some(Group::Two)
+            } else {
+                Some(Group::One)
+            }
+        }
+    }
+}
+
+/// Appends what configures a lane for each iteration that stores, and leaves an expression's values in the first group.
+fn emit_made(
+    alloc: Global,
+    code: &mut Vec<u32>,
+    site: &LaneSite<'_>,
+    left: &[Left],
+    e: &Expr,
+) -> Result<(), CodeFault>
+    requires { are_registers site.now.scope.now ≡ true }
+    ensures { OnOk result (MakesRun code.old.items code.new.items site.now.places.now site.now.scope.now
+        site.now.lanes (left_lanes site.now.lanes left.now) 0 e.now) }
+{
+    let needed = groups_needed(e, site.lanes.counter);
+    match part_group(site.lanes.group, VALUES, needed) {
+        None => {
+            emit_left_lanes(alloc, code, site.scope, site.lanes, left)?;
+            emit_values(alloc, code, site, e)?;
+            Ok(())
+        }
+        Some(group) => {
+            emit_in_parts(alloc, code, site, left, Target { k: VALUES, group }, e)?;
+            Ok(())
+        }
+    }
+}
+
+/// Appends what leaves in the second group how far each iteration's point lies behind its buffer's first pixel, where
+/// lanes are configured, and has them configured again.
+fn emit_far(
+    alloc: Global,
+    code: &mut Vec<u32>,
+    site: &LaneSite<'_>,
+    left: &[Left],
+    point: &BufferPoint<'_>,
+) -> Result<(), CodeFault>
+    requires { are_registers site.now.scope.now ≡ true }
+    ensures { OnOk result (MakesFar code.old.items code.new.items site.now.places.now site.now.scope.now
+        site.now.lanes (left_lanes site.now.lanes left.now) point.now.place.now point.now.x.now point.now.y.now) }
+{
+    let k = DISTANCES;
+    let column = groups_needed(point.x, site.lanes.counter);
+    let row = groups_needed(point.y, site.lanes.counter).saturating_add(1);
+    let needed = if column < row { row } else { column };
+    match part_group(site.lanes.group, k, needed) {
+        None => {
+            emit_point_distances(alloc, code, site, point, k)?;
+            Ok(())
+        }
+        Some(group) => {
+            let made = distance_of(alloc, point)?;
+            let done = emit_in_parts(alloc, code, site, left, Target { k, group }, &made);
+            drop(made);
+            done?;
+            Ok(())
+        }
+    }
+}
+
 /// Appends what makes a store's values in all lanes, and stores them: one behind the other, or at another stride.
 fn emit_row(
     alloc: Global,
     code: &mut Vec<u32>,
-    site: &Site<'_>,
-    own: Lanes,
+    site: &LaneSite<'_>,
+    left: &[Left],
     store: &Store,
     point: &Point,
 ) -> Result<(), CodeFault>
-    requires { IsSum store.now.x point.now.column × IsSum store.now.y point.now.row }
-    ensures { OnOk result (StoresLanes code.old.items code.new.items site.now.places.now site.now.scope.now own
-        store.now) }
+    requires registers { are_registers site.now.scope.now ≡ true }
+    requires sums { IsSum store.now.x point.now.column × IsSum store.now.y point.now.row }
+    ensures { OnOk result (EmitsRun code.old.items code.new.items site.now.places.now site.now.scope.now
+        site.now.lanes (left_lanes site.now.lanes left.now) store.now) }
 {
     let place = place_of(site.places, Source::Func(store.func));
     let form = point_form(alloc, &place, &point.column, &point.row)?;
-    let stride = stride_of(form.sum.terms.as_slice(), own.counter);
-    let along = LaneSite {
-        places: site.places,
-        scope: site.scope,
-        lanes: own,
-    };
+    let stride = stride_of(form.sum.terms.as_slice(), site.lanes.counter);
+    let values = site.lanes.group.slot(VALUES);
+    emit_made(alloc, code, site, left, &store.value)?;
     if stride == WORD_BYTES {
-        emit_values(alloc, code, &along, &store.value)?;
-        let pointer = emit_pointer(alloc, code, site.scope, own.counter, &form)?;
-        store_row(code, own.group.slot(0), pointer)?;
+        let pointer = emit_pointer(alloc, code, site.scope, site.lanes.counter, &form)?;
+        store_row(code, values, pointer)?;
         return Ok(());
     }
-    emit_values(alloc, code, &along, &store.value)?;
     emit_number(code, FIRST_VALUE, stride)?;
-    let pointer = emit_pointer(alloc, code, site.scope, own.counter, &form)?;
-    store_strided(code, own.group.slot(0), pointer, FIRST_VALUE)?;
+    let pointer = emit_pointer(alloc, code, site.scope, site.lanes.counter, &form)?;
+    store_strided(code, values, pointer, FIRST_VALUE)?;
     Ok(())
 }
 
@@ -86,52 +169,27 @@ fn emit_row(
 fn emit_scattered(
     alloc: Global,
     code: &mut Vec<u32>,
-    site: &Site<'_>,
-    own: Lanes,
+    site: &LaneSite<'_>,
+    left: &[Left],
     store: &Store,
 ) -> Result<(), CodeFault>
-    ensures { OnOk result (StoresLanes code.old.items code.new.items site.now.places.now site.now.scope.now own
-        store.now) }
+    requires { are_registers site.now.scope.now ≡ true }
+    ensures { OnOk result (EmitsRun code.old.items code.new.items site.now.places.now site.now.scope.now
+        site.now.lanes (left_lanes site.now.lanes left.now) store.now) }
 {
     let place = place_of(site.places, Source::Func(store.func));
     let zero = Linear::of_number(alloc, 0);
     let form = point_form(alloc, &place, &zero, &zero)?;
-    let along = LaneSite {
-        places: site.places,
-        scope: site.scope,
-        lanes: own,
-    };
     let point = BufferPoint {
         place: &place,
         x: &store.x,
         y: &store.y,
     };
-    emit_values(alloc, code, &along, &store.value)?;
-    emit_point_distances(alloc, code, &along, &point, DISTANCES)?;
-    let pointer = emit_pointer(alloc, code, site.scope, own.counter, &form)?;
-    store_at(code, own.group.slot(0), pointer, own.group.slot(DISTANCES))?;
-    Ok(())
-}
-
-/// Appends what makes a store's values in all lanes, and stores them.
-fn emit_stored(
-    alloc: Global,
-    code: &mut Vec<u32>,
-    site: &Site<'_>,
-    own: Lanes,
-    store: &Store,
-) -> Result<(), CodeFault>
-    ensures { OnOk result (StoresLanes code.old.items code.new.items site.now.places.now site.now.scope.now own
-        store.now) }
-{
-    if let Some(column) = sum_of(alloc, &store.x)? {
-        if let Some(row) = sum_of(alloc, &store.y)? {
-            let point = Point { column, row };
-            emit_row(alloc, code, site, own, store, &point)?;
-            return Ok(());
-        }
-    }
-    emit_scattered(alloc, code, site, own, store)?;
+    let group = site.lanes.group;
+    emit_made(alloc, code, site, left, &store.value)?;
+    emit_far(alloc, code, site, left, &point)?;
+    let pointer = emit_pointer(alloc, code, site.scope, site.lanes.counter, &form)?;
+    store_at(code, group.slot(VALUES), pointer, group.slot(DISTANCES))?;
     Ok(())
 }
 
@@ -155,7 +213,18 @@ pub fn emit_run(
     if !are_registers(site.scope) {
         return Err(CodeFault::TooDeep);
     }
-    emit_left_lanes(alloc, code, site.scope, own, left)?;
-    emit_stored(alloc, code, site, own, store)?;
+    let along = LaneSite {
+        places: site.places,
+        scope: site.scope,
+        lanes: own,
+    };
+    if let Some(column) = sum_of(alloc, &store.x)? {
+        if let Some(row) = sum_of(alloc, &store.y)? {
+            let point = Point { column, row };
+            emit_row(alloc, code, &along, left, store, &point)?;
+            return Ok(());
+        }
+    }
+    emit_scattered(alloc, code, &along, left, store)?;
     Ok(())
 }

@@ -1,6 +1,6 @@
 -- Stores in which an expression stands for a loop variable.
-use Rattle.std.proofs.Common.{◌≡◌, ℕ, ◌+◌, ◌-◌, ◌*◌, ◌%◌, ◌^◌, ◌<◌, List, [], ◌∷◌, ◌++◌, length, Bool, true, false, refl, ap, ◌∙◌, sym, subst, arith, cond}
-use Rattle.std.specs.Prelude.{if◌then◌else◌, min, nat_lt, Option, Some, None, IfSome}
+use Rattle.std.proofs.Common.{◌≡◌, ℕ, ◌+◌, ◌-◌, ◌*◌, ◌%◌, ◌^◌, ◌<◌, List, [], ◌∷◌, ◌++◌, length, Bool, true, refl, ap, ◌∙◌, sym, subst, arith, cond}
+use Rattle.std.specs.Prelude.{if◌then◌else◌, min, nat_lt, Some, None}
 use Rattle.std.proofs.lemmas.Nat.{mul-mod_first}
 use Rattle.halide_pipeline.specs.declared.expressions.Operation.TheVariants as op
 use Rattle.halide_pipeline.specs.Pixel.{Reads}
@@ -14,7 +14,7 @@ use Rattle.loop_ir.specs.declared.statements.Stmt.{Stmt}
 use Rattle.loop_ir.specs.declared.statements.Stmt.TheVariants as s
 use Rattle.loop_ir.specs.declared.statements.Store.{Store}
 use Rattle.loop_ir.specs.declared.statements.Whole.{Whole}
-use Rattle.loop_ir.specs.AtOnce.{Effect, effect}
+use Rattle.loop_ir.specs.AtOnce.{effect}
 use Rattle.loop_ir.specs.Buffers.{Points}
 use Rattle.loop_ir.specs.Counters.{Values, with}
 use Rattle.loop_ir.specs.Expressions.{linear_value, value, loads, sum_of}
@@ -31,10 +31,9 @@ use Rattle.task_code_loops.specs.declared.bounds.Bound.{Bound}
 use Rattle.task_code_loops.specs.declared.known.Known.{Known}
 use Rattle.task_code_loops.specs.Bounds.{AreBelow, IsBelow}
 use Rattle.task_code_loops.specs.Known.{AreKnown}
-use Rattle.task_code_loops.proofs.Knowledge.{stands-at}
 use Rattle.task_code_names.specs.Copies.{IsStill}
 use Rattle.task_code_names.proofs.Alike.{loads_number, loads_linear}
-use Rattle.task_code_runs.specs.Naming.{AreNamed, is_name}
+use Rattle.task_code_runs.specs.Naming.{AreNamed}
 use Rattle.task_code_statements.specs.declared.contexts.Context.{Context}
 use Rattle.task_code_statements.specs.declared.replacing.Standing.{Standing}
 use Rattle.task_code_statements.specs.declared.vectorizing.Guarded.{Guarded}
@@ -46,7 +45,7 @@ use Rattle.task_code_statements.specs.Vectorizing.{IsStoreOf, ReplacesIn, passes
 use Rattle.task_code_statements.proofs.AtOnce.{effect-left, sound-left}
 use Rattle.task_code_statements.proofs.Plainness.{named-with}
 use Rattle.task_code_statements.proofs.Same.{first-form, form-sum}
-use Rattle.task_code_statements.proofs.Splitting.{is-below, number-value, whole-plain, whole-word}
+use Rattle.task_code_statements.proofs.Splitting.{is-below, number-value, whole-word}
 use Rattle.task_code_statements.proofs.Storing.{same-sound}
 
 -- ---- the variable times a stride

@@ -31,7 +31,7 @@ use Rattle.task_code_loops.specs.declared.bounds.Bound.{Bound}
 use Rattle.task_code_loops.specs.declared.known.Known.{Known}
 use Rattle.task_code_loops.specs.Bounds.{AreBelow}
 use Rattle.task_code_loops.specs.Known.{AreKnown}
-use Rattle.task_code_clamps.specs.Clamps.{AreBytesAt, IsSame}
+use Rattle.task_code_clamps.specs.Clamps.{AreBytesAt}
 use Rattle.task_code_clamps.specs.Clamps as clamps
 use Rattle.task_code_clamps.specs.Ranges.{IsByte}
 use Rattle.task_code_values.specs.Storing.{MakesStore}

@@ -21,24 +21,25 @@ pub record Meets (context : Context) (values : Values) : Type 0 where
   pub below : AreBelow context.bounds.items values
   pub named : AreNames context.names.items values
 
+-- nothing is known
 pub record IsEmpty (context : Context) : Type 0 where
   pub known : context.known.items ≡ []
   pub bounds : context.bounds.items ≡ []
   pub names : context.names.items ≡ []
 
--- so it is in each iteration of a loop
+-- Where one context is met, another one is in each iteration of a loop,
 pub record MeetsLoop (context : Context) (counter : Counter) (count : ℕ) (made : Context) : Type 0 where
   pub meets : (values : Values) (i : ℕ) → i < count → Meets context values → Meets made (with counter i values)
 
--- and where a variable stands at the value of a sum
+-- where a variable stands at the value of a sum,
 pub record MeetsSum (context : Context) (counter : Counter) (sum : Linear) (made : Context) : Type 0 where
   pub meets : (values : Values) (v : ℕ) → v % 2 ^ 32 ≡ linear_value values sum → Meets context values → Meets made (with counter v values)
 
--- and where one that stands at 0 is known to do so
+-- where one stands at 0,
 pub record MeetsZero (context : Context) (counter : Counter) (made : Context) : Type 0 where
   pub meets : (values : Values) → values counter ≡ 0 → Meets context values → Meets made values
 
--- and where a name has an expression's value, which is a word and loads nothing
+-- and where a name has the value of an expression that is a word and loads nothing.
 pub record MeetsName (context : Context) (counter : Counter) (e : Expr) (made : Context) : Type 0 where
   pub meets : (values : Values) (v : ℕ) → v < 2 ^ 32 → ((reads : Reads) → value reads values e ≡ v) → ((reads : Reads) → loads reads values e ≡ [])
       → Meets context values → Meets made (with counter v values)

@@ -28,6 +28,6 @@ abbrev pub is_own : Option Counter → Counter → Bool
 is_own None counter = false
 is_own (Some own) counter = same_counter counter own
 
--- Where one context meets what variables stand at before a task, another one does.
+-- Wherever variables stand before a task, another context is met there if one is.
 pub record StaysMet (own : Option Counter) (context made : Context) : Type 0 where
   pub meets : (task : ℕ) → Meets context (task_values own task) → Meets made (task_values own task)

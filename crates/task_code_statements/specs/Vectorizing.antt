@@ -87,7 +87,8 @@ pub record IsParted (counter : Counter) (guards : List Guard) (made : Parted) : 
   pub passes_is : (values : Values) → passes guards values ≡ cond (passes made.fixed.items values) (passes made.hanging.items values) false
   pub lack : GuardsLack counter made.fixed.items
 
--- How many strides go into a sum says how many iterations of a loop pass a test from one on, where the first one does: all before some number.
+-- How many strides go into a sum says how many iterations of a loop pass a test, where the first one passes. They are the first ones, since the tested
+-- sum grows.
 pub record IsLeft (bounds : List Bound) (counter : Counter) (guard : Guard) (left : Left) : Type 0 where
   pub value_is : (values : Values) → linear_value values left.sum ≡ word.subtract (guard.extent + (left.stride - 1)) (linear_value values guard.sum)
   pub stride : strides counter guard.sum.terms % 2 ^ 32 ≡ left.stride
@@ -135,7 +136,7 @@ pub record IsRunOf (context : Context) (lanes : Lanes) (body : Stmt) (made : Run
   pub none : (values named : Values) → AreNamed values named → Meets context named → passes made.fixed.items (with lanes.counter 0 named) ≡ false
       → (reads : Reads) (i : ℕ) → i < all_lanes lanes → effect reads body (with lanes.counter i values) ≡ None
 
--- Appended code does what a body does where all tests pass, and else nothing. Its turns hang on that alone.
+-- Appended code does what a body does where all tests pass, and else nothing. Its turns hang on those of the body and on variables' values alone.
 pub record StandsBehind (old new : List ℕ) (scope : List Held) (guards : List Guard) (body : List Insn) : Type 0 where
   pub insns : List Insn
   pub emits : Emits old new insns

@@ -1,18 +1,18 @@
 //! What is known of loop variables while code runs.
 
 ghost use Rattle.std.specs.Prelude.{◌≡◌, ◌++◌, ◌∷◌, IfOk, IfSome, OnOk};
-ghost use Rattle.task_code_registers.specs.Strides.{has_counter};
 ghost use Rattle.task_code_statements.specs.Contexts as contexts;
 ghost use Rattle.task_code_statements.specs.Contexts.{IsEmpty, KeepsNames, MeetsLoop, MeetsName, MeetsSum, MeetsZero};
 ghost use Rattle.task_code_statements.specs.Contexts.{StayNamed};
 
 use crate::lacking::lacks;
 use crate::lessers::count_below;
-use loop_ir::expressions::{Counter, Expr, Linear, Term, same_counter};
+use loop_ir::expressions::{Counter, Expr, Linear, same_counter};
 use std::alloc::{AllocError, Global};
 use task_code_loops::bounds::Bound;
 use task_code_loops::known::Known;
 use task_code_names::names::{Named, new_named};
+use task_code_runs::terms::has_term;
 use task_code_scalar::CodeFault;
 
 /// Loop variables that are sums of others, numbers below which loop variables stay, and names.
@@ -34,22 +34,6 @@ pub fn nothing_known(alloc: Global, with_variables: bool) -> Context
         bounds: Vec::new(alloc),
         names: Vec::new(alloc),
         with_variables,
-    }
-}
-
-/// Whether a sum has a term of a loop variable.
-pub fn has_term(terms: &[Term], counter: Counter) -> bool
-    ensures { result ≡ has_counter counter terms.now }
-{
-    match terms {
-        [] => false,
-        [first, others @ ..] => {
-            if same_counter(first.counter, counter) {
-                true
-            } else {
-                has_term(others, counter)
-            }
-        }
     }
 }
 

@@ -6,7 +6,6 @@ ghost use Rattle.task_code_registers.specs.Holding.{IsAt};
 ghost use Rattle.task_code_statements.specs.Vectorizing.{AddsLeft, AreTests, GuardsLack, IsLeft, IsParted, OneMore};
 ghost use Rattle.task_code_statements.specs.Vectorizing.{TestFirst, TestToo, WordsBehind};
 
-use crate::contexts::has_term;
 use loop_ir::expressions::{Counter, Linear};
 use std::alloc::{AllocError, Global};
 use task_code_loops::bounds::{Bound, is_below};
@@ -14,6 +13,7 @@ use task_code_loops::guards::emit_guarded;
 use task_code_registers::holding::{at_value, stride_of};
 use task_code_registers::scopes::{Form, Held};
 use task_code_runs::left::Left;
+use task_code_runs::terms::has_term;
 use task_code_scalar::{CodeFault, append};
 
 /// The largest extent that leaves no negative number.

@@ -1,11 +1,31 @@
 //! The machine code of statements and of tasks, over what registers hold. Contracts say what the appended code does,
 //! and not which instructions it has.
 //!
-//! - [`contexts`]: what is known of loop variables while code runs (`specs/Contexts.antt`).
-//! - [`rewriting`]: stores by the loop variables that aren't known (`specs/Rewriting.antt`).
-//! - [`stages`]: which words are the code of stages inside a phase.
-//! - [`statements`]: appends what does a statement, with forms that registers hold (`specs/Statements.antt`).
+//! What is known:
+//!
+//! - `contexts`: of loop variables while code runs (`specs/Contexts.antt`).
+//! - `names`: registers that hold what stays the same while a loop runs (`specs/Naming.antt`), and `starts`: which values
+//!   get them.
+//! - `splits`: the values of split loops as sums (`specs/Splits.antt`), and `lessers`: the lesser of two as an expression.
+//!
+//! What code is made of a statement:
+//!
+//! - `statements`: appends what does it, with forms that registers hold (`specs/Statements.antt`).
+//! - `vectorizing`: a vectorized loop whose iterations store all at once (`specs/Vectorizing.antt`).
+//! - `guards`: the tests in front of such a store.
 //! - [`tasks`]: appends what does one task of a phase (`specs/Tasks.antt`).
+//! - [`stages`]: which words are the code of stages inside a phase.
+//!
+//! Stores by other variables:
+//!
+//! - `rewriting`: by those that aren't known (`specs/Rewriting.antt`).
+//! - `replacing`: with an expression for a variable (`specs/Replacing.antt`).
+//! - `plain`: without names, `lacking`: without one variable, `mentions`: which variables there are.
+//!
+//! Guesses, of which nothing is promised:
+//!
+//! - `guessing`: what of a loop's body is worth a name.
+//! - `room`: how many registers a loop leaves to those inside.
 #![tactic(auto)]
 
 mod contexts;

@@ -7,13 +7,13 @@ ghost use Rattle.task_code_statements.specs.Naming.{KeepsValue, NamesIf};
 
 use crate::contexts::{Context, is_bounded, with_value};
 use crate::plain::name;
-use crate::statements::mentions;
 use loop_ir::expressions::{Counter, Expr};
 use std::alloc::Global;
 use task_code_loops::tests::variable;
 use task_code_names::copies::is_still;
 use task_code_registers::numbers::emit_plus;
 use task_code_registers::scopes::{Held, free_register, with_held};
+use task_code_runs::terms::mentions;
 use task_code_scalar::places::Places;
 use task_code_scalar::{CodeFault, append};
 use task_code_values::sites::Site;

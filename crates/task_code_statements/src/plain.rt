@@ -8,9 +8,7 @@ ghost use Rattle.task_code_statements.specs.Naming.{has_name};
 use loop_ir::expressions::{Counter, Expr, Term};
 use loop_ir::statements::Store;
 use schedule_lines::stages::LoopId;
-
-/// The number that the Func of a name has: no Func has it.
-pub const NAMES: usize = usize::MAX;
+use task_code_runs::terms::NAMES;
 
 /// The name of a number.
 pub fn name(number: usize) -> Counter

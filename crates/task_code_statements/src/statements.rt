@@ -11,7 +11,7 @@ ghost use Rattle.task_code_statements.specs.Contexts.{Meets};
 ghost use Rattle.task_code_statements.specs.Making.{BeginsIterations, IsMadeStore};
 ghost use Rattle.task_code_statements.specs.Statements.{EmitsLoop, EmitsStatement};
 
-use crate::contexts::{Context, has_term, in_loop, with_sum};
+use crate::contexts::{Context, in_loop, with_sum};
 use crate::plain::is_plain_store;
 use crate::rewriting::store_by_others;
 use crate::room::{depth, reserve, wanted_in};
@@ -19,7 +19,7 @@ use crate::splits::{enter_split, is_cut, without_last};
 use crate::stages::{Code, add_first, add_last, add_second, no_words_beside};
 use crate::starts::{emit_before, emit_start};
 use crate::vectorizing::emit_vectorized;
-use loop_ir::expressions::{Counter, Expr, Linear};
+use loop_ir::expressions::{Counter, Linear};
 use loop_ir::statements::{LoopKind, Stmt, Store, Whole};
 use std::alloc::{AllocError, Global};
 use task_code_clamps::clamps::unclamped_store;
@@ -29,6 +29,7 @@ use task_code_loops::ending::end_loop;
 use task_code_loops::guards::emit_guarded;
 use task_code_names::names::store_by_names;
 use task_code_registers::scopes::{Form, Held};
+use task_code_runs::terms::mentions;
 use task_code_scalar::CodeFault;
 use task_code_scalar::places::Places;
 use task_code_values::sites::Site;
@@ -89,22 +90,6 @@ fn emit_known_store(
 }
 
 // ---- loops
-
-/// Whether a form that some register holds has a term of a loop variable.
-pub(crate) fn mentions(scope: &[Held], counter: Counter) -> bool
-    ensures { result ≡ holding.mentions counter scope.now }
-{
-    match scope {
-        [] => false,
-        [first, others @ ..] => {
-            if has_term(first.form.sum.terms.as_slice(), counter) {
-                true
-            } else {
-                mentions(others, counter)
-            }
-        }
-    }
-}
 
 /// Appends what stands in front of a loop whose variable no held form has.
 fn begin(

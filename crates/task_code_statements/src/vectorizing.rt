@@ -15,7 +15,6 @@ use crate::replacing::{Standing, store_with};
 use crate::rewriting::store_by_others;
 use crate::splits::{enter_split, split_value};
 use crate::starts::emit_starts;
-use crate::statements::mentions;
 use loop_ir::expressions::Counter;
 use loop_ir::statements::{LoopKind, Stmt, Store};
 use std::alloc::Global;
@@ -26,6 +25,7 @@ use task_code_names::names::store_by_names;
 use task_code_registers::scopes::Held;
 use task_code_runs::left::Left;
 use task_code_runs::runs::emit_run;
+use task_code_runs::terms::mentions;
 use task_code_scalar::CodeFault;
 use task_code_values::sites::Site;
 

@@ -96,7 +96,8 @@ module _ (scope : List Held) (around inside : List Counter) (counter own : Count
       (subst (λ w. IsFault (2 ^ 18 ≤ w + end_words begun) ⊥ fault) k e)
 
   pub collected-loop : (places : Places) (group : Group) (r s0 s1 : ℕ) (body : Stmt) (start : ℕ) (c2 c3 c4 c5 : List ℕ) → count ≡ 4 * registers group
-      → most ≡ 16 → start ≡ length c2 → s0 ≡ slot group 0 → s1 ≡ slot group 1 → HoldsVariable view own r → Emits c1 c2 (Vector (v.Vsetivli 0 0 (vtype_of group)) ∷ [])
+      → most ≡ 16 → start ≡ length c2 → s0 ≡ slot group 0 → s1 ≡ slot group 1 → HoldsVariable view own r
+      → Emits c1 c2 (Vector (v.Vsetivli 0 0 (vtype_of group)) ∷ [])
       → Collects c2 c3 places view inside group r body → EndsLoop c3 c4 begun (length c3 - start)
       → Emits c4 c5 (Vector (v.StoreElements Bits32 s0 0 (addressings.Indexed s1) true) ∷ [])
       → AppendsStatement c0 c5 places scope around (s.For counter (4 * registers group) kinds.Vectorized body)

@@ -1,6 +1,6 @@
 -- Vectorized loops that collect their pixels. Each iteration, in its turn, puts a pixel and its address into the lane with its number, and one instruction
--- behind the last one stores all lanes that are configured then: as many as iterations were made up to the last one that guards let pass. No value of a
--- split loop falls from an iteration to the next where guards let the next one pass, so those that guards forbid are the last ones.
+-- behind the last one stores all lanes that are configured then. An iteration that guards let pass configures the lanes up to its own; the
+-- others do nothing. They are the last ones: no value of a split loop falls from an iteration to the next where guards let the next one pass.
 -- This project's own.
 use Rattle.std.specs.Prelude.{◌≡◌, ◌≢◌, ◌<◌, ◌≤◌, ℕ, suc, ◌+◌, ◌*◌, ◌^◌, Bool, true, false, if◌then◌else◌, List, length, Option, Some, None}
 use Rattle.rv_insn.specs.declared.instructions.Insn.{Insn}
@@ -70,7 +70,7 @@ pub record PutIn (world : World) (memory : List ℕ) (insns : List Insn) (group 
   pub marks : Marks group i pixel address f after
   pub keeps : (q : ℕ) → q < 32 → q ≢ second_scratch → after q ≡ f q
 
--- six appended instructions, of the pixel in register s, of the iteration whose number register r holds
+-- at most six appended instructions do so with the pixel in register s, of the iteration whose number register r holds
 pub record PutsIntoLane (old new : List ℕ) (group : Group) (r s : ℕ) : Type 0 where
   pub insns : List Insn
   pub emits : Emits old new insns

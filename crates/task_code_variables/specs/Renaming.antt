@@ -22,7 +22,7 @@ use Rattle.task_code_values.specs.Variables.{are_held}
 abbrev pub numbered : ℕ → Counter
 numbered depth = record { func = 0; id = ids.Outer depth }
 
--- what stands for a variable, where a loop around has it, of which the innermost has the first of these
+-- What stands for a variable, where a loop around has it. These are the variables of the loops around, the innermost first.
 abbrev pub standing : List Counter → Counter → Option Counter
 standing [] counter = None
 standing (own ∷ outer) counter = if same_counter counter own then Some (numbered (length outer)) else standing outer counter

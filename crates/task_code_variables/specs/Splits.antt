@@ -30,7 +30,7 @@ pub record LeavesIn (world : World) (memory : List ℕ) (insns : List Insn) (f :
   pub value : after r ≡ v
   pub others : (q : ℕ) → q ≢ r → q ≢ scratch → q ≢ second_scratch → q ≢ address_register → after q ≡ f q
 
--- At most six appended instructions leave at most so much of a word.
+-- At most six appended instructions leave the lesser of a word and such a number, if there is one.
 pub record Bounds (old new : List ℕ) (last : Option ℕ) (r : ℕ) : Type 0 where
   pub insns : List Insn
   pub emits : Emits old new insns

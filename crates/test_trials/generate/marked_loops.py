@@ -8,6 +8,10 @@ Facts = namedtuple("Facts", "roots privates frames tasks greatest code", default
 
 FRAMES = 8 * 4096
 
+# What is counted are the places where lanes are configured: of a run in halves, each half and the whole, and of one whose distances are made in halves
+# its values too.
+IN_HALVES, DISTANCES_IN_HALVES = "3 of 1 vector code, 0 collected", "4 of 1 vector code, 0 collected"
+
 
 def layout(inputs, facts, width, height):
     """The lines `data` and `output`; the output's Func is the last one at root."""
@@ -48,6 +52,30 @@ def chosen(count, choice):
     for k in range(count):
         text = choice.format(k, text)
     return text
+
+
+def chosen_of_three(depth, leaf, first=0):
+    """Choices in all parts of choices, so many deep."""
+    if depth == 0:
+        return leaf(first)
+    return "select({}, {}, {})".format(*(chosen_of_three(depth - 1, leaf, 3 * first + part) for part in range(3)))
+
+
+def pixel_of(k):
+    """Reads of a row of 37 pixels that differ."""
+    return f"in(x+{k % 5})" if k % 3 else f"in(36-x-{k % 4})"
+
+
+def row_of(k):
+    """Reads of the pixels of an update by rows."""
+    return f"in(clamp(x-{k % 3},0,19),{'r' if k % 2 else k % 4})"
+
+
+def one_of_choices(parts, names, width, factor):
+    """A Func of one argument by vectors: choices of choices, as deep as there are names, of which each is a Func that isn't computed."""
+    funcs = [f"func {names[0]}(x) = select({parts})"]
+    funcs += [f"func {own}(x) = select({other}(x), {other}(x+1), {other}(x+2))" for other, own in zip(names, names[1:])]
+    return "\n".join(["input in 37", *funcs, f"output f {width}"]), row(factor)
 
 
 def nested(depth, text, operation="0+{}"):
@@ -166,4 +194,10 @@ CASES = [
     ("two stages by shift splits of shift splits of both arguments", "input in 21 13\nfunc g(x,y) = in(x,y) * 2\nfunc f(x,y) = g(x,y) - g(x+1,y+1)\noutput f 20 12",
      "g compute_root\ng split y yo yi 5 shift\ng split yo s t 2 shift\n" + row(8, "shift", "g") + "\nf split x xo xi 4 shift\nf split xo p q 2 shift\nf vectorize xi",
      Facts((273, 240), tasks=(1, 1))),
+    ("choices four deep in all parts, by sixteen", *one(chosen_of_three(4, pixel_of), 29, 16)[:2], Facts((29,), frames=True, greatest=1, code=IN_HALVES)),
+    ("choices four deep in all parts, in whole runs of sixteen", *one(chosen_of_three(4, pixel_of), 32, 16)[:2], Facts((32,), frames=True, greatest=1, code=IN_HALVES)),
+    ("choices five deep in all parts, by sixteen", *one_of_choices("in(x), in(x+1), in(x+2)", "abcdf", 23, 16), Facts((23,), frames=True, greatest=1, code=IN_HALVES)),
+    ("an update by vectors of sixteen whose rows are choices three deep in all parts",
+     *update_by_rows(f"clamp({chosen_of_three(3, row_of)},0,3)", f"h(x,0) * 3 + {chosen_of_three(2, row_of)} - x")[:2],
+     Facts((80,), frames=True, tasks=(1, 1), greatest=5, code=DISTANCES_IN_HALVES)),
 ]

@@ -50,7 +50,7 @@ IsSteady counter e = (reads : Reads) (values : Values) (i : ℕ) → value reads
 -- ---- scalar operands
 
 -- Appended code leaves a number in register s, from what registers hold in the first iteration. It keeps memory and all registers but
--- those of values and scratch ones.
+-- those of values, the scratch ones and the one where addresses are made.
 pub record MakesScalar (old new : List ℕ) (scope : List Held) (own : Lanes) (s : ℕ) (may : World → List ℕ → Reads → Values → Type 0)
     (says : ℕ → Reads → Values → ℕ) : Type 0 where
   pub insns : List Insn
@@ -159,11 +159,11 @@ AnyWord c = Unit {0}
 abbrev pub IsBy : Operation → ArithmeticVxOp → Type 0
 IsBy op own = (x c : ℕ) → x < 2 ^ 32 → c < 2 ^ 32 → arithmetic_vx own 32 x c ≡ word.applied op x c
 
--- so does a comparison
+-- a comparison does one, with a register as the second operand
 abbrev pub IsComparedBy : Operation → CompareVxOp → Type 0
 IsComparedBy op own = (x c : ℕ) → x < 2 ^ 32 → c < 2 ^ 32 → one_if (compare_vx own 32 x c) ≡ word.applied op x c
 
--- or as the first one
+-- an instruction does an operation on lanes with a register as the first operand
 abbrev pub IsTurnedBy : Operation → ArithmeticVxOp → Type 0
 IsTurnedBy op own = (x c : ℕ) → x < 2 ^ 32 → c < 2 ^ 32 → arithmetic_vx own 32 x c ≡ word.applied op c x
 

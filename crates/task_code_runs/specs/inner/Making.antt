@@ -1,29 +1,21 @@
 -- What parts of a run's code do. This project's own.
-use Rattle.std.specs.Prelude.{◌≡◌, ◌≢◌, ◌<◌, ◌≤◌, ℕ, ◌&&◌, Bool, true, List, [], ◌∷◌, length}
+use Rattle.std.specs.Prelude.{◌≡◌, ◌≢◌, ◌≤◌, ℕ, List, length}
 use Rattle.rv_insn.specs.declared.instructions.Insn.{Insn}
-use Rattle.halide_pipeline.specs.Pixel.{Planes}
 use Rattle.loop_ir.specs.declared.expressions.Counter.{Counter}
-use Rattle.loop_ir.specs.declared.statements.Stmt.{Stmt}
-use Rattle.loop_ir.specs.declared.statements.Store.{Store}
 use Rattle.loop_ir.specs.Counters.{Values, with}
-use Rattle.loop_ir.specs.Running.{run}
 use Rattle.multi_hart_logic.specs.Alone.{World}
 use Rattle.multi_hart_logic.specs.Paths.{Line}
-use Rattle.task_code_scalar.specs.declared.places.Places.{Places}
-use Rattle.task_code_scalar.specs.Doing.{Setting, IsSetting, HoldsFuncs, stored_points}
 use Rattle.task_code_scalar.specs.Words.{Emits}
 use Rattle.task_code_registers.specs.declared.scopes.Form.{Form}
 use Rattle.task_code_registers.specs.declared.scopes.Held.{Held}
-use Rattle.task_code_registers.specs.Doing.{Did}
-use Rattle.task_code_registers.specs.Registers.{scratch, second_scratch, address_register, first_value, may_hold, IsSource}
+use Rattle.task_code_registers.specs.Registers.{scratch, second_scratch, address_register, first_value, IsSource}
 use Rattle.task_code_registers.specs.Scopes.{Knows, AreHolders, IsKept, form_value}
 use Rattle.task_code_lanes.specs.declared.groups.Group.{Group}
 use Rattle.task_code_lanes.specs.declared.groups.Group.TheVariants as groups
 use Rattle.task_code_lanes.specs.Leaving.{HasLanes}
 use Rattle.task_code_lane_values.specs.declared.vectorized.Lanes.{Lanes}
-use Rattle.task_code_runs.specs.AtOnce.{MayRun}
 use Rattle.task_code_runs.specs.declared.left.Left.{Left}
-use Rattle.task_code_runs.specs.Runs.{StoresAs, least_left, left_by, run_of}
+use Rattle.task_code_runs.specs.Runs.{least_left, left_by}
 
 abbrev pub group_lanes : Group → ℕ
 group_lanes groups.One = 4
@@ -32,12 +24,13 @@ group_lanes groups.Four = 16
 
 -- ---- how many lanes
 
--- straight code that configures so many lanes; registers that the scope doesn't keep may change
+-- straight code that configures so many lanes and keeps what they hold; registers that the scope doesn't keep may change
 pub record Configured (world : World) (memory : List ℕ) (insns : List Insn) (scope : List Held) (f : ℕ → ℕ) (group : Group) (count : ℕ) : Type 0 where
   pub after : ℕ → ℕ
   pub line : Line world insns f memory after memory
   pub has : HasLanes group count after
   pub keeps : (q : ℕ) → IsKept scope q → after q ≡ f q
+  pub lanes_stay : (q : ℕ) → 34 ≤ q → after q ≡ f q
 
 -- appended code does so, from what registers hold in the first iteration
 pub record Configures (old new : List ℕ) (scope : List Held) (own : Lanes) (count : Values → ℕ) : Type 0 where
@@ -48,7 +41,7 @@ pub record Configures (old new : List ℕ) (scope : List Held) (own : Lanes) (co
 
 -- ---- where lanes begin
 
--- straight code behind which a register points at v
+-- straight code behind which a register holds v, an address or a number
 pub record Points (world : World) (memory : List ℕ) (insns : List Insn) (f : ℕ → ℕ) (b v : ℕ) : Type 0 where
   pub after : ℕ → ℕ
   pub line : Line world insns f memory after memory
@@ -88,16 +81,3 @@ pub record MakesLeast (old new : List ℕ) (scope : List Held) (counter : Counte
   pub emits : Emits old new insns
   pub does : (world : World) (memory : List ℕ) (values : Values) (f : ℕ → ℕ) → length memory ≡ world.size → AreHolders scope
       → Knows world.hart scope (with counter 0 values) f → Least world memory insns f (least_left counter first others values)
-
--- ---- values and a store
-
--- Appended code does what a vectorized loop does, with as many lanes as iterations store.
-pub record StoresLanes (old new : List ℕ) (places : Places) (scope : List Held) (own : Lanes) (store : Store) : Type 0 where
-  pub insns : List Insn
-  pub emits : Emits old new insns
-  pub does : (setting : Setting) → IsSetting setting → setting.places ≡ places → (values named : Values) (body : Stmt) (count : ℕ) → AreHolders scope
-      → StoresAs own body store values named count → MayRun setting (run_of own body) values
-      → (f : ℕ → ℕ) (memory : List ℕ) (funcs : Planes) → HoldsFuncs setting memory funcs → Knows setting.world.hart scope (with own.counter 0 named) f
-      → HasLanes own.group count f
-      → Did setting insns (length insns) f memory (IsKept scope) (run setting.points setting.inputs (run_of own body) values funcs)
-      (stored_points setting (run_of own body) values funcs)

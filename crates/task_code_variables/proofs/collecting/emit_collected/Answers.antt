@@ -55,5 +55,6 @@ returns-clause-ok c =
     c.depth.result _ c.in_ok-begun.begun c.as_slice.result.now _ _ c.requires.holds c.numbered-number.ensures c.in_ok-begun.ensures.ok
     (c.in_ok-begun.ensures.plain refl) c.as_slice.ensures.value (c.as_slice-2.ensures.value ∙ c.in_ok-inner.ensures) c.args.site.now.places.now
     c.args.own.now.group c.register_of-r.result c.slot.result c.slot-2.result c.args.own.now.body.now c.len-start.result _ _ _ _ c.lanes.ensures
-    (omega arith) (c.len-start.ensures ∙ c.configure_none.new.code.ok.0) c.slot.ensures.0 c.slot-2.ensures.0 c.register_of-r.ensures c.in_ok-configure_none.ensures
+    (omega arith) (c.len-start.ensures ∙ c.configure_none.new.code.ok.0)
+    c.slot.ensures.0 c.slot-2.ensures.0 c.register_of-r.ensures c.in_ok-configure_none.ensures
     c.in_ok-collect_pixel.ensures.ok c.in_ok-end_loop.ensures.ok c.in_ok-store_at.ensures
