@@ -386,6 +386,36 @@ fn staying(alloc: Global, bounds: &[Bound], body: &Stmt) -> Result<Vec<Expr>, Al
     Ok(found)
 }
 
+/// Whether some part of an expression, which is more than a sum, loads nothing.
+fn has_still(e: &Expr) -> bool {
+    if has_parts(e) && is_still(e) {
+        return true;
+    }
+    match e {
+        Expr::Number(_) => false,
+        Expr::Linear(_) => false,
+        Expr::Binary(_, a, b) => has_still(a.get()) || has_still(b.get()),
+        Expr::Divide(a, _) => has_still(a.get()),
+        Expr::Remainder(a, _) => has_still(a.get()),
+        Expr::Select(c, a, b) => {
+            has_still(c.get()) || (has_still(a.get()) || has_still(b.get()))
+        }
+        Expr::Load(_, x, y) => has_still(x.get()) || has_still(y.get()),
+    }
+}
+
+/// Whether some part of a statement's stores does.
+fn may_stay(statement: &Stmt) -> bool {
+    match statement {
+        Stmt::Store(store) => {
+            has_still(&store.x) || (has_still(&store.y) || has_still(&store.value))
+        }
+        Stmt::Sequence(first, second) => may_stay(first.get()) || may_stay(second.get()),
+        Stmt::For(_, _, _, body) => may_stay(body.get()),
+        Stmt::Bind(_, _, _, body) => may_stay(body.get()),
+    }
+}
+
 /// The largest parts of a loop's body that stay the same in all iterations of this loop and those inside.
 ///
 /// # Errors
@@ -398,6 +428,9 @@ pub fn staying_in(
     own: Bound,
     body: &Stmt,
 ) -> Result<Vec<Expr>, CodeFault> {
+    if !may_stay(body) {
+        return Ok(Vec::new(alloc));
+    }
     let mut named = Vec::new(alloc);
     let inner = in_loop(alloc, context, own)?;
     let made = ready_part(alloc, places, &inner, true, body, &mut named)?;

@@ -18,6 +18,9 @@ pub fn sum_by_others(alloc: Global, own: &Linear, known: &[Known]) -> Result<Lin
     ensures { IfOk result (IsSameSum known.now own.now) }
 {
     let sum = own.copy(alloc)?;
+    if known.len() == 0 {
+        return Ok(sum);
+    }
     let form = Form { sum, per_hart: 0 };
     let made = by_others(alloc, &form, known)?;
     Ok(made.sum)

@@ -61,6 +61,9 @@ pub(crate) fn made_store(
     let unclamped = unclamped_store(alloc, places, context.bounds.as_slice(), &made);
     drop(made);
     let plain = unclamped?;
+    if context.names.len() == 0 {
+        return Ok(plain);
+    }
     let renamed = store_by_names(alloc, context.names.as_slice(), &plain);
     drop(plain);
     let named = renamed?;

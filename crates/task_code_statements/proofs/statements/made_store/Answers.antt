@@ -1,4 +1,4 @@
-use Rattle.task_code_statements.proofs.Unclamping.{made-is}
+use Rattle.task_code_statements.proofs.Unclamping.{made-is, unnamed-is}
 use Rattle.task_code_statements.proofs.statements.made_store.Goals as goal
 
 pub returns : goal.returns
@@ -6,3 +6,8 @@ returns c =
     made-is c.args.places.now c.args.context.now c.as_slice.result.now c.as_slice-2.result.now c.as_slice-3.result.now c.args.store.now c.in_ok-made.made
     c.in_ok-plain.plain c.in_ok-named.named c.as_slice.ensures.value c.as_slice-2.ensures.value c.as_slice-3.ensures.value c.in_ok-made.ensures
     c.in_ok-plain.ensures c.in_ok-named.ensures
+
+pub returns-then-len-eq0 : goal.returns-then-len-eq0
+returns-then-len-eq0 c =
+    unnamed-is c.args.places.now c.args.context.now c.as_slice.result.now c.as_slice-2.result.now c.args.store.now c.in_ok-made.made c.in_ok-plain.plain
+    c.as_slice.ensures.value c.as_slice-2.ensures.value c.in_ok-made.ensures c.in_ok-plain.ensures
