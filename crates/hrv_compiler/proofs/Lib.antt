@@ -1,5 +1,6 @@
 pub mod DataBytes
 pub mod Images
+pub mod Padding
 pub mod Low
 pub mod Nonempty
 pub mod OutputBox

@@ -1,6 +1,7 @@
 //! The data of an image.
 
-ghost use Rattle.std.specs.Prelude.{◌≡◌, ◌≤◌, ◌+◌, ◌*◌, ◌++◌, true, IfOk, None, OnOk, length, map, nat_lt};
+ghost use Rattle.std.specs.Prelude.{◌≡◌, ◌≤◌, ◌+◌, ◌*◌, ◌++◌, true, IfOk, None, OnOk};
+ghost use Rattle.std.specs.Prelude.{length, map, min, nat_lt, replicate};
 ghost use Rattle.std.specs.List.{list_all};
 ghost use Rattle.halide_pipeline.specs.Picture.{IsPicture};
 ghost use Rattle.bounds.specs.Layout as layouts;
@@ -15,10 +16,14 @@ use halide_pipeline::Input;
 use picture::Picture;
 use std::alloc::{AllocError, Global};
 
+/// How many bytes a pixel takes that is no byte.
+const WORD_LEN: usize = 4;
+
 /// Appends the bytes of pixels, four a pixel.
 fn push_words(bytes: &mut Vec<u8>, pixels: &[u32]) -> Result<(), AllocError>
     ensures { OnOk result (bytes.new.items ≡ bytes.old.items ++ spec.word_bytes pixels.now) }
 {
+    bytes.reserve(pixels.len().saturating_mul(WORD_LEN))?;
     for pixel in pixels {
         bytes.extend_from_slice(&pixel.to_le_bytes())?;
     }
@@ -30,6 +35,7 @@ fn push_bytes(bytes: &mut Vec<u8>, pixels: &[u32]) -> Result<(), AllocError>
     requires { list_all (λ pixel. nat_lt pixel 256) pixels.now ≡ true }
     ensures { OnOk result (bytes.new.items ≡ bytes.old.items ++ pixels.now) }
 {
+    bytes.reserve(pixels.len())?;
     for pixel in pixels {
         bytes.push(*pixel as u8)?;
     }
@@ -76,12 +82,22 @@ fn push_inputs(
     Ok(())
 }
 
+/// So many zeros, or as many as are appended at once.
+fn zeros(count: usize) -> &'static [u8]
+    ensures { result.now ≡ replicate (min count 4096) 0 }
+{
+    const ZEROS: &[u8] = &[0; 4096];
+    &ZEROS[..count.min(ZEROS.len())]
+}
+
 /// Puts zeros behind bytes, up to so many.
 fn pad(bytes: &mut Vec<u8>, size: usize) -> Result<(), AllocError>
     requires { length bytes.old.items ≤ size }
     ensures { OnOk result (bytes.new.items ≡ padded size bytes.old.items) }
 {
-    bytes.resize(size, 0)?;
+    while bytes.len() < size {
+        bytes.extend_from_slice(zeros(size - bytes.len()))?;
+    }
     Ok(())
 }
 

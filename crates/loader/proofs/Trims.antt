@@ -131,12 +131,11 @@ pub zero_passed : (bytes : List ℕ) (count : ℕ) → count < length bytes → 
 zero_passed bytes count lt is_zero =
     ap trimmed (take_more bytes count 0 lt) ∙ ap (λ (byte : ℕ). trimmed (take count bytes ++ byte ∷ [])) is_zero ∙ trimmed_more (take count bytes)
 
--- the same, counted from behind the zero
-pub zero_before : (bytes : List ℕ) (count : ℕ) → 0 < count → count ≤ length bytes → get_or bytes (count - 1) 0 ≡ 0
-    → trimmed (take (count - 1) bytes) ≡ trimmed (take count bytes)
-zero_before bytes count some within is =
-    let next : count - 1 + 1 ≡ count = omega arith in
-    sym (zero_passed bytes (count - 1) (omega arith) is) ∙ ap (λ (n : ℕ). trimmed (take n bytes)) next
+-- the same, between two places by their numbers
+pub zero_stepped : (bytes : List ℕ) (count next : ℕ) → next ≡ count + 1 → next ≤ length bytes → get_or bytes count 0 ≡ 0
+    → trimmed (take count bytes) ≡ trimmed (take next bytes)
+zero_stepped bytes count next e within is =
+    sym (zero_passed bytes count (omega (arith, e, within)) is) ∙ ap (λ (n : ℕ). trimmed (take n bytes)) (sym e)
 
 -- another byte is the last one that is kept
 pub other_kept : (bytes : List ℕ) (count : ℕ) → count < length bytes → (get_or bytes count 0 ≡ 0 → ⊥)

@@ -75,11 +75,22 @@ fn trimmed(bytes: &[u8]) -> &[u8]
     ensures value { result.now ≡ trimmed bytes.now }
     ensures len { length result.now ≤ length bytes.now }
 {
-    let mut count = bytes.len();
-    while count > 0 && bytes[count - 1] == 0 {
-        count -= 1;
+    let mut kept = bytes;
+    // Four at a time, since data often ends in many zeros.
+    while let [front @ .., first, second, third, fourth] = kept
+        && *first == 0
+        && *second == 0
+        && *third == 0
+        && *fourth == 0
+    {
+        kept = front;
     }
-    &bytes[..count]
+    while let [front @ .., last] = kept
+        && *last == 0
+    {
+        kept = front;
+    }
+    kept
 }
 
 /// Appends an image's bytes, in the second format. Refused, with what `out` held unchanged, only where it has no room

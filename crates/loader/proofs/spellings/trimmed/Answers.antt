@@ -1,24 +1,37 @@
-use Rattle.std.proofs.Common.{◌≡◌, arith, rules, sym, ◌∙◌, take}
+use Rattle.std.proofs.Common.{◌-◌, arith, sym, ap, ◌∙◌, take_all, length}
+use Rattle.std.proofs.lemmas.List.{length-take-le}
 use Rattle.loader.specs.Spelling.{trimmed}
-use Rattle.loader.proofs.Trims.{zero_before, other_before}
+use Rattle.loader.proofs.Trims.{zero_stepped, other_before}
 use Rattle.loader.proofs.spellings.trimmed.Goals as goal
-use Rattle.loader.proofs.spellings.trimmed.Goals.{then-loop-count-test+else-bytes-count-eq0, else-loop-count-test}
 
-pub loop-count-preserved : goal.loop-count-preserved
-loop-count-preserved c = record {
-  within = omega (arith, c.loop-count.invariant.within);
-  same = zero_before c.args.bytes.now c.loop-count.count (omega (arith, c.loop-count-test.true)) c.loop-count.invariant.within (search rules)
-      ∙ c.loop-count.invariant.same;
-}
+pub loop-kept-preserved : goal.loop-kept-preserved
+loop-kept-preserved c =
+    let kept = c.loop-kept.kept.now in
+    let n = length kept in
+    let four = c.in-len4-up.len_at_least in
+    record {
+      within = omega (arith, length-take-le (n - 4) kept (omega arith), c.loop-kept.invariant.within);
+      same = zero_stepped kept (n - 4) (n - 3) (omega (arith, four)) (omega arith) c.if-first-eq0.true
+          ∙ (zero_stepped kept (n - 3) (n - 2) (omega (arith, four)) (omega arith) c.if-second-eq0.true
+          ∙ (zero_stepped kept (n - 2) (n - 1) (omega (arith, four)) (omega arith) c.if-third-eq0.true
+          ∙ (zero_stepped kept (n - 1) n (omega (arith, four)) (omega arith) c.if-fourth-eq0.true
+          ∙ (ap trimmed (take_all n kept (omega arith)) ∙ c.loop-kept.invariant.same))));
+    }
 
-pub returns-clause-value : goal.returns-clause-value
-returns-clause-value c =
-    elim c.loop-count-test.branch [
-      | then-loop-count-test+else-bytes-count-eq0 w ↦
-          sym (other_before c.args.bytes.now c.loop-count.count (omega (arith, w.loop-count-test.true)) c.loop-count.invariant.within
-          (λ is. w.if-bytes-count-eq0.false (search rules))) ∙ c.loop-count.invariant.same
-      | else-loop-count-test w ↦
-          let none : c.loop-count.count ≡ 0 = omega (arith, w.loop-count-test.false) in
-          let e : trimmed (take 0 c.args.bytes.now) ≡ trimmed c.args.bytes.now = rw none at c.loop-count.invariant.same in
-          rw none e
-    ]
+pub loop-kept-2-preserved : goal.loop-kept-2-preserved
+loop-kept-2-preserved c =
+    let kept = c.loop-kept-2.kept.now in
+    let n = length kept in
+    record {
+      within = omega (arith, length-take-le (n - 1) kept (omega arith), c.loop-kept-2.invariant.within);
+      same = zero_stepped kept (n - 1) n (omega (arith, c.in-len1-up.len_at_least)) (omega arith) c.if-last-eq0.true
+          ∙ (ap trimmed (take_all n kept (omega arith)) ∙ c.loop-kept-2.invariant.same);
+    }
+
+pub returns-else-last-eq0-clause-value : goal.returns-else-last-eq0-clause-value
+returns-else-last-eq0-clause-value c =
+    let kept = c.loop-kept-2.kept.now in
+    let n = length kept in
+    let whole = take_all n kept (omega arith) in
+    sym whole ∙ (sym (other_before kept n (omega (arith, c.in-len1-up.len_at_least)) (omega arith) c.if-last-eq0.false)
+    ∙ (ap trimmed whole ∙ c.loop-kept-2.invariant.same))

@@ -1,13 +1,22 @@
-use Rattle.std.proofs.Common.{◌≡◌, ◌≤◌, take, length}
+use Rattle.std.proofs.Common.{◌≡◌, ◌≤◌, length}
 use Rattle.loader.specs.Spelling.{trimmed}
 use Rattle.loader.proofs.spellings.trimmed.Given as goal
 
 -- behind the first ones there are zeros
-abbrev pub invariant-loop-count : goal.invariant-loop-count
-invariant-loop-count l = record {
-  within : l.count ≤ length l.bytes;
-  same : trimmed (take l.count l.bytes) ≡ trimmed l.bytes;
+abbrev pub invariant-loop-kept : goal.invariant-loop-kept
+invariant-loop-kept l = record {
+  within : length l.kept ≤ length l.bytes;
+  same : trimmed l.kept ≡ trimmed l.bytes;
 }
 
-abbrev pub decreases-loop-count : goal.decreases-loop-count
-decreases-loop-count l = l.count
+abbrev pub decreases-loop-kept : goal.decreases-loop-kept
+decreases-loop-kept l = length l.kept
+
+abbrev pub invariant-loop-kept-2 : goal.invariant-loop-kept-2
+invariant-loop-kept-2 l = record {
+  within : length l.kept ≤ length l.bytes;
+  same : trimmed l.kept ≡ trimmed l.bytes;
+}
+
+abbrev pub decreases-loop-kept-2 : goal.decreases-loop-kept-2
+decreases-loop-kept-2 l = length l.kept
