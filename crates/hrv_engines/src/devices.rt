@@ -182,7 +182,18 @@ pub fn read_text_front<S: Source>(
 }
 
 /// Bytes as a text, or the longest front of them that is one, if that has more than so many.
-fn front_text(mut bytes: Vec<u8>, most: usize) -> Option<String>
+fn front_text(bytes: Vec<u8>, most: usize) -> Option<String>
+    ensures some { IfSome result (λ text. IsFrontText most bytes.items (string_bytes text)) }
+    ensures none { IfNone result (HasNoFrontText most bytes.items) }
+{
+    match String::from_utf8(bytes) {
+        Ok(text) => Some(text),
+        Err(error) => longest_text(error.into_bytes(), most),
+    }
+}
+
+/// The longest front of bytes that is a text, if that has more than so many or is all of them.
+fn longest_text(mut bytes: Vec<u8>, most: usize) -> Option<String>
     ensures some { IfSome result (λ text. IsFrontText most bytes.items (string_bytes text)) }
     ensures none { IfNone result (HasNoFrontText most bytes.items) }
 {
@@ -208,7 +219,7 @@ fn valid_len(bytes: &[u8]) -> usize
 }
 
 /// How many bytes are read at a time.
-pub const CHUNK: usize = 65_536;
+pub const CHUNK: usize = 16_384;
 
 /// How many bytes an image that loads has at most: those of the longer header, of all words and of all data.
 pub const MOST_IMAGE_BYTES: usize = 36 + 4 * MOST_WORDS + MOST_BYTES;

@@ -9,5 +9,5 @@ invariant-pieces g l = record {
   lines_well : g.C.Source.failed l.lines ≡ g.C.Source.failed l.fn.lines;
   out_well : g.O.Sink.failed l.out ≡ g.O.Sink.failed l.fn.out;
   out_path : g.O.Sink.place l.out ≡ g.O.Sink.place l.fn.out;
-  room : length l.buffer ≡ 65536;
+  room : length l.buffer ≡ 16384;
 }

@@ -6,7 +6,7 @@ invariant-loop-buffer g l = record {
   given : g.S.Source.gave l.fn.source l.all.items l.source;
   well : g.S.Source.failed l.source ≡ g.S.Source.failed l.fn.source;
   path : g.S.Source.place l.source ≡ g.S.Source.place l.fn.source;
-  room : length l.buffer ≡ 65536;
+  room : length l.buffer ≡ 16384;
   few : length l.all.items ≤ l.fn.most + 65536;
 }
 
