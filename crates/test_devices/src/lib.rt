@@ -1,5 +1,18 @@
 //! Devices in memory, for tests: a [`Tape`] that is read from and a [`Page`] that is written to. Each gives or takes a
-//! few bytes at a time, and fails where a test wants it. Tests read images and texts that are too long.
+//! few bytes at a time, and fails where a test wants it.
+//!
+//! Tests over them read images and texts that are too long, and run commands with all memory taken but a little:
+//!
+//! - [`exhaustion`]: all memory that the system gives a process.
+//! - [`commands`]: commands, each with its files.
+//! - [`want_of_memory`]: what each of them answers with nothing left, and with more and more.
+//!
+//! There an allocation is refused that takes memory to a new peak of its command;
+//! [bench/fail_each_allocation](../../../bench/fail_each_allocation) refuses each single one, on many more rows.
+//!
+//! The allocator of `rt try` has memory of its own for each size, so that not all can be taken: there that test fails,
+//! and says so. A system that promises no more memory than it has (`vm.overcommit_memory=2`) refuses other programs
+//! memory too while the test runs.
 #![tactic(auto)]
 
 ghost use Rattle.std.specs.Prelude.{◌≡◌, ◌≤◌, ◌<◌, ◌++◌, [], length, IfOk};
@@ -8,8 +21,14 @@ use hrv_engines::{Fault, Sink, Source};
 use std::alloc::{AllocError, Global};
 use std::io;
 
+#[cfg(test)]
+mod commands;
+#[cfg(test)]
+mod exhaustion;
 mod long_images;
 mod long_texts;
+#[cfg(test)]
+mod want_of_memory;
 
 /// Bytes that are read a few at a time. The read of a number fails, where there is one.
 #[derive(Drop)]

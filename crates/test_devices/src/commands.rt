@@ -2,6 +2,7 @@
 
 ghost use Rattle.std.specs.Prelude.{◌≡◌};
 
+use crate::{Page, Tape, empty_page, tape_of};
 use hrv_engines::{
     Fault, Question, Resources, asm_bytes, blame_bytes, compile_bytes, debug_bytes,
     dis_addresses_bytes, dis_bytes, map_bytes, picture_bytes, renew_bytes, replay_bytes,
@@ -10,7 +11,6 @@ use hrv_engines::{
 use std::alloc::{AllocError, Global};
 use std::sync::Wait;
 use std::thread::Threads;
-use test_devices::{Page, Tape, empty_page, tape_of};
 
 /// A source of two words of text and one of data.
 const SOURCE: &[u8] = b"start: li x5,-1\nbeq x5,x0,start\n.data\n.word 7\n";

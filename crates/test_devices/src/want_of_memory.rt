@@ -14,6 +14,10 @@ const MOST_TRIES: u32 = 1_000;
 /// Each time one block more is given back than the last time, and one more for each so many that were given back then.
 const GROWTH: usize = 32;
 
+/// How many calls further down the stack a command is run than where memory is refused. A stack grows only where memory
+/// is left; what it has grown by then is below all that a refused command needs.
+const CALLS_BELOW: u32 = 64;
+
 /// How a command ended.
 #[derive(Clone, Copy, PartialEq, Eq, Debug)]
 enum End {
@@ -60,6 +64,23 @@ impl Trial {
     ) -> End {
         let answered = files.answer(resources, self.command, &mut self.written);
         self.end_of(answered)
+    }
+
+    /// Runs the command at each of so many calls down the stack, the lowest first, until it answers otherwise than with
+    /// ample memory.
+    fn run_below<R: Threads + Wait + Sync>(
+        &mut self,
+        resources: &Resources<'_, R>,
+        files: &Files,
+        calls: u32,
+    ) -> End {
+        if calls > 0 {
+            let below = self.run_below(resources, files, calls - 1);
+            if below != End::Own {
+                return below;
+            }
+        }
+        self.run(resources, files)
     }
 
     /// How the command ended, by its answer and what it wrote.
@@ -121,6 +142,10 @@ fn want_of_memory_is_answered_by_commands(rt: HostRuntime) -> Result<(), Fail> {
     let mut memory = Exhaustion::new(rt.alloc())?;
     for command in COMMANDS {
         let mut trial = Trial::new(&resources, &files, command)?;
+        assert!(rt;
+            trial.run_below(&resources, &files, CALLS_BELOW) == End::Own,
+            "{command:?} answers otherwise once more"
+        );
         let refusals = trial.refusals(&resources, &files, &mut memory);
         assert!(rt; refusals > 0, "{command:?} wants no memory");
         memory.give_back_all();
