@@ -5,8 +5,11 @@
 //! - [`vectors`]: a vector state that is set and read.
 //! - [`logs`]: logs that are made turn by turn, and looked up.
 //! - [`sessions`]: the debugger over 2 ^ 40 turns, and back to places that it keeps.
+//! - [`comparing`]: values compared.
 #![tactic(auto)]
 
+#[cfg(test)]
+mod comparing;
 #[cfg(test)]
 mod logs;
 #[cfg(test)]

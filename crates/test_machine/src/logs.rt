@@ -1,5 +1,6 @@
 //! Logs that are made turn by turn, and looked up.
 
+use crate::comparing::same;
 use std::test::Fail;
 use turn_log::TurnLog;
 
@@ -25,22 +26,22 @@ fn runs_pushed(rt: HostRuntime) -> Result<(), Fail> {
         assert!(rt; log.count_of(hart) < 10);
         log.push(hart)?;
     }
-    assert_eq!(rt; log.len(), 11);
-    assert_eq!(rt; log.count_of(1), 5);
+    same(&rt, &log.len(), &11);
+    same(&rt, &log.count_of(1), &5);
     let mut out = Vec::new(rt.alloc());
     log.write(&mut out)?;
-    assert_eq!(rt; out.as_slice(), EXAMPLE.as_slice());
+    same(&rt, &out.as_slice(), &EXAMPLE.as_slice());
     Ok(())
 }
 
 #[test]
 fn looked_up(rt: HostRuntime) -> Result<(), Fail> {
     let log = TurnLog::read(rt.alloc(), &EXAMPLE)?;
-    assert_eq!(rt; log.turn_at(4), Some(0));
-    assert_eq!(rt; log.turn_at(5), Some(1));
-    assert_eq!(rt; log.turn_at(11), None);
-    assert_eq!(rt; log.run_at(1), Some((0, 4)));
-    assert_eq!(rt; log.run_at(10), Some((0, 1)));
+    same(&rt, &log.turn_at(4), &Some(0));
+    same(&rt, &log.turn_at(5), &Some(1));
+    same(&rt, &log.turn_at(11), &None);
+    same(&rt, &log.run_at(1), &Some((0, 4)));
+    same(&rt, &log.run_at(10), &Some((0, 1)));
     Ok(())
 }
 
@@ -52,14 +53,14 @@ fn longest_run(rt: HostRuntime) -> Result<(), Fail> {
         0x48, 0x52, 0x4c, 0x31, 1, 0, 0, 0, 1, 0, 0, 0, 0, 0, 0, 0, 0, 0, 0, 0, 0, 0, 1, 0, 0,
     ];
     let log = TurnLog::read(rt.alloc(), &bytes)?;
-    assert_eq!(rt; log.len(), most);
-    assert_eq!(rt; log.count_of(0), most);
-    assert_eq!(rt; log.turn_at(0), Some(0));
-    assert_eq!(rt; log.turn_at(most - 1), Some(0));
-    assert_eq!(rt; log.turn_at(most), None);
-    assert_eq!(rt; log.run_at(most / 2), Some((0, most / 2)));
+    same(&rt, &log.len(), &most);
+    same(&rt, &log.count_of(0), &most);
+    same(&rt, &log.turn_at(0), &Some(0));
+    same(&rt, &log.turn_at(most - 1), &Some(0));
+    same(&rt, &log.turn_at(most), &None);
+    same(&rt, &log.run_at(most / 2), &Some((0, most / 2)));
     let mut out = Vec::new(rt.alloc());
     log.write(&mut out)?;
-    assert_eq!(rt; out.as_slice(), bytes.as_slice());
+    same(&rt, &out.as_slice(), &bytes.as_slice());
     Ok(())
 }

@@ -2,6 +2,7 @@
 
 ghost use Rattle.std.specs.Prelude.{◌≡◌, ◌<◌, ◌≤◌, IfOk, length};
 
+use crate::comparing::same;
 use multi_hart::{Machine, UnknownHart};
 use rv_insn::Outcome;
 use std::alloc::{AllocError, Global};
@@ -28,10 +29,10 @@ fn turns_of_first(machine: &mut Machine, turns: u64) -> Outcome
 #[test]
 fn turns_of_one_hart(rt: HostRuntime) -> Result<(), Fail> {
     let mut machine = counter(rt.alloc())?;
-    assert_eq!(rt; turns_of_first(&mut machine, 3), Outcome::Stepped);
-    assert_eq!(rt; turns_of_first(&mut machine, 1), Outcome::Finished);
-    assert_eq!(rt; turns_of_first(&mut machine, 1 << 40), Outcome::Idle);
-    assert_eq!(rt; machine.word(0x0020_0000), Some(1));
+    same(&rt, &turns_of_first(&mut machine, 3), &Outcome::Stepped);
+    same(&rt, &turns_of_first(&mut machine, 1), &Outcome::Finished);
+    same(&rt, &turns_of_first(&mut machine, 1 << 40), &Outcome::Idle);
+    same(&rt, &machine.word(0x0020_0000), &Some(1));
     Ok(())
 }
 
@@ -39,13 +40,14 @@ fn turns_of_one_hart(rt: HostRuntime) -> Result<(), Fail> {
 #[test]
 fn turns_of_a_list(rt: HostRuntime) -> Result<(), Fail> {
     let mut machine = counter(rt.alloc())?;
-    assert_eq!(rt;
-        machine.run(&[0, 1, 0, 0, 1, 1, 1, 2, 0]),
-        Err(UnknownHart { at: 7 })
+    same(
+        &rt,
+        &machine.run(&[0, 1, 0, 0, 1, 1, 1, 2, 0]),
+        &Err(UnknownHart { at: 7 }),
     );
-    assert_eq!(rt; machine.word(0x0020_0000), Some(2));
+    same(&rt, &machine.word(0x0020_0000), &Some(2));
     assert!(rt; !machine.is_finished());
-    assert_eq!(rt; machine.run(&[0]), Ok(()));
+    same(&rt, &machine.run(&[0]), &Ok(()));
     assert!(rt; machine.is_finished());
     Ok(())
 }

@@ -2,6 +2,7 @@
 
 ghost use Rattle.std.specs.Prelude.{◌≤◌, length};
 
+use crate::comparing::same;
 use hart_core::Hart;
 use memory::{Bytes, Memory};
 use rv_insn::{AluImmOp, Imm12, Insn, Outcome, Reg, Trap};
@@ -71,13 +72,13 @@ fn text_alone_is_a_memory(rt: HostRuntime) -> Result<(), Fail> {
     for (word, trap) in cases {
         let mut memory = text_alone(&rt, &[0x0020_02b7, word])?; // lui x5,0x200
         let mut hart = Hart::new(0x0001_0000, 1, 0);
-        assert_eq!(rt; hart.step(&mut memory), Outcome::Stepped);
+        same(&rt, &hart.step(&mut memory), &Outcome::Stepped);
         assert_eq!(rt;
             hart.step(&mut memory),
             Outcome::Trapped(trap),
             "{word:08x}"
         );
-        assert_eq!(rt; register(&rt, &hart, 5), 0x0020_0000);
+        same(&rt, &register(&rt, &hart, 5), &0x0020_0000);
     }
     Ok(())
 }
@@ -87,9 +88,9 @@ fn text_alone_is_a_memory(rt: HostRuntime) -> Result<(), Fail> {
 fn text_can_be_loaded(rt: HostRuntime) -> Result<(), Fail> {
     let mut memory = text_alone(&rt, &[0x0001_02b7, 0x0002_a303])?;
     let mut hart = Hart::new(0x0001_0000, 1, 0);
-    assert_eq!(rt; hart.step(&mut memory), Outcome::Stepped);
-    assert_eq!(rt; hart.step(&mut memory), Outcome::Stepped);
-    assert_eq!(rt; register(&rt, &hart, 6), 0x0001_02b7);
+    same(&rt, &hart.step(&mut memory), &Outcome::Stepped);
+    same(&rt, &hart.step(&mut memory), &Outcome::Stepped);
+    same(&rt, &register(&rt, &hart, 6), &0x0001_02b7);
     Ok(())
 }
 
@@ -105,13 +106,14 @@ fn an_instruction_is_given(rt: HostRuntime) -> Result<(), Fail> {
         rs1: Reg::new(0).expect(&rt, "a register"),
         imm: Imm12::new(1).expect(&rt, "an immediate"),
     };
-    assert_eq!(rt;
-        hart.step_with(&mut memory, Some(one_more)),
-        Outcome::Stepped
+    same(
+        &rt,
+        &hart.step_with(&mut memory, Some(one_more)),
+        &Outcome::Stepped,
     );
-    assert_eq!(rt; register(&rt, &hart, 5), 1);
+    same(&rt, &register(&rt, &hart, 5), &1);
     let illegal = Outcome::Trapped(Trap::IllegalInstruction);
-    assert_eq!(rt; hart.step_with(&mut memory, None), illegal);
-    assert_eq!(rt; hart.step_with(&mut memory, None), Outcome::Idle);
+    same(&rt, &hart.step_with(&mut memory, None), &illegal);
+    same(&rt, &hart.step_with(&mut memory, None), &Outcome::Idle);
     Ok(())
 }

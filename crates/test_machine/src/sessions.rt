@@ -1,5 +1,6 @@
 //! The debugger over 2 ^ 40 turns, and back to places that it keeps.
 
+use crate::comparing::same;
 use debugger::{Refusal, Session};
 use loader::read_image;
 use rv_insn::Reg;
@@ -33,19 +34,19 @@ fn opened(alloc: Global, image: &[u8], log: &[u8]) -> Result<Session, Fail> {
 /// From the end the stop before it is the last idle turn, and behind that there is none.
 fn check_last_stop<R: Abort>(rt: &R, alloc: Global, session: &mut Session) {
     let all = session.length();
-    assert_eq!(rt; session.set_break(0x0001_000c), Ok(()));
-    assert_eq!(rt; session.goto(alloc, all), Ok(()));
-    assert_eq!(rt; session.reverse(alloc), Ok(()));
-    assert_eq!(rt; session.place(), (1 << 40) - 1);
-    assert_eq!(rt; session.forward(alloc), Err(Refusal::NoStop));
+    same(rt, &session.set_break(0x0001_000c), &Ok(()));
+    same(rt, &session.goto(alloc, all), &Ok(()));
+    same(rt, &session.reverse(alloc), &Ok(()));
+    same(rt, &session.place(), &((1 << 40) - 1));
+    same(rt, &session.forward(alloc), &Err(Refusal::NoStop));
 }
 
 /// From the start the stops are the hart's last instruction, and then each idle turn.
 fn check_first_stops<R: Abort>(rt: &R, alloc: Global, session: &mut Session) {
-    assert_eq!(rt; session.goto(alloc, 0), Ok(()));
+    same(rt, &session.goto(alloc, 0), &Ok(()));
     for place in 3..6 {
-        assert_eq!(rt; session.forward(alloc), Ok(()));
-        assert_eq!(rt; session.place(), place);
+        same(rt, &session.forward(alloc), &Ok(()));
+        same(rt, &session.place(), &place);
     }
 }
 
@@ -83,8 +84,8 @@ const LONG: [u8; 25] = [
 
 /// A session stands at a place, and has made so many steps.
 fn check_at<R: Abort>(rt: &R, session: &Session, place: u64, steps: u64) {
-    assert_eq!(rt; session.place(), place);
-    assert_eq!(rt; session.steps(), steps);
+    same(rt, &session.place(), &place);
+    same(rt, &session.steps(), &steps);
 }
 
 /// Going back makes the turns from the nearest copy alone.
@@ -92,9 +93,9 @@ fn check_at<R: Abort>(rt: &R, session: &Session, place: u64, steps: u64) {
 fn kept_places(rt: HostRuntime) -> Result<(), Fail> {
     let alloc = rt.alloc();
     let mut session = opened(alloc, &ROUND, &LONG)?;
-    assert_eq!(rt; session.goto(alloc, 100_000), Ok(()));
+    same(&rt, &session.goto(alloc, 100_000), &Ok(()));
     check_at(&rt, &session, 100_000, 100_000);
-    assert_eq!(rt; session.back(alloc), Ok(()));
+    same(&rt, &session.back(alloc), &Ok(()));
     check_at(&rt, &session, 99_999, 101_695);
     Ok(())
 }
@@ -104,7 +105,7 @@ fn kept_places(rt: HostRuntime) -> Result<(), Fail> {
 fn passed_turns(rt: HostRuntime) -> Result<(), Fail> {
     let alloc = rt.alloc();
     let mut session = opened(alloc, &COUNTER, &IDLE)?;
-    assert_eq!(rt; session.goto(alloc, 1 << 40), Ok(()));
+    same(&rt, &session.goto(alloc, 1 << 40), &Ok(()));
     check_at(&rt, &session, 1 << 40, 4);
     Ok(())
 }
@@ -113,11 +114,11 @@ fn passed_turns(rt: HostRuntime) -> Result<(), Fail> {
 fn check_place<R: Abort>(rt: &R, alloc: Global, session: &mut Session, seed: u64) {
     let place = seed % 100_001;
     let x5 = Reg::new(5).expect(rt, "a register");
-    assert_eq!(rt; session.goto(alloc, place), Ok(()));
-    assert_eq!(rt; session.place(), place);
+    same(rt, &session.goto(alloc, place), &Ok(()));
+    same(rt, &session.place(), &place);
     assert_eq!(rt; session.harts(), 1);
-    assert_eq!(rt; u64::from(session.register(0, x5)), (place + 1) / 3);
-    assert_eq!(rt; session.word(0x0020_0000), Ok(place as u32 / 3));
+    same(rt, &u64::from(session.register(0, x5)), &((place + 1) / 3));
+    same(rt, &session.word(0x0020_0000), &Ok(place as u32 / 3));
 }
 
 /// The stop before a place, where the word is watched, and the one behind that.
@@ -129,21 +130,21 @@ fn check_stops<R: Abort>(
     before: u64,
     after: u64,
 ) {
-    assert_eq!(rt; session.goto(alloc, place), Ok(()));
-    assert_eq!(rt; session.reverse(alloc), Ok(()));
-    assert_eq!(rt; session.place(), before);
-    assert_eq!(rt; session.forward(alloc), Ok(()));
-    assert_eq!(rt; session.place(), after);
+    same(rt, &session.goto(alloc, place), &Ok(()));
+    same(rt, &session.reverse(alloc), &Ok(()));
+    same(rt, &session.place(), &before);
+    same(rt, &session.forward(alloc), &Ok(()));
+    same(rt, &session.place(), &after);
 }
 
 /// Before the first change and behind the last one there is no stop, and the place stays.
 fn check_no_stops<R: Abort>(rt: &R, alloc: Global, session: &mut Session) {
-    assert_eq!(rt; session.goto(alloc, 99_999), Ok(()));
-    assert_eq!(rt; session.forward(alloc), Err(Refusal::NoStop));
-    assert_eq!(rt; session.place(), 99_999);
-    assert_eq!(rt; session.goto(alloc, 3), Ok(()));
-    assert_eq!(rt; session.reverse(alloc), Err(Refusal::NoStop));
-    assert_eq!(rt; session.place(), 3);
+    same(rt, &session.goto(alloc, 99_999), &Ok(()));
+    same(rt, &session.forward(alloc), &Err(Refusal::NoStop));
+    same(rt, &session.place(), &99_999);
+    same(rt, &session.goto(alloc, 3), &Ok(()));
+    same(rt, &session.reverse(alloc), &Err(Refusal::NoStop));
+    same(rt, &session.place(), &3);
 }
 
 /// Goes back and forth by chance, to more places than there are copies, and then from stop to stop.
@@ -153,7 +154,7 @@ fn walk<R: Abort>(rt: &R, alloc: Global, session: &mut Session) {
         seed = seed.wrapping_mul(1_103_515_245).wrapping_add(12_345) % 2_147_483_648;
         check_place(rt, alloc, session, seed);
     }
-    assert_eq!(rt; session.set_watch(0x0020_0000), Ok(()));
+    same(rt, &session.set_watch(0x0020_0000), &Ok(()));
     check_stops(rt, alloc, session, 50_000, 49_998, 50_001);
     check_stops(rt, alloc, session, 4_096, 4_095, 4_098);
     check_no_stops(rt, alloc, session);

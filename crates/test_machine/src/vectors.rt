@@ -1,5 +1,6 @@
 //! A vector state that is set and read.
 
+use crate::comparing::same;
 use rv_insn::{Addressing, ArithmeticVvOp, ElementWidth, Reg, Trap, VReg, VectorInsn};
 use std::process::Abort;
 use std::test::Fail;
@@ -14,7 +15,7 @@ fn v(rt: &impl Abort, number: u8) -> VReg {
 fn sets_and_executes(rt: HostRuntime) -> Result<(), Fail> {
     let mut state = VectorState::new();
     assert!(rt; state.has_vill());
-    assert_eq!(rt; state.configure(0b010_000, Asked::AtMost(2)), Ok(2));
+    same(&rt, &state.configure(0b010_000, Asked::AtMost(2)), &Ok(2));
     state.set_register(v(&rt, 1), [1; 16]);
     state.set_register(v(&rt, 2), [3; 16]);
     state.set_register(v(&rt, 3), [9; 16]);
@@ -25,9 +26,9 @@ fn sets_and_executes(rt: HostRuntime) -> Result<(), Fail> {
         vs1: v(&rt, 1),
         vm: true,
     };
-    assert_eq!(rt; state.execute(&sum, 0), Ok(None));
+    same(&rt, &state.execute(&sum, 0), &Ok(None));
     let wanted = [4, 4, 4, 4, 4, 4, 4, 4, 9, 9, 9, 9, 9, 9, 9, 9];
-    assert_eq!(rt; state.register(v(&rt, 3)), wanted);
+    same(&rt, &state.register(v(&rt, 3)), &wanted);
     let load = VectorInsn::LoadElements {
         width: ElementWidth::Bits32,
         vd: v(&rt, 3),
@@ -35,8 +36,12 @@ fn sets_and_executes(rt: HostRuntime) -> Result<(), Fail> {
         addressing: Addressing::UnitStride,
         vm: true,
     };
-    assert_eq!(rt; state.execute(&load, 0), Err(Trap::IllegalInstruction));
-    assert_eq!(rt; state.register(v(&rt, 3)), wanted);
-    assert_eq!(rt; (state.vl(), state.vtype()), (2, 0b010_000));
+    same(
+        &rt,
+        &state.execute(&load, 0),
+        &Err(Trap::IllegalInstruction),
+    );
+    same(&rt, &state.register(v(&rt, 3)), &wanted);
+    same(&rt, &(state.vl(), state.vtype()), &(2, 0b010_000));
     Ok(())
 }

@@ -21,8 +21,12 @@
 //! - [`wanting_texts`]: lines of words.
 //! - [`wanting_shared_machines`]: boards and shared machines; [`wanting_threads`]: their turns in threads.
 //! - [`wanting`]: the test.
+//!
+//! [`comparing`] has what compares values.
 #![tactic(auto)]
 
+#[cfg(test)]
+mod comparing;
 #[cfg(test)]
 mod machines;
 #[cfg(test)]

@@ -1,5 +1,6 @@
 //! Harts, machines, images, logs and sessions.
 
+use crate::comparing::same;
 use debugger::Session;
 use hart_core::{Hart, Status};
 use loader::{Image, read_image};
@@ -52,19 +53,23 @@ fn v<R: Abort>(rt: &R, number: u8) -> VReg {
 /// A hart makes a turn, and one whose instruction means nothing.
 pub fn check_hart<R: Abort>(rt: &R, memory: &mut Memory) {
     let mut hart = Hart::new(0x0001_0000, 1, 0);
-    assert_eq!(rt; hart.step(memory), Outcome::Stepped);
-    assert_eq!(rt; (hart.pc(), hart.register(x(rt, 5))), (0x0001_0004, WORD));
+    same(rt, &hart.step(memory), &Outcome::Stepped);
+    same(
+        rt,
+        &(hart.pc(), hart.register(x(rt, 5))),
+        &(0x0001_0004, WORD),
+    );
     assert!(rt; matches!(hart.step_with(memory, None), Outcome::Trapped(_)));
-    assert_eq!(rt; hart.step(memory), Outcome::Idle);
+    same(rt, &hart.step(memory), &Outcome::Idle);
 }
 
 /// What can be read of an image.
 pub fn check_image<R: Abort>(rt: &R, image: &Image) {
-    assert_eq!(rt; image.entry(), 0x0001_0000);
-    assert_eq!(rt; image.words().len(), 4);
-    assert_eq!(rt; image.data(), [0; 4].as_slice());
+    same(rt, &image.entry(), &0x0001_0000);
+    same(rt, &image.words().len(), &4);
+    same(rt, &image.data(), &[0; 4].as_slice());
     match image.output() {
-        Some(output) => assert_eq!(rt; (output.address, output.stride), (WORD, 4)),
+        Some(output) => same(rt, &(output.address, output.stride), &(WORD, 4)),
         None => assert!(rt; false, "no output"),
     }
 }
@@ -72,26 +77,27 @@ pub fn check_image<R: Abort>(rt: &R, image: &Image) {
 /// Turns one by one, of a hart and of a list.
 pub fn check_turns<R: Abort>(rt: &R, machine: &mut Machine) {
     assert!(rt; 1 < machine.harts());
-    assert_eq!(rt; machine.turn(0), Outcome::Stepped);
+    same(rt, &machine.turn(0), &Outcome::Stepped);
     assert!(rt; 1 < machine.harts());
-    assert_eq!(rt; machine.run_same(0, 3), Outcome::Finished);
-    assert_eq!(rt; machine.run(&[1, 0, 1]), Ok(()));
-    assert_eq!(rt; machine.run(&[1, 2, 1]), Err(UnknownHart { at: 1 }));
+    same(rt, &machine.run_same(0, 3), &Outcome::Finished);
+    same(rt, &machine.run(&[1, 0, 1]), &Ok(()));
+    same(rt, &machine.run(&[1, 2, 1]), &Err(UnknownHart { at: 1 }));
     check_machine(rt, machine);
 }
 
 /// Hart 0 has finished, and hart 1 stands at its last instruction.
 fn check_machine<R: Abort>(rt: &R, machine: &Machine) {
-    assert_eq!(rt; machine.word(WORD), Some(2));
-    assert_eq!(rt; machine.word(4), None);
+    same(rt, &machine.word(WORD), &Some(2));
+    same(rt, &machine.word(4), &None);
     assert!(rt; !machine.is_finished());
     assert!(rt; 1 < machine.harts());
-    assert_eq!(rt;
-        (machine.pc(1), machine.register(1, x(rt, 7))),
-        (0x0001_000c, 1)
+    same(
+        rt,
+        &(machine.pc(1), machine.register(1, x(rt, 7))),
+        &(0x0001_000c, 1),
     );
-    assert_eq!(rt; machine.vector(1, v(rt, 3)), [0; 16]);
-    assert_eq!(rt; (machine.vl(1), machine.vtype(1)), (0, 0x8000_0000));
+    same(rt, &machine.vector(1, v(rt, 3)), &[0; 16]);
+    same(rt, &(machine.vl(1), machine.vtype(1)), &(0, 0x8000_0000));
     assert!(rt; matches!(machine.status(0), Status::Finished));
     assert!(rt; matches!(machine.status(1), Status::Running));
 }
@@ -105,13 +111,14 @@ pub fn turns(alloc: Global) -> Result<TurnLog, Fail> {
 /// What can be read of the log.
 pub fn check_log<R: Abort>(rt: &R, log: &TurnLog) {
     assert!(rt; !log.is_empty());
-    assert_eq!(rt; (log.harts(), log.len()), (2, 11));
-    assert_eq!(rt; (log.count_of(0), log.count_of(1)), (6, 5));
-    assert_eq!(rt;
-        (log.turn_at(4), log.turn_at(5), log.turn_at(11)),
-        (Some(0), Some(1), None)
+    same(rt, &(log.harts(), log.len()), &(2, 11));
+    same(rt, &(log.count_of(0), log.count_of(1)), &(6, 5));
+    same(
+        rt,
+        &(log.turn_at(4), log.turn_at(5), log.turn_at(11)),
+        &(Some(0), Some(1), None),
     );
-    assert_eq!(rt; (log.run_at(1), log.run_at(11)), (Some((0, 4)), None));
+    same(rt, &(log.run_at(1), log.run_at(11)), &(Some((0, 4)), None));
 }
 
 /// A session that stands behind the turns of hart 0.
@@ -125,18 +132,20 @@ pub fn session(alloc: Global) -> Result<Session, Fail> {
 
 /// What can be read of the session: hart 0 has finished in its fourth turn.
 pub fn check_session<R: Abort>(rt: &R, session: &Session) {
-    assert_eq!(rt;
-        (session.place(), session.length(), session.steps()),
-        (5, 11, 4)
+    same(
+        rt,
+        &(session.place(), session.length(), session.steps()),
+        &(5, 11, 4),
     );
-    assert_eq!(rt; session.word(WORD), Ok(1));
+    same(rt, &session.word(WORD), &Ok(1));
     assert!(rt; session.word(4).is_err());
     assert!(rt; 1 < session.harts());
-    assert_eq!(rt;
-        (session.pc(0), session.register(0, x(rt, 5))),
-        (0x0001_000c, WORD)
+    same(
+        rt,
+        &(session.pc(0), session.register(0, x(rt, 5))),
+        &(0x0001_000c, WORD),
     );
-    assert_eq!(rt; session.vector(0, v(rt, 3)), [0; 16]);
+    same(rt, &session.vector(0, v(rt, 3)), &[0; 16]);
     assert!(rt; matches!(session.status(0), Status::Finished));
     assert!(rt; matches!(session.status(1), Status::Running));
 }

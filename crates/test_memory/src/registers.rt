@@ -1,5 +1,6 @@
 //! Vector registers as lanes, and the vector unit.
 
+use crate::comparing::same;
 use lanes::{Lanes, active, mask_bit, mask_bits, write_mask_bits};
 use rv_insn::{ArithmeticVvOp, ElementWidth, Reg, Trap, VReg, VectorInsn};
 use std::process::Abort;
@@ -23,7 +24,7 @@ fn lanes_of(words: [u32; 4]) -> Lanes<u32, 4> {
 /// Lanes hold these words.
 fn check<R: Abort>(rt: &R, lanes: Lanes<u32, 4>, wanted: [u32; 4]) {
     for index in 0..4 {
-        assert_eq!(rt; lanes.get(index), wanted[index]);
+        same(rt, &lanes.get(index), &wanted[index]);
     }
 }
 
@@ -88,18 +89,22 @@ pub fn check_products<R: Abort>(rt: &R) {
 /// Comparisons, and what one word is made of.
 pub fn check_comparisons<R: Abort>(rt: &R) {
     let (a, b) = (lanes_of(A), lanes_of(B));
-    assert_eq!(rt; a.equal(&b), [false, false, false, false]);
-    assert_eq!(rt; a.not_equal(&b), [true, true, true, true]);
-    assert_eq!(rt; a.less_unsigned(&b), [false, false, true, false]);
-    assert_eq!(rt; a.less_signed(&b), [false, true, false, true]);
-    assert_eq!(rt; a.less_or_equal_unsigned(&b), [false, false, true, false]);
-    assert_eq!(rt; a.less_or_equal_signed(&b), [false, true, false, true]);
+    same(rt, &a.equal(&b), &[false, false, false, false]);
+    same(rt, &a.not_equal(&b), &[true, true, true, true]);
+    same(rt, &a.less_unsigned(&b), &[false, false, true, false]);
+    same(rt, &a.less_signed(&b), &[false, true, false, true]);
+    same(
+        rt,
+        &a.less_or_equal_unsigned(&b),
+        &[false, false, true, false],
+    );
+    same(rt, &a.less_or_equal_signed(&b), &[false, true, false, true]);
     let active = [true, false, true, true];
-    assert_eq!(rt; a.sum(9, &active), 0x8000_0015);
-    assert_eq!(rt; a.least_unsigned(9, &active), 5);
-    assert_eq!(rt; a.least_signed(9, &active), 0x8000_0000);
-    assert_eq!(rt; a.greatest_unsigned(9, &active), 0x8000_0000);
-    assert_eq!(rt; a.greatest_signed(9, &active), 9);
+    same(rt, &a.sum(9, &active), &0x8000_0015);
+    same(rt, &a.least_unsigned(9, &active), &5);
+    same(rt, &a.least_signed(9, &active), &0x8000_0000);
+    same(rt, &a.greatest_unsigned(9, &active), &0x8000_0000);
+    same(rt, &a.greatest_signed(9, &active), &9);
 }
 
 /// Lanes from registers and back, of each width.
@@ -108,7 +113,7 @@ pub fn check_registers<R: Abort>(rt: &R) {
         1, 0, 0, 0, 2, 0, 0, 0, 3, 0, 0, 0, 0xff, 0xff, 0xff, 0xff, //
     ];
     let words = Lanes::<u32, 4>::from_register(&bytes);
-    assert_eq!(rt; words.to_register(), bytes);
+    same(rt, &words.to_register(), &bytes);
     check(rt, Lanes::indices(5), [5, 6, 7, 8]);
     check(rt, Lanes::from_bytes(&bytes, 8), [3, 0, 0, 0]);
     let old = lanes_of(A);
@@ -138,10 +143,15 @@ pub fn check_registers<R: Abort>(rt: &R) {
 pub fn check_masks<R: Abort>(rt: &R) {
     let mut register = [0b0110; 16];
     assert!(rt; mask_bit(&register, 1) && !mask_bit(&register, 3));
-    assert_eq!(rt; mask_bits::<4>(0, &register), [false, true, true, false]);
-    assert_eq!(rt;
-        active::<4>(0, 2, false, &register),
-        [false, true, false, false]
+    same(
+        rt,
+        &(mask_bits::<4>(0, &register)),
+        &[false, true, true, false],
+    );
+    same(
+        rt,
+        &(active::<4>(0, 2, false, &register)),
+        &[false, true, false, false],
     );
     write_mask_bits(
         &mut register,
@@ -149,7 +159,11 @@ pub fn check_masks<R: Abort>(rt: &R) {
         &[true, true, false, false],
         &[true, false, true, true],
     );
-    assert_eq!(rt; mask_bits::<4>(0, &register), [true, false, true, false]);
+    same(
+        rt,
+        &(mask_bits::<4>(0, &register)),
+        &[true, false, true, false],
+    );
 }
 
 fn v<R: Abort>(rt: &R, number: u8) -> VReg {
@@ -171,15 +185,23 @@ fn sum<R: Abort>(rt: &R) -> VectorInsn {
 pub fn check_unit<R: Abort>(rt: &R) {
     let mut state = VectorState::new();
     assert!(rt; state.has_vill() && state.refuses(&sum(rt)));
-    assert_eq!(rt; state.execute(&sum(rt), 0), Err(Trap::IllegalInstruction));
+    same(
+        rt,
+        &state.execute(&sum(rt), 0),
+        &Err(Trap::IllegalInstruction),
+    );
     let x5 = Reg::new(5).expect(rt, "a register");
-    assert_eq!(rt; state.configure(0b010_000, Asked::by(x5, x5, 3)), Ok(3));
-    assert_eq!(rt; (state.vl(), state.vtype()), (3, 0b010_000));
+    same(
+        rt,
+        &state.configure(0b010_000, Asked::by(x5, x5, 3)),
+        &Ok(3),
+    );
+    same(rt, &(state.vl(), state.vtype()), &(3, 0b010_000));
     state.set_register(v(rt, 1), [1; 16]);
     state.set_register(v(rt, 2), [3; 16]);
-    assert_eq!(rt; state.execute(&sum(rt), 0), Ok(None));
+    same(rt, &state.execute(&sum(rt), 0), &Ok(None));
     let wanted = [4, 4, 4, 4, 4, 4, 4, 4, 4, 4, 4, 4, 0, 0, 0, 0];
-    assert_eq!(rt; state.register(v(rt, 3)), wanted);
+    same(rt, &state.register(v(rt, 3)), &wanted);
     assert!(rt; !state.execute_on_words(&sum(rt)) || state.register(v(rt, 3)) == wanted);
     check_elements(rt, &state.duplicate());
     check_load(rt, &mut state);
@@ -188,18 +210,19 @@ pub fn check_unit<R: Abort>(rt: &R) {
 /// Where the elements of a vector access lie, and which ones it has.
 fn check_elements<R: Abort>(rt: &R, state: &VectorState) {
     assert!(rt; !state.has_vill());
-    assert_eq!(rt; (state.count(), state.group()), (4, 1));
+    same(rt, &(state.count(), state.group()), &(4, 1));
     assert!(rt; matches!(state.width(), ElementWidth::Bits32));
-    assert_eq!(rt;
-        state.element(ElementWidth::Bits32, v(rt, 3), 2),
-        0x0404_0404
+    same(
+        rt,
+        &state.element(ElementWidth::Bits32, v(rt, 3), 2),
+        &0x0404_0404,
     );
     assert!(rt; state.is_active(true, 2) && !state.is_active(true, 3) && !state.is_full(true));
-    assert_eq!(rt; state.offset(Spacing::Strided(8), 3), 24);
+    same(rt, &state.offset(Spacing::Strided(8), 3), &24);
     let addresses = state.addresses(Spacing::UnitStride(ElementWidth::Bits32), true, 16);
-    assert_eq!(rt; addresses.as_slice(), [16, 20, 24].as_slice());
+    same(rt, &addresses.as_slice(), &[16, 20, 24].as_slice());
     let numbers = state.active_numbers(ElementWidth::Bits8, v(rt, 1), true);
-    assert_eq!(rt; numbers.as_slice(), [1, 1, 1].as_slice());
+    same(rt, &numbers.as_slice(), &[1, 1, 1].as_slice());
 }
 
 /// Numbers are loaded into the active elements, and one is put.
@@ -208,9 +231,10 @@ fn check_load<R: Abort>(rt: &R, state: &mut VectorState) {
     state.load(ElementWidth::Bits32, v(rt, 4), true, &[5, 6, 7]);
     state.put_element(ElementWidth::Bits32, v(rt, 4), 3, 8);
     for index in 0..4 {
-        assert_eq!(rt;
-            state.element(ElementWidth::Bits32, v(rt, 4), index),
-            5 + index
+        same(
+            rt,
+            &state.element(ElementWidth::Bits32, v(rt, 4), index),
+            &(5 + index),
         );
     }
 }

@@ -6,6 +6,7 @@ ghost use Rattle.board.specs.Tokens.{name_of};
 ghost use Rattle.shared_machine.specs.Seats.{IsSeatOf};
 ghost use Rattle.shared_machine.specs.Tallies.{AreNamed};
 
+use crate::comparing::same;
 use crate::machines::{
     check_hart, check_image, check_log, check_session, check_turns, counter, counter_memory,
     session, turns,
@@ -55,10 +56,10 @@ fn check_board<R: Abort + AllocGlobal>(rt: &R) -> Result<(), Fail> {
     let mut seat = last_seat(&board, &mut seats)?;
     let mut glance = last_glance(&board, &mut glances)?;
     let mut other = board.new_glance();
-    assert_eq!(rt; (board.harts(), seat.hart(), seat.number()), (2, 1, 0));
+    same(rt, &(board.harts(), seat.hart(), seat.number()), &(2, 1, 0));
     board.add(&mut seat, 5);
-    assert_eq!(rt; board.own(&seat), 5);
-    assert_eq!(rt; board.look(&mut glance, 1), 5);
+    same(rt, &board.own(&seat), &5);
+    same(rt, &board.look(&mut glance, 1), &5);
     assert!(rt; !board.stop_asked(&mut other));
     board.ask_stop(&mut glance);
     assert!(rt; board.stop_asked(&mut other));
@@ -67,7 +68,7 @@ fn check_board<R: Abort + AllocGlobal>(rt: &R) -> Result<(), Fail> {
     closing.take_glance(glance);
     closing.take_glance(other);
     let words = closing.finish();
-    assert_eq!(rt; words.as_slice(), [0, 5, 0, 0, 0, 0, 0, 0].as_slice());
+    same(rt, &words.as_slice(), &[0, 5, 0, 0, 0, 0, 0, 0].as_slice());
     Ok(())
 }
 
@@ -76,7 +77,7 @@ fn check_closed_board<R: Abort + AllocGlobal>(rt: &R) -> Result<(), Fail> {
     let alloc = rt.alloc();
     let (board, _, _) = Board::new(alloc, 1)?;
     let words = board.close(Vec::new(alloc), Vec::new(alloc));
-    assert_eq!(rt; words.as_slice(), [0; 8].as_slice());
+    same(rt, &words.as_slice(), &[0; 8].as_slice());
     Ok(())
 }
 
@@ -93,10 +94,10 @@ fn check_opened<O: Origin, F: Ledgers, R: Abort + AllocGlobal>(
 {
     let (mut shared, seats) = Shared::<O, F>::new(rt.alloc(), image, 2, blanks)?;
     for seat in seats.iter() {
-        assert_eq!(rt; seat.ended(), None);
-        assert_eq!(rt; seat.number(), 0);
+        same(rt, &seat.ended(), &None);
+        same(rt, &seat.number(), &0);
     }
-    assert_eq!(rt; shared.board().harts(), 2);
+    same(rt, &shared.board().harts(), &2);
     assert!(rt; shared.glance().is_some());
     Ok(())
 }
@@ -113,8 +114,8 @@ fn close<O: Origin, F: Ledgers, R: Abort>(rt: &R, shared: Shared<O, F>, seats: V
 
 /// No turn was made.
 fn check_end<R: Abort>(rt: &R, machine: &Machine, log: &TurnLog, numbers: &[u64; 8]) {
-    assert_eq!(rt; (machine.harts(), log.len()), (2, 0));
-    assert_eq!(rt; numbers.as_slice(), [0; 8].as_slice());
+    same(rt, &(machine.harts(), log.len()), &(2, 0));
+    same(rt, &numbers.as_slice(), &[0; 8].as_slice());
 }
 
 /// A new machine of two harts that is closed.

@@ -1,5 +1,6 @@
 //! Words from instructions, instructions from words, and numbers in memory.
 
+use crate::comparing::same;
 use memory::{Memory, read_for_amo, read_u8, read_u16, read_u32, write_u8, write_u16, write_u32};
 use rv_encoding::{decode, encode};
 use rv_insn::Trap;
@@ -9,7 +10,7 @@ use std::process::Abort;
 pub fn check_words<R: Abort>(rt: &R) {
     for word in [0x0010_0313, 0x0062_a3af, 0x0220_a1d7] {
         match decode(word) {
-            Some(insn) => assert_eq!(rt; encode(&insn), word),
+            Some(insn) => same(rt, &encode(&insn), &word),
             None => assert!(rt; false, "{word:08x}"),
         }
     }
@@ -18,20 +19,33 @@ pub fn check_words<R: Abort>(rt: &R) {
 
 /// Four bytes of data, written and read as numbers of each size.
 pub fn check_memory<R: Abort>(rt: &R, memory: &mut Memory) {
-    assert_eq!(rt; write_u32(memory, 0x0020_0000, 0x8765_4321), Ok(()));
-    assert_eq!(rt; write_u16(memory, 0x0020_0002, 0xabcd), Ok(()));
-    assert_eq!(rt; write_u8(memory, 0x0020_0000, 7), Ok(()));
-    assert_eq!(rt; read_u8(memory, 0x0020_0000), Ok(7));
-    assert_eq!(rt; read_u16(memory, 0x0020_0002), Ok(0xabcd));
-    assert_eq!(rt; read_u32(memory, 0x0020_0000), Ok(0xabcd_4307));
-    assert_eq!(rt; read_for_amo(memory, 0x0020_0000), Ok(0xabcd_4307));
-    assert_eq!(rt; write_u32(memory, 0x0020_0004, 1), Err(Trap::StoreOutside));
-    assert_eq!(rt;
-        write_u16(memory, 0x0020_0001, 1),
-        Err(Trap::StoreMisaligned)
+    same(rt, &write_u32(memory, 0x0020_0000, 0x8765_4321), &Ok(()));
+    same(rt, &write_u16(memory, 0x0020_0002, 0xabcd), &Ok(()));
+    same(rt, &write_u8(memory, 0x0020_0000, 7), &Ok(()));
+    same(rt, &read_u8(memory, 0x0020_0000), &Ok(7));
+    same(rt, &read_u16(memory, 0x0020_0002), &Ok(0xabcd));
+    same(rt, &read_u32(memory, 0x0020_0000), &Ok(0xabcd_4307));
+    same(rt, &read_for_amo(memory, 0x0020_0000), &Ok(0xabcd_4307));
+    same(
+        rt,
+        &write_u32(memory, 0x0020_0004, 1),
+        &Err(Trap::StoreOutside),
     );
-    assert_eq!(rt; write_u8(memory, 0x0001_0000, 1), Err(Trap::StoreOutside));
-    assert_eq!(rt; read_u32(memory, 0x0020_0002), Err(Trap::LoadMisaligned));
-    assert_eq!(rt; read_u16(memory, 0x0020_0004), Err(Trap::LoadOutside));
-    assert_eq!(rt; read_u8(memory, 0), Err(Trap::LoadOutside));
+    same(
+        rt,
+        &write_u16(memory, 0x0020_0001, 1),
+        &Err(Trap::StoreMisaligned),
+    );
+    same(
+        rt,
+        &write_u8(memory, 0x0001_0000, 1),
+        &Err(Trap::StoreOutside),
+    );
+    same(
+        rt,
+        &read_u32(memory, 0x0020_0002),
+        &Err(Trap::LoadMisaligned),
+    );
+    same(rt, &read_u16(memory, 0x0020_0004), &Err(Trap::LoadOutside));
+    same(rt, &read_u8(memory, 0), &Err(Trap::LoadOutside));
 }
