@@ -57,7 +57,8 @@ fn emit_by_forms(
 /// # Errors
 ///
 /// Where memory runs out, the phase asks for 2^18 words or more, or an expression or a nest of loops has no registers
-/// left: what stands then is in `specs/Faults.antt`, and no code was appended. What the list of stages then has is open.
+/// left: what stands then is in `specs/Faults.antt`, and no code was appended. What the list of stages then has is
+/// open.
 pub fn emit(
     alloc: Global,
     phase: &Phase,

@@ -4,9 +4,10 @@
 //! What is known:
 //!
 //! - `contexts`: of loop variables while code runs (`specs/Contexts.antt`).
-//! - `names`: registers that hold what stays the same while a loop runs (`specs/Naming.antt`), and `starts`: which values
-//!   get them.
-//! - `splits`: the values of split loops as sums (`specs/Splits.antt`), and `lessers`: the lesser of two as an expression.
+//! - `names`: registers that hold what stays the same while a loop runs (`specs/Naming.antt`), and `starts`: which
+//!   values get them.
+//! - `splits`: the values of split loops as sums (`specs/Splits.antt`), and `lessers`: the lesser of two as an
+//!   expression.
 //!
 //! What code is made of a statement:
 //!
