@@ -46,7 +46,7 @@ pub record MakesLanes (old new : List ℕ) (places : Places) (scope : List Held)
       → ((i : ℕ) → i < count → AllByRecursion (Loads world places memory reads) (loads reads (with own.counter i values) e))
       → LeavesLanes world memory insns f own.group k count (λ i. value reads (with own.counter i values) e)
 
--- how many bytes behind a buffer's first pixel the point at x and y lies
+-- how many bytes behind a buffer's first pixel the point at x and y lies, modulo 2 ^ 32
 abbrev pub distance : Place → ℕ → ℕ → ℕ
 distance place x y = ((x + (y * place.width) % 2 ^ 32) % 2 ^ 32 * pixel_bytes place.pixels) % 2 ^ 32
 

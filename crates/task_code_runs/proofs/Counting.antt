@@ -27,8 +27,8 @@ use Rattle.task_code_lane_values.specs.declared.vectorized.Lanes.{Lanes}
 use Rattle.task_code_lanes.proofs.Configured.{supported, most, has-lanes, configured-others}
 use Rattle.task_code_runs.proofs.Pointing.{address-free}
 use Rattle.task_code_runs.specs.declared.left.Left.{Left}
-use Rattle.task_code_runs.specs.Runs.{all_lanes, least_left, left_by, left_lanes}
-use Rattle.task_code_runs.specs.inner.Making.{group_lanes, Configures, MakesLeast, MakesLeft}
+use Rattle.task_code_runs.specs.Runs.{all_lanes, group_lanes, least_left, left_by, left_lanes}
+use Rattle.task_code_runs.specs.inner.Making.{Configures, MakesLeast, MakesLeft}
 use Rattle.task_code_runs.proofs.Sharing.{left-small, value-free}
 
 -- what lanes hold stays

@@ -40,9 +40,9 @@ use Rattle.task_code_lane_values.proofs.Composing.{kept-under, lanes-under}
 use Rattle.task_code_runs.specs.declared.left.Left.{Left}
 use Rattle.task_code_runs.specs.declared.parts.Parts.{Parts}
 use Rattle.task_code_runs.specs.inner.Going.{GoesOn, IsFurther}
-use Rattle.task_code_runs.specs.inner.Making.{Configures, MakesLeast, group_lanes}
+use Rattle.task_code_runs.specs.inner.Making.{Configures, MakesLeast}
 use Rattle.task_code_runs.specs.inner.Parting.{ConfiguresPart, IsReady, MakesPart, MakesRun, count_of, further_of, part_lanes}
-use Rattle.task_code_runs.specs.Runs.{all_lanes, least_left, left_lanes}
+use Rattle.task_code_runs.specs.Runs.{all_lanes, group_lanes, least_left, left_lanes}
 use Rattle.task_code_runs.proofs.Counting.{all-of, lanes-configured, least-small}
 use Rattle.task_code_runs.proofs.Pointing.{address-free}
 use Rattle.task_code_runs.proofs.Sharing.{value-free}

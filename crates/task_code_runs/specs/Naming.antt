@@ -1,4 +1,5 @@
--- Variables that no loop has: a register holds the value of one, which stands for a part of an expression. This project's own.
+-- Variables that no loop has: a register holds the value of one, which stands for a part of an expression, or is where a part of a run begins. This
+-- project's own.
 use Rattle.std.specs.Prelude.{◌≡◌, ℕ, ◌==◌, Bool, false}
 use Rattle.loop_ir.specs.declared.expressions.Counter.{Counter}
 use Rattle.loop_ir.specs.Counters.{Values}

@@ -22,16 +22,21 @@ use Rattle.task_code_scalar.specs.Words.{Emits}
 use Rattle.task_code_registers.specs.declared.scopes.Held.{Held}
 use Rattle.task_code_registers.specs.Doing.{Did}
 use Rattle.task_code_registers.specs.Scopes.{Knows, AreHolders, IsKept}
+use Rattle.task_code_lanes.specs.declared.groups.Group.{Group}
 use Rattle.task_code_lanes.specs.Groups.{registers}
 use Rattle.task_code_lane_values.specs.declared.vectorized.Lanes.{Lanes}
 use Rattle.task_code_runs.specs.declared.left.Left.{Left}
 use Rattle.task_code_runs.specs.AtOnce.{MayRun}
 
+-- how many lanes groups have
+abbrev pub group_lanes : Group → ℕ
+group_lanes group = 4 * registers group
+
 -- how many iterations there are lanes for
 abbrev pub all_lanes : Lanes → ℕ
-all_lanes own = 4 * registers own.group
+all_lanes own = group_lanes own.group
 
--- how many of them a sum leaves: as many as strides go into it in the first one
+-- how many iterations a sum leaves, where the first one passes: as many as strides go into it there
 abbrev pub left_by : Counter → Left → Values → ℕ
 left_by counter own values = linear_value (with counter 0 values) own.sum / own.stride
 
@@ -40,12 +45,12 @@ abbrev pub least_left : Counter → Left → List Left → Values → ℕ
 least_left counter first [] values = left_by counter first values
 least_left counter first (next ∷ others) values = word.minimum (least_left counter next others values) (left_by counter first values)
 
--- that many, or all where there is no sum
+-- that many, but no more than there are lanes for; so many where there is no sum
 abbrev pub left_lanes : Lanes → List Left → Values → ℕ
 left_lanes own [] values = all_lanes own
 left_lanes own (first ∷ others) values = min (least_left own.counter first others values) (all_lanes own)
 
--- the vectorized loop of so many
+-- the vectorized loop of as many iterations as there are lanes for
 abbrev pub run_of : Lanes → Stmt → Stmt
 run_of own body = statements.For own.counter (all_lanes own) Vectorized body
 
@@ -62,7 +67,8 @@ pub record StoresAs (own : Lanes) (body : Stmt) (store : Store) (values named : 
   pub none : (reads : Reads) (i : ℕ) → count ≤ i → i < all_lanes own → effect reads body (with own.counter i values) ≡ None
 
 -- Appended code does a vectorized loop whose body stores as a store does in so many iterations, wherever registers hold the scope's forms in the first
--- of them, and keeps these registers.
+-- of them, and keeps these registers. The code is the same in all settings, and there are settings in which each turn that writes a point of the Func has
+-- to write a whole run (`at_once`): no code that stores point by point does this.
 pub record EmitsRun (old new : List ℕ) (places : Places) (scope : List Held) (own : Lanes) (count : Values → ℕ) (store : Store) : Type 0 where
   pub insns : List Insn
   pub emits : Emits old new insns

@@ -6,8 +6,7 @@ ghost use Rattle.rv_insn.specs.declared.vector_instructions.VectorInsn.TheVarian
 ghost use Rattle.task_code_lanes.specs.Groups as groups;
 ghost use Rattle.task_code_scalar.specs.Words.{Emits};
 ghost use Rattle.task_code_registers.specs.Scopes.{are_registers};
-ghost use Rattle.task_code_runs.specs.Runs.{left_lanes};
-ghost use Rattle.task_code_runs.specs.inner.Making as spec;
+ghost use Rattle.task_code_runs.specs.Runs.{group_lanes, left_lanes};
 ghost use Rattle.task_code_runs.specs.inner.Making.{Configures, MakesLeast};
 
 use crate::left::{Left, emit_first_left, emit_left};
@@ -38,7 +37,7 @@ fn vtype(group: Group) -> Vtype10
 
 /// As many lanes as groups have.
 fn lane_count(group: Group) -> Length5
-    ensures { result ≡ spec.group_lanes group }
+    ensures { result ≡ group_lanes group }
 {
     let count = match group {
         Group::One => 4,
@@ -51,7 +50,7 @@ fn lane_count(group: Group) -> Length5
 /// Appends the instruction that configures as many lanes as groups have.
 pub(crate) fn put_all(code: &mut Vec<u32>, group: Group) -> Result<(), AllocError>
     ensures { OnOk result (Emits code.old.items code.new.items
-        (vector_row (v.Vsetivli 0 (spec.group_lanes group) (groups.vtype_of group)) ∷ [])) }
+        (vector_row (v.Vsetivli 0 (group_lanes group) (groups.vtype_of group)) ∷ [])) }
 {
     let insn = VectorInsn::Vsetivli {
         rd: register(0),
@@ -88,8 +87,8 @@ pub(crate) fn emit_least(
     }
 }
 
-/// Appends what configures a lane for each of as many iterations as the least that one of the sums leaves, or for each
-/// where there is no sum.
+/// Appends what configures a lane for each of as many iterations as the least that one of the sums leaves, but no more
+/// than there are lanes for; for so many where there is no sum.
 pub fn emit_left_lanes(
     alloc: Global,
     code: &mut Vec<u32>,

@@ -52,7 +52,7 @@ fn emit_share(code: &mut Vec<u32>, r: u8, s: u8, number: u32) -> Result<(), Allo
     }
 }
 
-/// Appends what leaves how many iterations a sum leaves in a register; which one it is.
+/// Appends what puts into a register how many iterations a sum leaves; which register it is.
 ///
 /// # Errors
 ///

@@ -2,8 +2,8 @@
 //! not which instructions it has.
 //!
 //! - [`left`]: how many iterations pass tests.
-//! - [`runs`]: appends what does such a loop (`specs/Runs.antt`).
-//! - [`terms`]: whether sums and forms have a term of a loop variable, and which variables are names.
+//! - [`runs`]: appends what does such a loop (`specs/Runs.antt`), where it may be done at once (`specs/AtOnce.antt`).
+//! - [`terms`]: whether sums and forms have a term of a loop variable, and the number of names (`specs/Naming.antt`).
 //! - `configuring`: how many lanes a run has.
 //! - `parts`: values that take more groups than there are, made part by part (`specs/inner/Parting.antt`).
 //! - `distances`: how far points lie behind a buffer's first pixel, as expressions (`specs/inner/Far.antt`).

@@ -26,7 +26,7 @@ use task_code_scalar::CodeFault;
 use task_code_scalar::instructions::alu;
 use task_code_scalar::places::Places;
 
-/// A name with a number that no other has, since theirs are of outer loops: the iteration at which a part begins.
+/// The iteration at which a part begins: a name. That no held form has it is tested.
 const BEGINNING: Counter = Counter {
     func: NAMES,
     id: LoopId::Inner(0),
@@ -45,7 +45,7 @@ pub struct Parts<'a> {
     pub by: Counter,
     /// The lanes of the whole run.
     pub lanes: Lanes,
-    /// What leaves how many iterations.
+    /// The sums that say how many iterations there are.
     pub left: &'a [Left],
     /// The groups of a part.
     pub group: Group,

@@ -104,7 +104,7 @@ fn emit_made(
 }
 
 /// Appends what leaves in the second group how far each iteration's point lies behind its buffer's first pixel, where
-/// lanes are configured, and has them configured again.
+/// lanes are configured, and are so behind it too.
 fn emit_far(
     alloc: Global,
     code: &mut Vec<u32>,
@@ -198,7 +198,8 @@ fn emit_scattered(
 ///
 /// # Errors
 ///
-/// Memory ran out, or groups and registers do not suffice for this way of making code.
+/// Memory ran out, or groups and registers do not suffice for this way of making code, as where a stride is 0, the scope
+/// holds `vl` or `vtype`, or, of values in parts, a held form has the loop's variable.
 pub fn emit_run(
     alloc: Global,
     code: &mut Vec<u32>,

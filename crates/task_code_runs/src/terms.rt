@@ -1,4 +1,4 @@
-//! Whether sums and forms have a term of a loop variable, and which variables are names.
+//! Whether sums and forms have a term of a loop variable, and the number of names.
 
 ghost use Rattle.std.specs.Prelude.{◌≡◌};
 ghost use Rattle.task_code_registers.specs.Holding as holding;

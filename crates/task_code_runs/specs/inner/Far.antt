@@ -26,15 +26,15 @@ pub record IsProduct (e : Expr) (number : ℕ) (made : Expr) : Type 0 where
   pub value_is : (reads : Reads) (values : Values) → value reads values made ≡ word.multiply (value reads values e) number
   pub loads_are : (reads : Reads) (values : Values) → loads reads values made ≡ loads reads values e
 
--- it is how many bytes the point at two others lies behind a buffer's first pixel, and loads what they load
+-- it is how many bytes the point at two others lies behind a buffer's first pixel, modulo 2 ^ 32, and loads what they load
 pub record IsDistance (place : Place) (x y made : Expr) : Type 0 where
   pub value_is : (reads : Reads) (values : Values) → value reads values made ≡ distance place (value reads values x) (value reads values y)
   pub loads_are : (reads : Reads) (values : Values) → loads reads values made ≡ loads reads values x ++ loads reads values y
 
 -- ---- in lanes
 
--- Where lanes are configured for all iterations, appended code leaves in the second group how far their points lie, has the lanes configured again, and
--- keeps the first group.
+-- Where lanes are configured for so many iterations, appended code leaves in the second group how far their points lie, and keeps the first group. Lanes
+-- are configured so behind it too.
 pub record MakesFar (old new : List ℕ) (places : Places) (scope : List Held) (own : Lanes) (count : Values → ℕ) (place : Place) (x y : Expr) : Type 0 where
   pub insns : List Insn
   pub emits : Emits old new insns

@@ -11,16 +11,10 @@ use Rattle.task_code_registers.specs.declared.scopes.Held.{Held}
 use Rattle.task_code_registers.specs.Registers.{scratch, second_scratch, address_register, first_value, IsSource}
 use Rattle.task_code_registers.specs.Scopes.{Knows, AreHolders, IsKept, form_value}
 use Rattle.task_code_lanes.specs.declared.groups.Group.{Group}
-use Rattle.task_code_lanes.specs.declared.groups.Group.TheVariants as groups
 use Rattle.task_code_lanes.specs.Leaving.{HasLanes}
 use Rattle.task_code_lane_values.specs.declared.vectorized.Lanes.{Lanes}
 use Rattle.task_code_runs.specs.declared.left.Left.{Left}
 use Rattle.task_code_runs.specs.Runs.{least_left, left_by}
-
-abbrev pub group_lanes : Group → ℕ
-group_lanes groups.One = 4
-group_lanes groups.Two = 8
-group_lanes groups.Four = 16
 
 -- ---- how many lanes
 
@@ -41,14 +35,14 @@ pub record Configures (old new : List ℕ) (scope : List Held) (own : Lanes) (co
 
 -- ---- where lanes begin
 
--- straight code behind which a register holds v, an address or a number
+-- straight code behind which a register holds v, an address or a number; that of addresses and the scratch registers may change
 pub record Points (world : World) (memory : List ℕ) (insns : List Insn) (f : ℕ → ℕ) (b v : ℕ) : Type 0 where
   pub after : ℕ → ℕ
   pub line : Line world insns f memory after memory
   pub value : after b ≡ v
   pub others : (q : ℕ) → q ≢ address_register → q ≢ scratch → q ≢ second_scratch → after q ≡ f q
 
--- appended code makes a register point where a form stands in the first iteration
+-- appended code makes a register other than x0 point where a form stands in the first iteration
 pub record MakesPointer (old new : List ℕ) (scope : List Held) (counter : Counter) (b : ℕ) (form : Form) : Type 0 where
   pub insns : List Insn
   pub emits : Emits old new insns
@@ -59,7 +53,7 @@ pub record MakesPointer (old new : List ℕ) (scope : List Held) (counter : Coun
 
 -- ---- how many iterations sums leave
 
--- appended code leaves in a register how many a sum leaves
+-- appended code puts into a register other than x0 how many iterations a sum leaves
 pub record MakesLeft (old new : List ℕ) (scope : List Held) (counter : Counter) (b : ℕ) (left : Left) : Type 0 where
   pub insns : List Insn
   pub emits : Emits old new insns
@@ -75,7 +69,7 @@ pub record Least (world : World) (memory : List ℕ) (insns : List Insn) (f : �
   pub value : after first_value ≡ v
   pub others : (q : ℕ) → q ≢ first_value → q ≢ address_register → q ≢ scratch → q ≢ second_scratch → after q ≡ f q
 
--- appended code leaves the least there that one of some leaves
+-- appended code puts there the least number of iterations that one of some sums leaves
 pub record MakesLeast (old new : List ℕ) (scope : List Held) (counter : Counter) (first : Left) (others : List Left) : Type 0 where
   pub insns : List Insn
   pub emits : Emits old new insns

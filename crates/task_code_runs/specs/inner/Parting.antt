@@ -16,13 +16,13 @@ use Rattle.task_code_registers.specs.Holding.{mentions}
 use Rattle.task_code_registers.specs.Scopes.{AreHolders, IsKept, IsLeft, Knows, are_registers}
 use Rattle.task_code_loops.specs.Beginning.{variable}
 use Rattle.task_code_lanes.specs.declared.groups.Group.{Group}
-use Rattle.task_code_lanes.specs.Groups.{registers, slot}
+use Rattle.task_code_lanes.specs.Groups.{slot}
 use Rattle.task_code_lanes.specs.Leaving.{HasLanes}
 use Rattle.task_code_lane_values.specs.declared.vectorized.Lanes.{Lanes}
 use Rattle.task_code_runs.specs.declared.further.Further.{Further}
 use Rattle.task_code_runs.specs.declared.parts.Parts.{Parts}
 use Rattle.task_code_runs.specs.inner.Going.{IsFurther}
-use Rattle.task_code_runs.specs.Runs.{all_lanes, left_lanes}
+use Rattle.task_code_runs.specs.Runs.{all_lanes, group_lanes, left_lanes}
 
 -- ---- all lanes
 
@@ -42,7 +42,8 @@ abbrev pub LoadsEach : Places → Lanes → Expr → World → List ℕ → Read
 LoadsEach places own e world memory reads values count =
     (i : ℕ) → i < count → AllByRecursion (Loads world places memory reads) (loads reads (with own.counter i values) e)
 
--- Appended code leaves an expression's values there in so many iterations, at least one, from what registers hold in the first of them.
+-- Appended code configures lanes for so many iterations, at least one, and leaves an expression's values in them in group k, from what registers hold
+-- in the first iteration, where memory holds what is loaded.
 pub record MakesRun (old new : List ℕ) (places : Places) (scope : List Held) (own : Lanes) (count : Values → ℕ) (k : ℕ) (e : Expr) : Type 0 where
   pub insns : List Insn
   pub emits : Emits old new insns
@@ -55,7 +56,7 @@ pub record MakesRun (old new : List ℕ) (places : Places) (scope : List Held) (
 
 -- the lanes of one
 abbrev pub part_lanes : Parts → ℕ
-part_lanes own = 4 * registers own.group
+part_lanes own = group_lanes own.group
 
 -- how many iterations there are
 abbrev pub count_of : Parts → Values → ℕ
@@ -75,7 +76,8 @@ pub record IsReady (own : Parts) : Type 0 where
   pub apart : same_counter own.by own.lanes.counter ≡ false
 
 -- Straight code that configures lanes for `number` iterations from `first` on, all of them among the first `count`, and leaves `first` in a register. If
--- any of these stands at `from` or behind it, they are all from there on that the part has lanes for. The scope's registers and all lanes stay.
+-- one of the first `count` stands at `from` or behind it, `first` is `from`, and all of those from there on that the part has lanes for are among the
+-- `number`. The scope's registers and all lanes stay.
 pub record PartConfigured (world : World) (memory : List ℕ) (insns : List Insn) (own : Parts) (f : ℕ → ℕ) (from count : ℕ) : Type 0 where
   pub after : ℕ → ℕ
   pub line : Line world insns f memory after memory
@@ -98,8 +100,8 @@ pub record ConfiguresPart (old new : List ℕ) (own : Parts) (from : ℕ) : Type
       → Knows world.hart own.scope.now (with own.lanes.counter 0 values) f → 1 ≤ count_of own values
       → PartConfigured world memory insns own f from (count_of own values)
 
--- Straight code that leaves words of the iterations from one on and below another in group k and those behind it. The scope's registers and the groups
--- below stay.
+-- Straight code that leaves in group k and those behind it words of those of the first `count` iterations that stand from one on and below another. The
+-- scope's registers and the groups below stay; lanes may be configured otherwise behind it.
 pub record LeavesPart (world : World) (memory : List ℕ) (insns : List Insn) (own : Parts) (f : ℕ → ℕ) (k from upto count : ℕ) (v : ℕ → ℕ) : Type 0 where
   pub after : ℕ → ℕ
   pub line : Line world insns f memory after memory
