@@ -4,9 +4,9 @@
 /// A line for each family, and for each of its codes as often as it has causes, in the order in which they are judged.
 /// Below it stand, behind two blanks, what the family says, and the cause with what helps.
 #[rattlefmt::skip]
-pub static REFUSALS: [u8; 8458] = *b"\
+pub static REFUSALS: [u8; 8482] = *b"\
 file\n\
-\x20\x20cause: a file can't be read or written, or a text isn't UTF-8; here `-` is standard input or output\n\
+\x20\x20cause: a file can't be read or written, or a text isn't UTF-8; here `-` is standard input or output, or a file of that name\n\
 \x20\x20cure: look at the path, its rights, the disk; a word left out moves the words behind it\n\
 memory\n\
 \x20\x20cause: the system gave no memory\n\
