@@ -24,7 +24,23 @@ fn push_words(bytes: &mut Vec<u8>, pixels: &[u32]) -> Result<(), AllocError>
     ensures { OnOk result (bytes.new.items ≡ bytes.old.items ++ spec.word_bytes pixels.now) }
 {
     bytes.reserve(pixels.len().saturating_mul(WORD_LEN))?;
-    for pixel in pixels {
+    // Eight at a time, since a call that appends costs more than a pixel's bytes.
+    let mut left = pixels;
+    while let [a, b, c, d, e, f, g, h, others @ ..] = left {
+        let words = [
+            a.to_le_bytes(),
+            b.to_le_bytes(),
+            c.to_le_bytes(),
+            d.to_le_bytes(),
+            e.to_le_bytes(),
+            f.to_le_bytes(),
+            g.to_le_bytes(),
+            h.to_le_bytes(),
+        ];
+        bytes.extend_from_slice(words.as_flattened())?;
+        left = others;
+    }
+    for pixel in left {
         bytes.extend_from_slice(&pixel.to_le_bytes())?;
     }
     Ok(())
@@ -36,7 +52,15 @@ fn push_bytes(bytes: &mut Vec<u8>, pixels: &[u32]) -> Result<(), AllocError>
     ensures { OnOk result (bytes.new.items ≡ bytes.old.items ++ pixels.now) }
 {
     bytes.reserve(pixels.len())?;
-    for pixel in pixels {
+    let mut left = pixels;
+    while let [a, b, c, d, e, f, g, h, others @ ..] = left {
+        let eight = [
+            *a as u8, *b as u8, *c as u8, *d as u8, *e as u8, *f as u8, *g as u8, *h as u8,
+        ];
+        bytes.extend_from_slice(&eight)?;
+        left = others;
+    }
+    for pixel in left {
         bytes.push(*pixel as u8)?;
     }
     Ok(())
