@@ -15,6 +15,7 @@ pub mod PixelRows
 pub mod ReadBack
 pub mod Rows
 pub mod Shared
+pub mod ShortNumbers
 pub mod SideBySide
 pub mod SpelledBack
 pub mod Tables

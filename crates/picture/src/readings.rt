@@ -1,7 +1,9 @@
 //! Reading pictures from texts.
 
-ghost use Rattle.std.specs.Prelude.{◌≡◌, ◌+◌, ◌*◌, ◌<◌, ◌≤◌, ℕ, length, IfOk, IsTrue, Ok, codes, vec_len};
-ghost use Rattle.line_text.specs.Lines.{Gives};
+ghost use Rattle.std.specs.Prelude.{◌≡◌, ◌+◌, ◌-◌, ◌*◌, ◌%◌, ◌^◌, ◌<◌, ◌≤◌, ℕ, length, take, if◌then◌else◌};
+ghost use Rattle.std.specs.Prelude.{IfOk, IfSome, IsTrue, Ok, codes, vec_len};
+ghost use Rattle.std.specs.List.{prefix_len};
+ghost use Rattle.line_text.specs.Lines.{Gives, decimal_number, is_digit};
 ghost use Rattle.halide_pipeline.specs.WellFormed.{is_width, is_height};
 ghost use Rattle.halide_pipeline.specs.Picture.{IsPicture};
 ghost use Rattle.halide_pipeline.specs.Contents.{PictureContents};
@@ -13,8 +15,11 @@ use crate::pictures::{Picture, is_height, is_width};
 use halide_pipeline::MOST_EXTENT;
 use line_text::ReadError;
 use line_text::numbers::saturating_number;
-use line_text::spans::digits_len;
+use line_text::spans::{digits_len, is_digit};
 use std::alloc::{AllocError, Global};
+
+/// How many bytes are looked at for a number of few digits and the byte behind them. Fewer digits spell less than 2^31.
+const SHORT_LEN: usize = 9;
 
 /// What stands behind a word.
 #[tactic(auto, unfolding(crate::specs::Reading::behind))]
@@ -65,6 +70,13 @@ fn numeral_at(text: &[u8]) -> Result<(bool, &[u8], &[u8]), PictureFault>
     }
 }
 
+/// The pixel of a number, below 0 or not.
+fn signed(negative: bool, size: u32) -> u32
+    ensures { result ≡ (if negative then (2 ^ 32 - size) % 2 ^ 32 else size) }
+{
+    if negative { size.wrapping_neg() } else { size }
+}
+
 /// The pixel of a signed number of 32 bits.
 fn pixel_of(negative: bool, digits: &[u8]) -> Result<u32, PictureFault>
     ensures { spec.Shows (λ pixel. pixel) result (spec.pixel_of (record { negative = negative; digits = digits.now })) }
@@ -74,8 +86,7 @@ fn pixel_of(negative: bool, digits: &[u8]) -> Result<u32, PictureFault>
     if size > most {
         return Err(PictureFault::Number);
     }
-    let size = size as u32;
-    Ok(if negative { size.wrapping_neg() } else { size })
+    Ok(signed(negative, size as u32))
 }
 
 /// The width at the front and what stands behind it.
@@ -121,11 +132,66 @@ fn heading_at(text: &[u8]) -> Result<(u32, u32, &[u8]), PictureFault>
     Ok((width, height, rest))
 }
 
+/// Whether a number at the front has a sign, and what stands behind the sign.
+#[tactic(auto, unfolding(crate::specs::Reading::numeral_at, crate::specs::Reading::plain_at))]
+fn sign_at(text: &[u8]) -> (bool, &[u8])
+    ensures { spec.numeral_at text.now ≡ spec.plain_at result.0 result.1.now }
+{
+    match text {
+        [] => (false, text),
+        [b'-', unsigned @ ..] => (true, unsigned),
+        [_, ..] => (false, text),
+    }
+}
+
+/// The number that the digits at the front spell, and how many they are, where they are few.
+fn short_number(text: &[u8]) -> Option<(u32, usize)>
+    ensures len { IfSome result (λ short. short.1 ≡ prefix_len is_digit text.now) }
+    ensures within { IfSome result (λ short. short.1 ≤ length text.now) }
+    ensures number { IfSome result (λ short. short.0 ≡ decimal_number (take short.1 text.now)) }
+    ensures few { IfSome result (λ short. short.0 < 10 ^ 8) }
+{
+    if text.len() < SHORT_LEN {
+        return None;
+    }
+    let mut number = 0;
+    for len in 0..SHORT_LEN {
+        let byte = text[len];
+        if !is_digit(byte) {
+            return Some((number, len));
+        }
+        number = number * 10 + u32::from(byte - b'0');
+    }
+    None
+}
+
+/// A pixel of few digits and this byte behind it, and what stands behind both. Each byte is looked at once.
+fn short_pixel_then<'a>(word: &[u8], text: &'a [u8]) -> Option<(u32, &'a [u8])>
+    ensures { IfSome result (λ pixel. spec.pixel_then word.now text.now ≡ Ok (pixel.0, pixel.1.now)) }
+{
+    let (negative, unsigned) = sign_at(text);
+    let (size, len) = short_number(unsigned)?;
+    let (digits, after) = unsigned.split_at(len);
+    let [separator] = word else {
+        return None;
+    };
+    let [first, rest @ ..] = after else {
+        return None;
+    };
+    if !is_plain(negative, digits) || first != separator {
+        return None;
+    }
+    Some((signed(negative, size), rest))
+}
+
 /// A pixel and this word behind it, and what stands behind both.
 #[tactic(auto, unfolding(crate::specs::Reading::pixel_then))]
 fn pixel_then<'a>(word: &[u8], text: &'a [u8]) -> Result<(u32, &'a [u8]), PictureFault>
     ensures { spec.Shows (λ pixel. (pixel.0, pixel.1.now)) result (spec.pixel_then word.now text.now) }
 {
+    if let Some(short) = short_pixel_then(word, text) {
+        return Ok(short);
+    }
     let (negative, digits, after_number) = numeral_at(text)?;
     let pixel = pixel_of(negative, digits)?;
     let rest = behind(word, after_number)?;
