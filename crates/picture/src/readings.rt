@@ -1,6 +1,6 @@
 //! Reading pictures from texts.
 
-ghost use Rattle.std.specs.Prelude.{◌≡◌, ◌+◌, ◌-◌, ◌*◌, ◌%◌, ◌^◌, ◌<◌, ◌≤◌, ℕ, length, take, if◌then◌else◌};
+ghost use Rattle.std.specs.Prelude.{◌≡◌, ◌==◌, ◌+◌, ◌-◌, ◌*◌, ◌%◌, ◌^◌, ◌<◌, ◌≤◌, ℕ, length, take, if◌then◌else◌};
 ghost use Rattle.std.specs.Prelude.{IfOk, IfSome, IsTrue, Ok, codes, vec_len};
 ghost use Rattle.std.specs.List.{prefix_len};
 ghost use Rattle.line_text.specs.Lines.{Gives, decimal_number, is_digit};
@@ -204,7 +204,15 @@ pub(crate) fn separator(width: usize, left: usize) -> &'static [u8]
     ensures value { result.now ≡ spec.separator width left }
     ensures len { length result.now ≡ 1 }
 {
-    if left % width == 0 { b"\n" } else { b" " }
+    separator_before(left % width)
+}
+
+/// What stands behind a pixel that so many follow in its row.
+fn separator_before(ahead: usize) -> &'static [u8]
+    ensures value { result.now ≡ (if ahead == 0 then codes "\n" else codes " ") }
+    ensures len { length result.now ≡ 1 }
+{
+    if ahead == 0 { b"\n" } else { b" " }
 }
 
 /// So many pixels at the front, in rows of this width, and what stands behind them.
@@ -221,9 +229,11 @@ fn pixels_at(
     // A pixel takes two bytes of the text at least.
     let mut pixels = Vec::with_capacity(alloc, count.min(text.len() / 2))?;
     let mut rest = text;
+    // How many of its row follow the last pixel that was read, counted down in place of a division for each.
+    let mut ahead = count % width;
     for done in 0..count {
-        let word = separator(width, count - 1 - done);
-        let (pixel, after) = pixel_then(word, rest)?;
+        ahead = if ahead == 0 { width - 1 } else { ahead - 1 };
+        let (pixel, after) = pixel_then(separator_before(ahead), rest)?;
         pixels.push(pixel)?;
         rest = after;
     }
