@@ -19,7 +19,7 @@ use Rattle.task_code_registers.proofs.Knowing.{others-are}
 use Rattle.task_code_registers.proofs.Striding.{linear-steady}
 use Rattle.task_code_registers.proofs.Variables.{same_counter-true}
 use Rattle.task_code_loops.specs.declared.known.Known.{Known}
-use Rattle.task_code_loops.specs.Known.{AreKnown, IsRewritten, is_fresh, KnownStays, OneMoreIsKnown}
+use Rattle.task_code_loops.specs.Known.{AreKnown, IsRewritten, IsRewrittenSum, is_fresh, KnownStays, OneMoreIsKnown}
 use Rattle.task_code_loops.proofs.Knowledge.{stands-at}
 
 -- ---- what is known of a variable
@@ -116,19 +116,22 @@ more-terms values old middle new terms first other some is x y =
     y ∙ ap (λ n. (n + r) % 2 ^ 32) x ∙ g
     ∙ ap (λ ts. (a + sum_of values ts) % 2 ^ 32) (ap (λ t. t ∷ rest) is ∙ sym (others-are terms other some))
 
-pub form-rewritten : (known : List Known) (form made : Form) (start : Linear) → start.number ≡ form.sum.number → start.terms ≡ []
-    → made.per_hart ≡ form.per_hart
-    → ((values : Values) → AreKnown known values → linear_value values made.sum ≡ (linear_value values start + sum_of values form.sum.terms) % 2 ^ 32)
+pub sum-rewritten : (known : List Known) (own made start : Linear) → start.number ≡ own.number → start.terms ≡ []
+    → ((values : Values) → AreKnown known values → linear_value values made ≡ (linear_value values start + sum_of values own.terms) % 2 ^ 32)
+    → IsRewrittenSum known own made
+unfolding linear_value
+sum-rewritten known own made start en et go values are =
+    let n = own.number in
+    let s = sum_of values own.terms in
+    let g : ((n + 0) % 2 ^ 32 + s) % 2 ^ 32 ≡ (n + s) % 2 ^ 32 = omega arith in
+    go values are ∙ ap (λ k. ((k + sum_of values start.terms) % 2 ^ 32 + s) % 2 ^ 32) en
+    ∙ ap (λ ts. ((n + sum_of values ts) % 2 ^ 32 + s) % 2 ^ 32) et ∙ g
+
+pub form-rewritten : (known : List Known) (form made : Form) → made.per_hart ≡ form.per_hart → IsRewrittenSum known form.sum made.sum
     → IsRewritten known form made
-unfolding form_value linear_value
-form-rewritten known form made start en et eh go hart values are =
-    let h = hart * form.per_hart in
-    let n = form.sum.number in
-    let s = sum_of values form.sum.terms in
-    let g : (((n + 0) % 2 ^ 32 + s) % 2 ^ 32 + h) % 2 ^ 32 ≡ ((n + s) % 2 ^ 32 + h) % 2 ^ 32 = omega arith in
-    ap (λ k. (linear_value values made.sum + hart * k) % 2 ^ 32) eh ∙ ap (λ k. (k + h) % 2 ^ 32) (go values are)
-    ∙ ap (λ k. (((k + sum_of values start.terms) % 2 ^ 32 + s) % 2 ^ 32 + h) % 2 ^ 32) en
-    ∙ ap (λ ts. (((n + sum_of values ts) % 2 ^ 32 + s) % 2 ^ 32 + h) % 2 ^ 32) et ∙ g
+unfolding form_value
+form-rewritten known form made eh same hart values are =
+    ap (λ k. (linear_value values made.sum + hart * k) % 2 ^ 32) eh ∙ ap (λ k. (k + hart * form.per_hart) % 2 ^ 32) (same values are)
 
 -- ---- what stays known
 

@@ -28,6 +28,10 @@ abbrev pub AddsTerms : List Known → Linear → Linear → List Term → Type 0
 AddsTerms known old new terms =
     (values : Values) → AreKnown known values → linear_value values new ≡ (linear_value values old + sum_of values terms) % 2 ^ 32
 
+-- a sum comes to the same as another one wherever these are known
+abbrev pub IsRewrittenSum : List Known → Linear → Linear → Type 0
+IsRewrittenSum known own made = (values : Values) → AreKnown known values → linear_value values made ≡ linear_value values own
+
 -- a form is another one wherever these are known
 abbrev pub IsRewritten : List Known → Form → Form → Type 0
 IsRewritten known form made = (hart : ℕ) (values : Values) → AreKnown known values → form_value hart values made ≡ form_value hart values form

@@ -3,7 +3,7 @@
 
 ghost use Rattle.std.specs.Prelude.{◌≡◌, ◌++◌, ◌+◌, ◌*◌, ◌%◌, ◌^◌, IfOk, IfSome, OnOk};
 ghost use Rattle.task_code_registers.specs.Points.{times};
-ghost use Rattle.task_code_loops.specs.Known.{AddsTerm, AddsTerms, IsKnownSum, IsRewritten};
+ghost use Rattle.task_code_loops.specs.Known.{AddsTerm, AddsTerms, IsKnownSum, IsRewritten, IsRewrittenSum};
 
 use halide_pipeline::words;
 use loop_ir::expressions::{Counter, Linear, Term, same_counter};
@@ -95,6 +95,22 @@ fn add_one(made: &mut Linear, term: &Term, known: &[Known]) -> Result<(), AllocE
     }
 }
 
+/// A sum by the loop variables that aren't known.
+///
+/// # Errors
+///
+/// Memory ran out.
+pub fn linear_by_others(alloc: Global, own: &Linear, known: &[Known]) -> Result<Linear, AllocError>
+    ensures { IfOk result (IsRewrittenSum known.now own.now) }
+{
+    let mut sum = Linear {
+        number: own.number,
+        terms: Items::new(alloc),
+    };
+    add_known(&mut sum, own.terms.as_slice(), known)?;
+    Ok(sum)
+}
+
 /// A form by the loop variables that aren't known.
 ///
 /// # Errors
@@ -103,11 +119,7 @@ fn add_one(made: &mut Linear, term: &Term, known: &[Known]) -> Result<(), AllocE
 pub fn by_others(alloc: Global, form: &Form, known: &[Known]) -> Result<Form, AllocError>
     ensures { IfOk result (IsRewritten known.now form.now) }
 {
-    let mut sum = Linear {
-        number: form.sum.number,
-        terms: Items::new(alloc),
-    };
-    add_known(&mut sum, form.sum.terms.as_slice(), known)?;
+    let sum = linear_by_others(alloc, &form.sum, known)?;
     Ok(Form {
         sum,
         per_hart: form.per_hart,
