@@ -19,6 +19,7 @@ use loop_ir::expressions::Expr;
 use loop_ir::statements::Store;
 use sqlite_items::Boxed;
 use std::alloc::{AllocError, Global};
+use std::mem;
 use task_code_loops::bounds::Bound;
 use task_code_scalar::places::Places;
 
@@ -263,6 +264,59 @@ pub fn unclamped(
     }
 }
 
+/// Whether a leaf may come to 0.
+fn may_be_zero(e: &Expr) -> bool {
+    match e {
+        Expr::Number(n) => *n == 0,
+        Expr::Linear(own) => own.number == 0,
+        _ => false,
+    }
+}
+
+/// Whether something else may be made of an operation with such a second operand. [`of_both`] leaves others alone.
+fn may_change(operation: Operation, b: &Expr) -> bool {
+    match operation {
+        Operation::Minimum => true,
+        Operation::Maximum => true,
+        Operation::Add => may_be_zero(b),
+        Operation::Subtract => may_be_zero(b),
+        _ => false,
+    }
+}
+
+/// Whether an expression may have clamps that cut nothing off. One without them need not be made once more.
+fn may_have_clamps(e: &Expr) -> bool {
+    match e {
+        Expr::Number(_) => false,
+        Expr::Linear(_) => false,
+        Expr::Binary(operation, a, b) => {
+            may_change(*operation, b.get()) || may_have_clamps(a.get()) || may_have_clamps(b.get())
+        }
+        Expr::Divide(a, _) => may_have_clamps(a.get()),
+        Expr::Remainder(a, _) => may_have_clamps(a.get()),
+        Expr::Select(c, a, b) => {
+            may_have_clamps(c.get()) || may_have_clamps(a.get()) || may_have_clamps(b.get())
+        }
+        Expr::Load(_, x, y) => may_have_clamps(x.get()) || may_have_clamps(y.get()),
+    }
+}
+
+/// So it is with an expression that is given away, whose range is not asked for.
+fn unclamped_own(
+    alloc: Global,
+    places: &Places,
+    bounds: &[Bound],
+    e: Expr,
+) -> Result<Expr, AllocError>
+    ensures { IfOk result (IsSame places.now bounds.now e) }
+{
+    if !may_have_clamps(&e) {
+        return Ok(e);
+    }
+    let made = unclamped(alloc, places, bounds, &e)?;
+    Ok(made.e)
+}
+
 /// A store without clamps that cut nothing off.
 ///
 /// # Errors
@@ -272,17 +326,21 @@ pub fn unclamped_store(
     alloc: Global,
     places: &Places,
     bounds: &[Bound],
-    store: &Store,
+    mut store: Store,
 ) -> Result<Store, AllocError>
-    ensures { IfOk result (IsSameStore places.now bounds.now store.now) }
+    ensures { IfOk result (IsSameStore places.now bounds.now store) }
 {
-    let x = unclamped(alloc, places, bounds, &store.x)?;
-    let y = unclamped(alloc, places, bounds, &store.y)?;
-    let value = unclamped(alloc, places, bounds, &store.value)?;
+    // A store drops itself, so its parts are taken out of it one by one.
+    let own_x = mem::replace(&mut store.x, Expr::Number(0));
+    let own_y = mem::replace(&mut store.y, Expr::Number(0));
+    let own_value = mem::replace(&mut store.value, Expr::Number(0));
+    let x = unclamped_own(alloc, places, bounds, own_x)?;
+    let y = unclamped_own(alloc, places, bounds, own_y)?;
+    let value = unclamped_own(alloc, places, bounds, own_value)?;
     Ok(Store {
         func: store.func,
-        x: x.e,
-        y: y.e,
-        value: value.e,
+        x,
+        y,
+        value,
     })
 }

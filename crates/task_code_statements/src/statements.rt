@@ -58,10 +58,8 @@ pub(crate) fn made_store(
     ensures { IfOk result (IsMadeStore places.now context.now store.now) }
 {
     let made = store_by_others(alloc, store, context.known.as_slice())?;
-    let unclamped = unclamped_store(alloc, places, context.bounds.as_slice(), &made);
-    drop(made);
-    let plain = unclamped?;
-    if context.names.len() == 0 {
+    let plain = unclamped_store(alloc, places, context.bounds.as_slice(), made)?;
+    if context.names.is_empty() {
         return Ok(plain);
     }
     let renamed = store_by_names(alloc, context.names.as_slice(), &plain);

@@ -7,7 +7,7 @@ returns c =
     c.in_ok-plain.plain c.in_ok-named.named c.as_slice.ensures.value c.as_slice-2.ensures.value c.as_slice-3.ensures.value c.in_ok-made.ensures
     c.in_ok-plain.ensures c.in_ok-named.ensures
 
-pub returns-then-len-eq0 : goal.returns-then-len-eq0
-returns-then-len-eq0 c =
+pub returns-then-is_empty : goal.returns-then-is_empty
+returns-then-is_empty c =
     unnamed-is c.args.places.now c.args.context.now c.as_slice.result.now c.as_slice-2.result.now c.args.store.now c.in_ok-made.made c.in_ok-plain.plain
     c.as_slice.ensures.value c.as_slice-2.ensures.value c.in_ok-made.ensures c.in_ok-plain.ensures
