@@ -12,12 +12,12 @@ use Rattle.task_code_registers.specs.declared.scopes.Form.{Form}
 use Rattle.task_code_registers.specs.Scopes.{form_value}
 use Rattle.task_code_registers.proofs.Knowing.{linear-small}
 use Rattle.task_code_loops.specs.declared.known.Known.{Known}
-use Rattle.task_code_loops.specs.Known.{AreKnown, IsRewritten}
+use Rattle.task_code_loops.specs.Known.{AreKnown}
 use Rattle.task_code_loops.specs.Sums.{IsCombined}
 use Rattle.task_code_values.proofs.Evaluating.{value_number, value_linear, value_binary}
 use Rattle.task_code_values.proofs.Evaluating.{loads_binary}
 use Rattle.task_code_names.proofs.Alike.{alike-binary, loads_number, loads_linear}
-use Rattle.task_code_statements.specs.Rewriting.{IsSameSum, IsSameExpr, IsBinary, IsLeafSum}
+use Rattle.task_code_statements.specs.Rewriting.{IsSameExpr, IsBinary, IsLeafSum}
 
 -- ---- sums
 
@@ -36,13 +36,6 @@ first-form values form =
     let g : (linear_value values form.sum + 0 * form.per_hart) % 2 ^ 32 ≡ linear_value values form.sum = omega (arith, l) in
     g
 
-pub same-sum : (known : List Known) (own : Linear) (form made : Form) → form ≡ record { sum = own; per_hart = 0 } → IsRewritten known form made
-    → IsSameSum known own made.sum
-same-sum known own form made is x = record {
-  value_is = λ values are.
-      sym (first-form values made) ∙ x 0 values are ∙ ap (form_value 0 values) is ∙ form-sum 0 values own;
-}
-
 -- ---- operations on sums
 
 pub leaf-number : (own : Expr) (n : ℕ) (sum : Linear) → own ≡ e.Number n → ((values : Values) → linear_value values sum ≡ n) → IsLeafSum own sum
@@ -57,7 +50,7 @@ leaf-linear own x sum is made = subst (λ y. IsLeafSum y sum) (sym is) (record {
   none = λ reads values. loads_linear reads values x;
 })
 
-pub binary-plain : (o : Operation) (a b : Expr) → IsBinary o a b (e.Binary o a b)
+binary-plain : (o : Operation) (a b : Expr) → IsBinary o a b (e.Binary o a b)
 binary-plain o a b = record { value_is = λ reads values. value_binary reads values o a b; loads_are = λ reads values. loads_binary reads values o a b }
 
 pub binary-sum : (o : Operation) (a b : Expr) (x y sum : Linear) → IsLeafSum a x → IsLeafSum b y → IsCombined o x y sum → IsBinary o a b (e.Linear sum)
@@ -80,7 +73,15 @@ same-made known own o a b x y p q made is ex ey one two m =
 pub leaf-found : (own : Expr) (x : Linear) (found : Option Linear) → found ≡ Some x → IfSome found (IsLeafSum own) → IsLeafSum own x
 leaf-found own x found e is = subst (λ o. IfSome o (IsLeafSum own)) e is
 
-pub sums-found : (o : Operation) (a b : Expr) (x y : Linear) (found : Option Linear) → IsLeafSum a x → IsLeafSum b y → IfSome found (IsCombined o x y)
-    → IfSome found (λ sum. IsBinary o a b (e.Linear sum))
-sums-found o a b x y None one two is = tt
-sums-found o a b x y (Some sum) one two is = binary-sum o a b x y sum one two is
+pub sum-found : (o : Operation) (b : Expr) (x y : Linear) (found : Option Linear) → IsLeafSum b y → IfSome found (IsCombined o x y)
+    → IfSome found (λ sum. (a : Expr) → IsLeafSum a x → IsBinary o a b (e.Linear sum))
+sum-found o b x y None two is = tt
+sum-found o b x y (Some sum) two is = λ a one. binary-sum o a b x y sum one two is
+
+pub sums-found : (o : Operation) (a b : Expr) (x : Linear) (found : Option Linear) → IsLeafSum a x
+    → IfSome found (λ sum. (p : Expr) → IsLeafSum p x → IsBinary o p b (e.Linear sum)) → IfSome found (λ sum. IsBinary o a b (e.Linear sum))
+sums-found o a b x None one is = tt
+sums-found o a b x (Some sum) one is = is a one
+
+pub binary-boxed : (o : Operation) (a b x y : Expr) → x ≡ a → y ≡ b → IsBinary o a b (e.Binary o x y)
+binary-boxed o a b x y ex ey = subst (λ t. IsBinary o a b t) (sym (ap (λ t. e.Binary o t y) ex ∙ ap (e.Binary o a) ey)) (binary-plain o a b)

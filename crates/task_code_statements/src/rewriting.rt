@@ -1,6 +1,7 @@
 //! Stores by the loop variables that aren't known.
 
 ghost use Rattle.std.specs.Prelude.{◌≡◌, IfOk, IfSome};
+ghost use Rattle.loop_ir.specs.declared.expressions.Expr.{Expr};
 ghost use Rattle.loop_ir.specs.declared.expressions.Expr.TheVariants as expressions;
 ghost use Rattle.task_code_statements.specs.Rewriting.{IsBinary, IsLeafSum, IsSameExpr, IsSameStore, IsSameSum};
 
@@ -9,21 +10,19 @@ use loop_ir::expressions::{Expr, Linear};
 use loop_ir::statements::Store;
 use sqlite_items::Boxed;
 use std::alloc::{AllocError, Global};
-use task_code_loops::known::{Known, by_others};
+use task_code_loops::known::{Known, linear_by_others};
 use task_code_loops::sums::combined;
-use task_code_registers::scopes::Form;
 
 /// A sum by other loop variables than the known ones.
 pub fn sum_by_others(alloc: Global, own: &Linear, known: &[Known]) -> Result<Linear, AllocError>
     ensures { IfOk result (IsSameSum known.now own.now) }
 {
-    let sum = own.copy(alloc)?;
-    if known.len() == 0 {
+    if known.is_empty() {
+        let sum = own.copy(alloc)?;
         return Ok(sum);
     }
-    let form = Form { sum, per_hart: 0 };
-    let made = by_others(alloc, &form, known)?;
-    Ok(made.sum)
+    let made = linear_by_others(alloc, own, known)?;
+    Ok(made)
 }
 
 /// A number or a sum as a sum.
@@ -40,7 +39,50 @@ pub(crate) fn leaf_sum(alloc: Global, e: &Expr) -> Result<Option<Linear>, AllocE
     }
 }
 
-/// What an operation makes of two expressions that are sums, where it is a sum.
+/// Whether an operation makes sums of sums. What others are given need not be copied.
+fn makes_sums(operation: Operation) -> bool {
+    match operation {
+        Operation::Add => true,
+        Operation::Subtract => true,
+        Operation::Multiply => true,
+        _ => false,
+    }
+}
+
+/// Whether an expression is a number or a sum.
+fn is_leaf(e: &Expr) -> bool {
+    match e {
+        Expr::Number(_) => true,
+        Expr::Linear(_) => true,
+        _ => false,
+    }
+}
+
+/// What an operation makes of a sum and an expression, where that is a sum too, and so is what it makes.
+fn sum_with(
+    alloc: Global,
+    operation: Operation,
+    x: Linear,
+    b: &Expr,
+) -> Result<Option<Linear>, AllocError>
+    ensures { IfOk result (λ found. IfSome found (λ sum. (a : Expr) → IsLeafSum a x → IsBinary operation a b.now
+        (expressions.Linear sum))) }
+{
+    match b {
+        Expr::Number(n) => {
+            let y = Linear::of_number(alloc, *n);
+            let found = combined(alloc, operation, x, &y)?;
+            Ok(found)
+        }
+        Expr::Linear(y) => {
+            let found = combined(alloc, operation, x, y)?;
+            Ok(found)
+        }
+        _ => Ok(None),
+    }
+}
+
+/// What an operation makes of two expressions that are sums, where it is a sum. The first one's sum is copied.
 fn sum_of_both(
     alloc: Global,
     operation: Operation,
@@ -49,30 +91,29 @@ fn sum_of_both(
 ) -> Result<Option<Linear>, AllocError>
     ensures { IfOk result (λ found. IfSome found (λ sum. IsBinary operation a.now b.now (expressions.Linear sum))) }
 {
+    if !makes_sums(operation) || !is_leaf(b) {
+        return Ok(None);
+    }
     match leaf_sum(alloc, a)? {
         None => Ok(None),
-        Some(x) => match leaf_sum(alloc, b)? {
-            None => Ok(None),
-            Some(y) => {
-                let found = combined(alloc, operation, x, &y)?;
-                Ok(found)
-            }
-        },
+        Some(x) => {
+            let found = sum_with(alloc, operation, x, b)?;
+            Ok(found)
+        }
     }
 }
 
 /// What an operation makes of two expressions: a sum where it is one.
-fn binary_of(
-    alloc: Global,
-    operation: Operation,
-    a: Boxed<Expr>,
-    b: Boxed<Expr>,
-) -> Result<Expr, AllocError>
+fn binary_of(alloc: Global, operation: Operation, a: Expr, b: Expr) -> Result<Expr, AllocError>
     ensures { IfOk result (IsBinary operation a b) }
 {
-    match sum_of_both(alloc, operation, a.get(), b.get())? {
+    match sum_of_both(alloc, operation, &a, &b)? {
         Some(sum) => Ok(Expr::Linear(sum)),
-        None => Ok(Expr::Binary(operation, a, b)),
+        None => {
+            let first = Boxed::new(alloc, a)?;
+            let second = Boxed::new(alloc, b)?;
+            Ok(Expr::Binary(operation, first, second))
+        }
     }
 }
 
@@ -102,8 +143,8 @@ pub fn by_other_variables(alloc: Global, e: &Expr, known: &[Known]) -> Result<Ex
             Ok(Expr::Linear(sum))
         }
         Expr::Binary(operation, a, b) => {
-            let first = part_by_others(alloc, a.get(), known)?;
-            let second = part_by_others(alloc, b.get(), known)?;
+            let first = by_other_variables(alloc, a.get(), known)?;
+            let second = by_other_variables(alloc, b.get(), known)?;
             let made = binary_of(alloc, *operation, first, second)?;
             Ok(made)
         }
