@@ -134,7 +134,7 @@ pub(crate) fn emit_form_operand(
     ensures { IfOk result (λ s. MakesHeld code.old.items code.new.items (sum_words form.now.per_hart form.now.sum.terms)
         scope.now address_register s (λ hart values. form_value hart values form.now)) }
 {
-    match find(alloc, scope, form, true)? {
+    match find(scope, form, true) {
         Some(found) => {
             if found.number == 0 {
                 return Ok(found.register);

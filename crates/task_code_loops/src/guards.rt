@@ -34,7 +34,7 @@ pub fn emit_guarded(
     if words >= 1 << 18 {
         return Err(CodeFault::TooLong);
     }
-    let made = emit_known(alloc, code, scope, form, ADDRESS)?;
+    let made = emit_known(code, scope, form, ADDRESS)?;
     if made {
         emit_number(code, SCRATCH, extent)?;
         branch_below(code, ADDRESS, SCRATCH)?;

@@ -19,7 +19,6 @@ use task_code_registers::sums::{emit_form, find, have_registers, nearest};
 ///
 /// Memory ran out.
 pub fn emit_known(
-    alloc: Global,
     code: &mut Vec<u32>,
     scope: &[Held],
     form: &Form,
@@ -30,10 +29,10 @@ pub fn emit_known(
     ensures no { IfOk result (IsUnknownIf code.old.items code.new.items scope.now form.now) }
 {
     if have_registers(scope, form.sum.terms.as_slice()) {
-        emit_form(alloc, code, scope, form, register)?;
+        emit_form(code, scope, form, register)?;
         return Ok(true);
     }
-    match nearest(alloc, scope, form)? {
+    match nearest(scope, form) {
         Some(found) => {
             emit_plus(code, register, found.register, found.number)?;
             Ok(true)
@@ -63,7 +62,7 @@ pub fn hold_known(
         None => Ok(None),
         Some(register) => {
             let start = at_value(alloc, form, counter, 0)?;
-            let made = emit_known(alloc, code, scope, &start, register)?;
+            let made = emit_known(code, scope, &start, register)?;
             if made {
                 let inner = with_held(alloc, scope, register, form)?;
                 return Ok(Some(Taken {
@@ -87,7 +86,7 @@ fn hold_wanted(
 ) -> Result<Vec<Held>, AllocError>
     ensures { IfOk result (λ s. GainsForm code.old.items code.new.items counter form.now reserved scope.items s.items) }
 {
-    if find(alloc, scope.as_slice(), form, true)?.is_some() {
+    if find(scope.as_slice(), form, true).is_some() {
         return Ok(scope);
     }
     match hold_known(alloc, code, scope.as_slice(), counter, form, reserved)? {

@@ -29,21 +29,21 @@ struct Use {
 }
 
 /// Whether a form is so near another one that an immediate tells them apart.
-fn is_near(alloc: Global, form: &Form, base: &Form) -> Result<bool, AllocError> {
-    match distance(alloc, form, base)? {
-        Some(number) => Ok(fits(number)),
-        None => Ok(false),
+fn is_near(form: &Form, base: &Form) -> bool {
+    match distance(form, base) {
+        Some(number) => fits(number),
+        None => false,
     }
 }
 
 /// Where a form stands that is near this one.
-fn place_near(alloc: Global, found: &[Use], form: &Form) -> Result<Option<usize>, AllocError> {
+fn place_near(found: &[Use], form: &Form) -> Option<usize> {
     for (place, own) in found.iter().enumerate() {
-        if is_near(alloc, form, &own.form)? {
-            return Ok(Some(place));
+        if is_near(form, &own.form) {
+            return Some(place);
         }
     }
-    Ok(None)
+    None
 }
 
 /// Whether an instruction makes a form of nothing.
@@ -52,8 +52,8 @@ fn is_small(form: &Form) -> bool {
 }
 
 /// Counts so many uses of a form.
-fn count(alloc: Global, found: &mut Vec<Use>, form: Form, times: u32) -> Result<(), AllocError> {
-    match place_near(alloc, found.as_slice(), &form)? {
+fn count(found: &mut Vec<Use>, form: Form, times: u32) -> Result<(), AllocError> {
+    match place_near(found.as_slice(), &form) {
         Some(place) => {
             if place < found.len() {
                 found[place].times = found[place].times.saturating_add(times);
@@ -102,14 +102,14 @@ fn count_point(
     let x = column.unwrap_or(Linear::of_number(alloc, 0));
     let y = row.unwrap_or(Linear::of_number(alloc, 0));
     let form = point_form(alloc, &place, &x, &y)?;
-    count(alloc, found, form, 1)?;
+    count(found, form, 1)?;
     Ok(())
 }
 
 /// Counts a number that has to stand in a register; 0 always does.
 fn count_number(alloc: Global, own: u32, found: &mut Vec<Use>) -> Result<(), AllocError> {
     if own != 0 {
-        count(alloc, found, number(alloc, own), 1)?;
+        count(found, number(alloc, own), 1)?;
     }
     Ok(())
 }
@@ -145,7 +145,7 @@ fn count_value(alloc: Global, own: Linear, found: &mut Vec<Use>) -> Result<(), A
         sum: own,
         per_hart: 0,
     };
-    count(alloc, found, form, VALUE_USES)?;
+    count(found, form, VALUE_USES)?;
     Ok(())
 }
 
@@ -293,7 +293,7 @@ fn count_at_zero(
         let form = at_value(alloc, &own.form, counter, 0)?;
         let is_own = own.form.sum.terms.len() == 0;
         if is_own || !is_small(&form) {
-            count(alloc, found, form, own.times)?;
+            count(found, form, own.times)?;
         }
     }
     Ok(())
@@ -330,7 +330,7 @@ fn count_by_others(
 ) -> Result<(), AllocError> {
     for own in inner {
         let form = by_others(alloc, &own.form, known)?;
-        count(alloc, found, form, own.times)?;
+        count(found, form, own.times)?;
     }
     Ok(())
 }
@@ -372,9 +372,9 @@ fn count_tested(
                     sum: left,
                     per_hart: 0,
                 };
-                count(alloc, found, form, VALUE_USES)?;
+                count(found, form, VALUE_USES)?;
             } else {
-                count(alloc, found, form, VALUE_USES)?;
+                count(found, form, VALUE_USES)?;
             }
         }
     }

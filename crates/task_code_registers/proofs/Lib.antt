@@ -1,8 +1,10 @@
 pub mod Advancing
+pub mod Agreeing
 pub mod Counting
 pub mod Ending
 pub mod Entering
 pub mod Going
+pub mod Indexing
 pub mod Knowing
 pub mod Looping
 pub mod Making

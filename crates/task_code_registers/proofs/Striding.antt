@@ -71,7 +71,7 @@ unfolding linear_value
 linear-steady counter v values own e = ap (λ s. (own.number + s) % 2 ^ 32) (sum-steady counter v values own.terms e)
 
 -- by iterations
-regrouped : (number v s rest : ℕ) → (number + (v * s + rest)) % 2 ^ 32 ≡ ((number + rest) + v * (s % 2 ^ 32)) % 2 ^ 32
+pub regrouped : (number v s rest : ℕ) → (number + (v * s + rest)) % 2 ^ 32 ≡ ((number + rest) + v * (s % 2 ^ 32)) % 2 ^ 32
 regrouped number v s rest =
     let e : number + (v * s + rest) ≡ (number + rest) + v * s = omega arith in
     ap (λ n. n % 2 ^ 32) e ∙ sym (add-mod-mod (number + rest) (v * s) (2 ^ 32))

@@ -1,7 +1,6 @@
 -- Forms made in registers.
 use Rattle.std.proofs.Common.{◌≡◌, ℕ, suc, ◌+◌, ◌-◌, ◌*◌, ◌%◌, ◌^◌, ◌<◌, ◌≤◌, List, [], ◌∷◌, ◌++◌, length, get_or, take, drop, true}
 use Rattle.std.proofs.Common.{refl, ap, ◌∙◌, sym, subst, arith, inl, inr}
-use Rattle.std.specs.Prelude.{◌≢◌, ◌⊎◌}
 use Rattle.std.proofs.Math.Nat.{mod-add-mod, add-mod-mod}
 use Rattle.std.proofs.lemmas.Nat.{mul-mod_first}
 use Rattle.halide_pipeline.specs.Words as word
@@ -17,39 +16,38 @@ use Rattle.task_code_registers.specs.Emitting.{Fits, Makes, MakesOf, MakesForm, 
 use Rattle.task_code_registers.specs.Emitting.{base_words, sum_words, sum_value}
 use Rattle.task_code_registers.specs.Registers.{hart_number, may_hold}
 use Rattle.task_code_registers.specs.Scopes.{Knows, form_value}
-use Rattle.task_code_registers.proofs.Knowing.{may-hold, knows-zero, knows-hart, knows-still, kept-apart, others-are, linear-small, form-small}
-use Rattle.task_code_registers.proofs.Making.{puts-then, puts-is, short-then, base-least, base-some}
+use Rattle.task_code_registers.proofs.Knowing.{may-hold, knows-zero, knows-hart, knows-still, kept-apart, others-are, form-small}
+use Rattle.task_code_registers.proofs.Making.{puts-then, puts-is, short-then, base-least}
 
 -- ---- distances
 
-apart-by : (a b d : ℕ) → a < 2 ^ 32 → b < 2 ^ 32 → d ≡ (a + (2 ^ 32 - b)) % 2 ^ 32 → a ≡ (b + d) % 2 ^ 32
-apart-by a b d la lb e = omega (arith, la, lb, e)
+apart-by : (n m s t d : ℕ) → m < 2 ^ 32 → s % 2 ^ 32 ≡ t % 2 ^ 32 → d ≡ (n + (2 ^ 32 - m)) % 2 ^ 32
+    → (n + s) % 2 ^ 32 ≡ ((m + t) % 2 ^ 32 + d) % 2 ^ 32
+apart-by n m s t d small es e = omega (arith, small, es, e)
 
-linear-apart : (values : Values) (own base made : Linear) (d : ℕ) → d ≡ word.add made.number 0 → sum_of values made.terms ≡ 0
-    → linear_value values made ≡ word.subtract (linear_value values own) (linear_value values base)
-    → linear_value values own ≡ (linear_value values base + d) % 2 ^ 32
-unfolding linear_value word.subtract word.add
-linear-apart values own base made d ed none e =
-    apart-by (linear_value values own) (linear_value values base) d (linear-small values own) (linear-small values base)
-    (ed ∙ sym (ap (λ s. (made.number + s) % 2 ^ 32) none) ∙ e)
+linear-apart : (values : Values) (own base : Linear) (d : ℕ) → base.number < 2 ^ 32 → d ≡ word.subtract own.number base.number
+    → sum_of values own.terms % 2 ^ 32 ≡ sum_of values base.terms % 2 ^ 32 → linear_value values own ≡ (linear_value values base + d) % 2 ^ 32
+unfolding linear_value word.subtract
+linear-apart values own base d small e same =
+    apart-by own.number base.number (sum_of values own.terms) (sum_of values base.terms) d small same e
 
 moved : (a b h d : ℕ) → a ≡ (b + d) % 2 ^ 32 → (a + h) % 2 ^ 32 ≡ ((b + h) % 2 ^ 32 + d) % 2 ^ 32
 moved a b h d e = omega (arith, e)
 
--- two forms with the same part of the hart's number
-pub form-apart : (own base : Form) (made : Linear) (d : ℕ) → own.per_hart ≡ base.per_hart → d ≡ word.add made.number 0
-    → ((values : Values) → sum_of values made.terms ≡ 0)
-    → ((values : Values) → linear_value values made ≡ word.subtract (linear_value values own.sum) (linear_value values base.sum))
+-- two forms with the same part of the hart's number and the same sum of terms
+pub form-apart : (own base : Form) (d : ℕ) → base.sum.number < 2 ^ 32 → own.per_hart ≡ base.per_hart
+    → d ≡ word.subtract own.sum.number base.sum.number
+    → ((values : Values) → sum_of values own.sum.terms % 2 ^ 32 ≡ sum_of values base.sum.terms % 2 ^ 32)
     → (hart : ℕ) (values : Values) → form_value hart values own ≡ (form_value hart values base + d) % 2 ^ 32
 unfolding form_value
-form-apart own base made d same ed none e hart values =
-    ap (λ k. (linear_value values own.sum + hart * k) % 2 ^ 32) same
+form-apart own base d small part e same hart values =
+    ap (λ k. (linear_value values own.sum + hart * k) % 2 ^ 32) part
     ∙ moved (linear_value values own.sum) (linear_value values base.sum) (hart * base.per_hart) d
-    (linear-apart values own.sum base.sum made d ed (none values) (e values))
+    (linear-apart values own.sum base.sum d small e (same values))
 
-pub distance-word : (d n : ℕ) → d ≡ word.add n 0 → d < 2 ^ 32
-unfolding word.add
-distance-word d n e = omega (arith, e)
+pub difference-word : (own base : Form) (d : ℕ) → d ≡ word.subtract own.sum.number base.sum.number → d < 2 ^ 32
+unfolding word.subtract
+difference-word own base d e = omega (arith, e)
 
 -- ---- what is near
 

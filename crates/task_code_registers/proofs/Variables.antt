@@ -2,7 +2,7 @@
 use Rattle.std.proofs.Common.{◌≡◌, ℕ, ◌+◌, ◌-◌, ◌*◌, ◌%◌, ◌^◌, ◌≤◌, List, [], ◌∷◌, length, get_or, take, drop, true}
 use Rattle.std.proofs.Common.{refl, ap, ◌∙◌, sym, arith}
 use Rattle.std.specs.Prelude.{◌==◌, ◌&&◌, ◌||◌}
-use Rattle.std.proofs.lemmas.Bool.{and_parts, eqb-true, true≢false}
+use Rattle.std.proofs.lemmas.Bool.{and_parts, eq-eqb, eqb-true, true≢false}
 use Rattle.halide_pipeline.specs.declared.expressions.Variable.{Variable}
 use Rattle.halide_pipeline.specs.declared.expressions.Variable.TheVariants as variables
 use Rattle.halide_pipeline.specs.Expressions.{same_variable}
@@ -41,6 +41,20 @@ same_counter-true a b t =
     let func : a.func ≡ b.func = eqb-true a.func b.func each.0 in
     let id : a.id ≡ b.id = same_id-true a.id b.id each.1 in
     ap (λ n. record { func = n; id = a.id }) func ∙ ap (λ i. record { func = b.func; id = i }) id
+
+same_variable-self : (a : Variable) → same_variable a a ≡ true
+same_variable-self variables.FirstArgument = refl
+same_variable-self variables.SecondArgument = refl
+same_variable-self variables.FirstReduction = refl
+same_variable-self variables.SecondReduction = refl
+
+same_id-self : (a : LoopId) → same_id a a ≡ true
+same_id-self (ids.Whole a) = same_variable-self a
+same_id-self (ids.Outer a) = eq-eqb a a refl
+same_id-self (ids.Inner a) = eq-eqb a a refl
+
+pub same_counter-self : (a : Counter) → same_counter a a ≡ true
+same_counter-self a = ap (λ t. t && same_id a.id a.id) (eq-eqb a.func a.func refl) ∙ same_id-self a.id
 
 -- ---- forms that are a variable alone
 

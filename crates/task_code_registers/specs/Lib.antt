@@ -1,6 +1,7 @@
 pub mod Doing
 pub mod Emitting
 pub mod Holding
+pub mod Indexed
 pub mod Looping
 pub mod Points
 pub mod Registers

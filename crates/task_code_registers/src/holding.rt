@@ -113,7 +113,7 @@ pub fn hold(
         None => Ok(None),
         Some(register) => {
             let start = at_value(alloc, form, counter, 0)?;
-            emit_form(alloc, code, scope, &start, register)?;
+            emit_form(code, scope, &start, register)?;
             let inner = with_held(alloc, scope, register, form)?;
             Ok(Some(Taken {
                 scope: inner,

@@ -7,6 +7,7 @@
 //! - [`numbers`]: appends what leaves a number, or a register plus or times a number.
 //! - [`sums`]: appends what leaves a form's value or makes an address, from the nearest form that a register holds
 //!   or term by term.
+//! - [`indexed`]: appends what makes a form of a held one and a scaled index (`specs/Indexed.antt`).
 //! - [`points`]: the address of a point, whose column and row are sums of loop variables, as a form
 //!   (`specs/Points.antt`).
 //! - [`holding`]: appends what holds a form in a register while a loop runs, and what makes of the forms of an
@@ -16,6 +17,7 @@
 #![tactic(auto)]
 
 pub mod holding;
+pub mod indexed;
 pub mod laws;
 pub mod numbers;
 pub mod points;

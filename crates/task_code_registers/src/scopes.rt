@@ -166,13 +166,20 @@ fn last_left(scope: &[Held], end: u8) -> Option<u8>
     }
 }
 
+/// How many registers may still be given to forms.
+pub fn left_registers(scope: &[Held]) -> u8
+    ensures { result ≡ left_count scope.now }
+{
+    count_left(scope, FIRST_VALUE)
+}
+
 /// A register that holds nothing yet and may hold a form, where more than so many are left.
 pub fn free_register(scope: &[Held], reserved: usize) -> Option<u8>
     ensures some { IfSome result (λ found. IsLeft scope.now found × (reserved < left_count scope.now)) }
     ensures none { result ≡ None → left_count scope.now ≤ reserved }
 {
     let found = last_left(scope, FIRST_VALUE)?;
-    if usize::from(count_left(scope, FIRST_VALUE)) > reserved {
+    if usize::from(left_registers(scope)) > reserved {
         Some(found)
     } else {
         None

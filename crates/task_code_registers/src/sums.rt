@@ -7,7 +7,9 @@ ghost use Rattle.task_code_registers.specs.Emitting.{Fits, HoldsVariable, IsApar
 ghost use Rattle.task_code_registers.specs.Emitting.{Makes, MakesBase, MakesFormAddress, MakesOf, MakesSum, MakesValue};
 ghost use Rattle.task_code_registers.specs.Registers.{IsPlace, IsSource};
 ghost use Rattle.task_code_registers.specs.Scopes as spec;
+ghost use Rattle.task_code_registers.specs.Strides.{AgreeOn};
 
+use crate::holding::stride_of;
 use crate::numbers::{emit_number, emit_plus, emit_times, fits};
 use crate::registers::{HART_NUMBER, SECOND_SCRATCH, may_hold};
 use crate::scopes::{Form, Held};
@@ -36,20 +38,55 @@ fn all_zero(terms: &[Term]) -> bool
     }
 }
 
-/// By how much a form is more than another one, where that is the same number on all harts and in all iterations.
-pub fn distance(alloc: Global, form: &Form, base: &Form) -> Result<Option<u32>, AllocError>
-    ensures { IfOk result (λ found. IfSome found (IsApart form.now base.now)) }
+/// Whether two sums have the same terms in the same order.
+pub fn same_terms(a: &[Term], b: &[Term]) -> bool
+    ensures { result ≡ true → a.now ≡ b.now }
 {
-    if form.per_hart != base.per_hart {
-        return Ok(None);
+    match a {
+        [] => b.is_empty(),
+        [first, others @ ..] => match b {
+            [] => false,
+            [own, rest @ ..] => {
+                if same_counter(first.counter, own.counter) && first.stride == own.stride {
+                    same_terms(others, rest)
+                } else {
+                    false
+                }
+            }
+        },
     }
-    let copied = form.sum.copy(alloc)?;
-    let made = copied.minus(&base.sum)?;
-    let number = words::add(made.number, 0);
-    if all_zero(made.terms.as_slice()) {
-        Ok(Some(number))
+}
+
+/// Whether two sums have the same stride in all, of each loop variable of these terms.
+fn have_same_strides(own: &[Term], a: &[Term], b: &[Term]) -> bool
+    ensures { result ≡ true → AgreeOn own.now a.now b.now }
+{
+    match own {
+        [] => true,
+        [first, others @ ..] => {
+            stride_of(a, first.counter) == stride_of(b, first.counter)
+                && have_same_strides(others, a, b)
+        }
+    }
+}
+
+/// Whether two sums of terms are the same in all iterations.
+fn are_same(a: &[Term], b: &[Term]) -> bool
+    ensures { result ≡ true → (values : Values) → sum_of values a.now % 2 ^ 32 ≡ sum_of values b.now % 2 ^ 32 }
+{
+    same_terms(a, b) || (have_same_strides(a, a, b) && have_same_strides(b, a, b))
+}
+
+/// By how much a form is more than another one, where that is the same number on all harts and in all iterations.
+pub fn distance(form: &Form, base: &Form) -> Option<u32>
+    ensures { IfSome result (IsApart form.now base.now) }
+{
+    if form.per_hart == base.per_hart
+        && are_same(form.sum.terms.as_slice(), base.sum.terms.as_slice())
+    {
+        Some(words::subtract(form.sum.number, base.sum.number))
     } else {
-        Ok(None)
+        None
     }
 }
 
@@ -61,48 +98,41 @@ pub struct Near {
 }
 
 /// A register whose form differs from this one by a number: by one that fits an immediate, if only these are wanted.
-pub fn find(
-    alloc: Global,
-    scope: &[Held],
-    form: &Form,
-    is_small: bool,
-) -> Result<Option<Near>, AllocError>
-    ensures small { is_small ≡ true → IfOk result (λ found. IfSome found (λ near. Fits near.number)) }
-    ensures near { IfOk result (λ found. IfSome found (λ near. IsNear scope.now form.now near.register near.number)) }
+pub fn find(scope: &[Held], form: &Form, is_small: bool) -> Option<Near>
+    ensures small { is_small ≡ true → IfSome result (λ near. Fits near.number) }
+    ensures near { IfSome result (λ near. IsNear scope.now form.now near.register near.number) }
 {
     match scope {
-        [] => Ok(None),
+        [] => None,
         [first, others @ ..] => {
-            match distance(alloc, form, &first.form)? {
+            match distance(form, &first.form) {
                 Some(number) => {
                     if may_hold(first.register) && (!is_small || fits(number)) {
-                        return Ok(Some(Near {
+                        return Some(Near {
                             register: first.register,
                             number,
-                        }));
+                        });
                     }
                 }
                 None => {}
             }
-            let found = find(alloc, others, form, is_small)?;
-            Ok(found)
+            find(others, form, is_small)
         }
     }
 }
 
 /// The nearest of them. For a number alone only a small difference counts, since a literal takes two instructions.
-pub fn nearest(alloc: Global, scope: &[Held], form: &Form) -> Result<Option<Near>, AllocError>
-    ensures near { IfOk result (λ found. IfSome found (λ near. IsNear scope.now form.now near.register near.number)) }
-    ensures worth { IfOk result (λ found. IfSome found (λ near. IsWorth form.now near.number)) }
+pub fn nearest(scope: &[Held], form: &Form) -> Option<Near>
+    ensures near { IfSome result (λ near. IsNear scope.now form.now near.register near.number) }
+    ensures worth { IfSome result (λ near. IsWorth form.now near.number) }
 {
-    match find(alloc, scope, form, true)? {
-        Some(found) => Ok(Some(found)),
+    match find(scope, form, true) {
+        Some(found) => Some(found),
         None => {
             if form.per_hart == 0 && all_zero(form.sum.terms.as_slice()) {
-                return Ok(None);
+                return None;
             }
-            let found = find(alloc, scope, form, false)?;
-            Ok(found)
+            find(scope, form, false)
         }
     }
 }
@@ -126,7 +156,7 @@ fn is_once(counter: Counter, terms: &[Term]) -> bool
 }
 
 /// Whether some register holds a loop variable alone.
-fn has_variable(scope: &[Held], counter: Counter) -> bool
+pub(crate) fn has_variable(scope: &[Held], counter: Counter) -> bool
     ensures { result ≡ spec.has_variable scope.now counter }
 {
     match scope {
@@ -174,7 +204,7 @@ pub fn register_of(scope: &[Held], counter: Counter) -> u8
 // ---- sums, term by term
 
 /// Appends what adds the product of a register and a stride.
-fn emit_term(code: &mut Vec<u32>, r: u8, s: u8, stride: u32) -> Result<(), AllocError>
+pub(crate) fn emit_term(code: &mut Vec<u32>, r: u8, s: u8, stride: u32) -> Result<(), AllocError>
     requires { IsPlace r × IsSource s }
     ensures { OnOk result (Makes code.old.items code.new.items 4 r (λ f. (f r + f s * stride) % 2 ^ 32)) }
 {
@@ -188,7 +218,7 @@ fn emit_term(code: &mut Vec<u32>, r: u8, s: u8, stride: u32) -> Result<(), Alloc
 }
 
 /// Appends what leaves a number and the product of a register, which holds a word, and a stride.
-fn emit_product(
+pub(crate) fn emit_product(
     code: &mut Vec<u32>,
     r: u8,
     s: u8,
@@ -260,18 +290,12 @@ fn emit_sum(
 /// # Errors
 ///
 /// Memory ran out.
-pub fn emit_form(
-    alloc: Global,
-    code: &mut Vec<u32>,
-    scope: &[Held],
-    form: &Form,
-    r: u8,
-) -> Result<(), AllocError>
+pub fn emit_form(code: &mut Vec<u32>, scope: &[Held], form: &Form, r: u8) -> Result<(), AllocError>
     requires place { IsPlace r }
     requires held { spec.have_registers scope.now form.now.sum.terms ≡ true }
     ensures { OnOk result (MakesValue code.old.items code.new.items scope.now form.now r) }
 {
-    match nearest(alloc, scope, form)? {
+    match nearest(scope, form) {
         Some(found) => {
             emit_plus(code, r, found.register, found.number)?;
             Ok(())
@@ -327,7 +351,7 @@ pub fn emit_address(
     requires held { spec.have_registers scope.now form.now.sum.terms ≡ true }
     ensures { IfOk result (MakesFormAddress code.old.items code.new.items scope.now form.now r) }
 {
-    match find(alloc, scope, form, true)? {
+    match find(scope, form, true) {
         Some(found) => {
             return Ok(At {
                 register: found.register,
@@ -337,7 +361,7 @@ pub fn emit_address(
         None => {}
     }
     let (rest, offset) = without_offset(alloc, form)?;
-    emit_form(alloc, code, scope, &rest, r)?;
+    emit_form(code, scope, &rest, r)?;
     Ok(At {
         register: r,
         offset,

@@ -24,7 +24,7 @@ pub fn emit_pointer(
     ensures { IfOk result (λ b. MakesPointer code.old.items code.new.items scope.now counter b form.now) }
 {
     let start = at_value(alloc, form, counter, 0)?;
-    match find(alloc, scope, &start, true)? {
+    match find(scope, &start, true) {
         Some(found) => {
             if found.number == 0 {
                 return Ok(found.register);

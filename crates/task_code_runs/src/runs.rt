@@ -198,8 +198,8 @@ fn emit_scattered(
 ///
 /// # Errors
 ///
-/// Memory ran out, or groups and registers do not suffice for this way of making code, as where a stride is 0, the scope
-/// holds `vl` or `vtype`, or, of values in parts, a held form has the loop's variable.
+/// Memory ran out, or groups and registers do not suffice for this way of making code, as where a stride is 0, the
+/// scope holds `vl` or `vtype`, or, of values in parts, a held form has the loop's variable.
 pub fn emit_run(
     alloc: Global,
     code: &mut Vec<u32>,

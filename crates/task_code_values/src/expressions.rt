@@ -42,7 +42,7 @@ pub fn sum_of(alloc: Global, e: &Expr) -> Result<Option<Linear>, AllocError>
 ///
 /// # Errors
 ///
-/// Memory ran out, or a loop variable has no register and no form is near.
+/// Memory ran out, or a loop variable has no register and no held form makes up for it.
 #[cycle(values)]
 pub fn emit_operand(
     alloc: Global,

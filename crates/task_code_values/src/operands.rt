@@ -10,6 +10,7 @@ ghost use Rattle.task_code_values.specs.Making.{MakesHeld};
 
 use loop_ir::expressions::Linear;
 use std::alloc::{AllocError, Global};
+use task_code_registers::indexed::{emit_indexed_address, emit_indexed_form};
 use task_code_registers::numbers::{emit_number, emit_plus};
 use task_code_registers::registers::ZERO;
 use task_code_registers::scopes::{Form, Held};
@@ -38,7 +39,7 @@ pub fn emit_number_operand(
         sum: Linear::of_number(alloc, number),
         per_hart: 0,
     };
-    match find(alloc, scope, &form, true)? {
+    match find(scope, &form, true) {
         Some(found) => {
             if found.number == 0 {
                 return Ok(found.register);
@@ -50,11 +51,12 @@ pub fn emit_number_operand(
     Ok(r)
 }
 
-/// Appends what leaves a form's value in a register: of the nearest form alone, where a loop variable has no register.
+/// Appends what leaves a form's value in a register: where a loop variable has no register, of the nearest form, or of
+/// a held one and a scaled index.
 ///
 /// # Errors
 ///
-/// Memory ran out, or a loop variable has no register and no form is near.
+/// Memory ran out, or a loop variable has no register and no held form makes up for it.
 pub fn emit_reached(
     alloc: Global,
     code: &mut Vec<u32>,
@@ -67,24 +69,29 @@ pub fn emit_reached(
     ensures err { IfErr result (IsFault ⊥ (spec.have_registers scope.now form.now.sum.terms ≡ true → ⊥)) }
 {
     if have_registers(scope, form.sum.terms.as_slice()) {
-        emit_form(alloc, code, scope, form, r)?;
+        emit_form(code, scope, form, r)?;
         return Ok(());
     }
-    match nearest(alloc, scope, form)? {
+    match nearest(scope, form) {
         Some(found) => {
             emit_plus(code, r, found.register, found.number)?;
             Ok(())
         }
-        None => Err(CodeFault::TooDeep),
+        None => {
+            if emit_indexed_form(alloc, code, scope, form, r)? {
+                return Ok(());
+            }
+            Err(CodeFault::TooDeep)
+        }
     }
 }
 
-/// Appends what makes an address, and where it then is, as `emit_address` does: of a near form alone, where a loop
-/// variable has no register.
+/// Appends what makes an address, and where it then is, as `emit_address` does: where a loop variable has no register,
+/// of a near form, or of a held one and a scaled index.
 ///
 /// # Errors
 ///
-/// Memory ran out, or a loop variable has no register and no form is near.
+/// Memory ran out, or a loop variable has no register and no held form makes up for it.
 pub fn emit_reached_address(
     alloc: Global,
     code: &mut Vec<u32>,
@@ -100,12 +107,15 @@ pub fn emit_reached_address(
         let at = emit_address(alloc, code, scope, form, r)?;
         return Ok(at);
     }
-    match find(alloc, scope, form, true)? {
+    match find(scope, form, true) {
         Some(found) => Ok(At {
             register: found.register,
             offset: found.number,
         }),
-        None => Err(CodeFault::TooDeep),
+        None => match emit_indexed_address(alloc, code, scope, form, r)? {
+            Some(at) => Ok(at),
+            None => Err(CodeFault::TooDeep),
+        },
     }
 }
 
@@ -113,7 +123,7 @@ pub fn emit_reached_address(
 ///
 /// # Errors
 ///
-/// Memory ran out, or a loop variable has no register and no form is near.
+/// Memory ran out, or a loop variable has no register and no held form makes up for it.
 pub fn emit_sum_operand(
     alloc: Global,
     code: &mut Vec<u32>,
@@ -128,7 +138,7 @@ pub fn emit_sum_operand(
 {
     let sum = own.copy(alloc)?;
     let form = Form { sum, per_hart: 0 };
-    match find(alloc, scope, &form, true)? {
+    match find(scope, &form, true) {
         Some(found) => {
             if found.number == 0 {
                 return Ok(found.register);

@@ -221,7 +221,7 @@ fn emit_from_column(
 ///
 /// # Errors
 ///
-/// Memory ran out, or a loop variable has no register and no form is near.
+/// Memory ran out, or a loop variable has no register and no held form makes up for it.
 pub fn emit_pixel(
     alloc: Global,
     code: &mut Vec<u32>,

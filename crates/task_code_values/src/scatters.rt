@@ -103,7 +103,7 @@ fn reach_behind(
 ///
 /// # Errors
 ///
-/// Memory ran out, or a loop variable has no register and no form is near.
+/// Memory ran out, or a loop variable has no register and no held form makes up for it.
 pub fn reach_point(
     alloc: Global,
     code: &mut Vec<u32>,

@@ -58,7 +58,7 @@ fn room_limit(frames: Option<u32>) -> u32
 /// # Errors
 ///
 /// Memory ran out, the expression needs more registers than there are and more words than a hart's frame has, or a
-/// loop variable has no register and no form is near.
+/// loop variable has no register and no held form makes up for it.
 pub fn emit_value(
     alloc: Global,
     code: &mut Vec<u32>,
@@ -251,7 +251,7 @@ fn emit_parked(
 /// # Errors
 ///
 /// Memory ran out, the value or an index needs more registers than there are and more words than a hart's frame has, or
-/// a loop variable has no register and no form is near.
+/// a loop variable has no register and no held form makes up for it.
 pub fn prepare_store(
     alloc: Global,
     code: &mut Vec<u32>,
@@ -274,8 +274,8 @@ pub fn prepare_store(
 /// # Errors
 ///
 /// Memory ran out, the value or an index needs more registers than there are and more words than a hart's frame has, a
-/// loop variable has no register and no form is near, or an index beside the value needs more registers than there are
-/// and the scope has lanes.
+/// loop variable has no register and no held form makes up for it, or an index beside the value needs more registers
+/// than there are and the scope has lanes.
 pub fn emit_store(
     alloc: Global,
     code: &mut Vec<u32>,

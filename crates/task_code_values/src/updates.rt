@@ -18,32 +18,15 @@ use crate::scatters::reach_point;
 use crate::sites::{BufferSite, Site};
 use crate::spilling::{SECOND_VALUE, THIRD_VALUE};
 use halide_pipeline::{Operation, Source};
-use loop_ir::expressions::{Expr, Linear, Term, same_counter};
+use loop_ir::expressions::{Expr, Linear};
 use loop_ir::statements::Store;
 use std::alloc::Global;
 use task_code_registers::registers::{ADDRESS, FIRST_VALUE};
+use task_code_registers::sums::same_terms;
 use task_code_scalar::CodeFault;
 use task_code_scalar::places::place_of;
 
 // ---- expressions that are the same
-
-fn same_terms(a: &[Term], b: &[Term]) -> bool
-    ensures { result ≡ true → a.now ≡ b.now }
-{
-    match a {
-        [] => b.len() == 0,
-        [first, others @ ..] => match b {
-            [] => false,
-            [own, rest @ ..] => {
-                if same_counter(first.counter, own.counter) && first.stride == own.stride {
-                    same_terms(others, rest)
-                } else {
-                    false
-                }
-            }
-        },
-    }
-}
 
 fn same_sum(a: &Linear, b: &Linear) -> bool
     ensures { result ≡ true → a.now ≡ b.now }
@@ -141,7 +124,7 @@ fn emit_change(
 ///
 /// # Errors
 ///
-/// Memory ran out, or a loop variable has no register and no form is near.
+/// Memory ran out, or a loop variable has no register and no held form makes up for it.
 pub fn emit_update(
     alloc: Global,
     code: &mut Vec<u32>,

@@ -8,7 +8,7 @@ use Rattle.task_code_lane_values.proofs.scalars.emit_form_operand.Goals as goal
 pub returns-then-found-eq0 : goal.returns-then-found-eq0
 returns-then-found-eq0 c =
     held-near c.args.scope.now c.args.form.now _ c.in-Some.found.register c.in-Some.found.number _ _ (λ hart values. form_value hart values c.args.form.now)
-    (subst (λ o. IfSome o (λ at. IsNear c.args.scope.now c.args.form.now at.register at.number)) c.in-Some.is c.in_ok-found.ensures.near) c.if-found-eq0.true
+    (subst (λ o. IfSome o (λ at. IsNear c.args.scope.now c.args.form.now at.register at.number)) c.in-Some.is c.find.ensures.near) c.if-found-eq0.true
     (λ hart values. refl)
 
 pub returns : goal.returns

@@ -7,6 +7,6 @@ use Rattle.task_code_loops.proofs.holding.emit_known.Goals as goal
 pub returns-in_ok-emit_plus-in-Some-clause-yes : goal.returns-in_ok-emit_plus-in-Some-clause-yes
 returns-in_ok-emit_plus-in-Some-clause-yes c = λ made.
     near-form c.args.scope.now c.args.form.now c.in-Some.found.register c.in-Some.found.number c.args.register _ _
-    (subst (λ o. IfSome o (λ at. IsNear c.args.scope.now c.args.form.now at.register at.number)) c.in-Some.is c.in_ok-found.ensures.near)
-    (subst (λ o. IfSome o (λ at. IsWorth c.args.form.now at.number)) c.in-Some.is c.in_ok-found.ensures.worth)
+    (subst (λ o. IfSome o (λ at. IsNear c.args.scope.now c.args.form.now at.register at.number)) c.in-Some.is c.nearest.ensures.near)
+    (subst (λ o. IfSome o (λ at. IsWorth c.args.form.now at.number)) c.in-Some.is c.nearest.ensures.worth)
     c.in_ok-emit_plus-in-Some.ensures.any c.in_ok-emit_plus-in-Some.ensures.small

@@ -11,4 +11,4 @@ returns-then-fits-clause-near t c =
     (sym c.may_hold.ensures ∙ c.if-may_hold.true)
     (subst (λ o. IfSome o (λ d. (d < 2 ^ 32) × ((hart : ℕ) (values : Values)
     → form_value hart values c.args.form.now ≡ (form_value hart values c.first-item.result.form + d) % 2 ^ 32))) c.in-Some.is
-    c.in_ok-number-in-len1-up.ensures)
+    c.distance.ensures)

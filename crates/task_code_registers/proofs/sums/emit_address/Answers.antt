@@ -7,8 +7,8 @@ use Rattle.task_code_registers.proofs.sums.emit_address.Goals as goal
 pub returns-in-Some : goal.returns-in-Some
 returns-in-Some c =
     address-near c.args.scope.now c.args.form.now c.in-Some.found.register c.in-Some.found.number _ c.args.r _
-    (subst (λ o. IfSome o (λ at. IsNear c.args.scope.now c.args.form.now at.register at.number)) c.in-Some.is c.in_ok-found.ensures.near)
-    (subst (λ o. IfSome o (λ at. Fits at.number)) c.in-Some.is (c.in_ok-found.ensures.small refl))
+    (subst (λ o. IfSome o (λ at. IsNear c.args.scope.now c.args.form.now at.register at.number)) c.in-Some.is c.find.ensures.near)
+    (subst (λ o. IfSome o (λ at. Fits at.number)) c.in-Some.is (c.find.ensures.small refl))
 
 pub returns : goal.returns
 returns c =

@@ -12,7 +12,7 @@ returns-then-found-eq0 c =
     held-near c.args.scope.now (record { sum = c.of_number.result; per_hart = 0 }) c.args.r c.in-Some.found.register c.in-Some.found.number _ _ (λ
     hart values. c.args.number)
     (subst (λ o. IfSome o (λ at. IsNear c.args.scope.now (record { sum = c.of_number.result; per_hart = 0 }) at.register at.number)) c.in-Some.is
-    c.in_ok-found.ensures.near)
+    c.find.ensures.near)
     c.if-found-eq0.true
     (λ hart values. number-alone hart values (record { sum = c.of_number.result; per_hart = 0 }) c.args.number c.ranges.number.fits refl
     c.of_number.ensures.value)

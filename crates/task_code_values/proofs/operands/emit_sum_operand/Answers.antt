@@ -13,7 +13,7 @@ returns-then-found-eq0-clause-ok c =
     held-near c.args.scope.now (record { sum = c.in_ok-sum.sum; per_hart = 0 }) c.args.r c.in-Some.found.register c.in-Some.found.number _ _
     (λ hart values. linear_value values c.args.own.now)
     (subst (λ o. IfSome o (λ at. IsNear c.args.scope.now (record { sum = c.in_ok-sum.sum; per_hart = 0 }) at.register at.number)) c.in-Some.is
-    c.in_ok-found.ensures.near)
+    c.find.ensures.near)
     c.if-found-eq0.true
     (λ hart values. form-alone hart values (record { sum = c.in_ok-sum.sum; per_hart = 0 }) c.args.own.now refl c.in_ok-sum.ensures)
 
