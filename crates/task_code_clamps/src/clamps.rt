@@ -39,8 +39,8 @@ enum Taken {
     Either,
 }
 
-/// Whether an expression loads nothing, being a number or a sum.
-fn is_leaf(e: &Expr) -> bool
+/// Whether an expression is a number or a sum, so that it loads nothing.
+pub fn is_leaf(e: &Expr) -> bool
     ensures { result ≡ true → (reads : Reads) (values : Values) → loads reads values e.now ≡ [] }
 {
     match e {
@@ -273,7 +273,8 @@ fn may_be_zero(e: &Expr) -> bool {
     }
 }
 
-/// Whether something else may be made of an operation with such a second operand. [`of_both`] leaves others alone.
+/// Whether something else may be made of an operation with such a second operand. [`of_both`] leaves others as they
+/// are.
 fn may_change(operation: Operation, b: &Expr) -> bool {
     match operation {
         Operation::Minimum => true,

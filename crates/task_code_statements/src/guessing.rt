@@ -6,13 +6,14 @@ use crate::plain::name;
 use crate::rewriting::store_by_others;
 use crate::splits::{Entered, enter_split, is_cut, unnamed_start, without_last};
 use crate::statements::{is_laid_out, made_store};
+use crate::staying::{add, is_among, is_same_in_all, may_stay_in, staying};
 use crate::vectorizing::is_at_once;
-use loop_ir::expressions::{Counter, Expr, Term, same_counter};
+use loop_ir::expressions::{Counter, Expr, Linear};
 use loop_ir::statements::{LoopKind, Stmt, Store, Whole};
-use sqlite_items::Boxed;
+use sqlite_items::{Boxed, Items};
 use std::alloc::{AllocError, Global};
 use task_code_loops::bounds::Bound;
-use task_code_names::copies::{copy_of, is_same, is_still};
+use task_code_names::copies::copy_of;
 use task_code_names::names::{Named, new_named, store_by_names};
 use task_code_registers::scopes::Form;
 use task_code_scalar::CodeFault;
@@ -34,6 +35,9 @@ fn ready_store(
         return made_store(alloc, places, context, store);
     }
     let made = store_by_others(alloc, store, context.known.as_slice())?;
+    if context.names.is_empty() {
+        return Ok(made);
+    }
     let named = store_by_names(alloc, context.names.as_slice(), &made);
     drop(made);
     named
@@ -52,6 +56,9 @@ fn ready_loop(
         return Ok(Stmt::For(own.counter, own.count, kind, made));
     }
     let all = staying(alloc, context.bounds.as_slice(), made.get())?;
+    if all.is_empty() {
+        return Ok(Stmt::For(own.counter, own.count, kind, made));
+    }
     let names = new_names(alloc, all.as_slice(), named)?;
     let body = part_by_names(alloc, names.as_slice(), made.get())?;
     Ok(Stmt::For(own.counter, own.count, kind, body))
@@ -203,7 +210,22 @@ fn statement_by_names(
     }
 }
 
-/// Adds the sums that an expression is made of, if their loop variables are those of these loops.
+/// A sum as it is where all loop variables but those of these loops are 0.
+fn first_sum(alloc: Global, bounds: &[Bound], own: &Linear) -> Result<Linear, AllocError> {
+    let mut terms = Items::new(alloc);
+    for term in own.terms.as_slice() {
+        if is_among(bounds, term.counter) {
+            terms.push(*term)?;
+        }
+    }
+    Ok(Linear {
+        number: own.number,
+        terms,
+    })
+}
+
+/// Adds the sums that an expression is made of, as they are in the first iterations of loops inside, if they go on with
+/// these loops.
 pub fn add_sums(
     alloc: Global,
     bounds: &[Bound],
@@ -213,8 +235,8 @@ pub fn add_sums(
     match e {
         Expr::Number(_) => Ok(()),
         Expr::Linear(own) => {
-            if own.terms.len() != 0 && are_among(bounds, own.terms.as_slice()) {
-                let sum = own.copy(alloc)?;
+            let sum = first_sum(alloc, bounds, own)?;
+            if !sum.terms.as_slice().is_empty() {
                 found.push(Form { sum, per_hart: 0 })?;
             }
             Ok(())
@@ -234,187 +256,7 @@ pub fn add_sums(
     }
 }
 
-// ---- what stays
-
-/// Whether loop variables are among those of these loops.
-fn are_among(bounds: &[Bound], terms: &[Term]) -> bool {
-    terms.iter().all(|term| {
-        bounds
-            .iter()
-            .any(|own| same_counter(own.counter, term.counter))
-    })
-}
-
-/// Whether an expression's loop variables are those of these loops.
-fn stays(bounds: &[Bound], e: &Expr) -> bool {
-    match e {
-        Expr::Number(_) => true,
-        Expr::Linear(own) => are_among(bounds, own.terms.as_slice()),
-        Expr::Binary(_, a, b) => stays(bounds, a.get()) && stays(bounds, b.get()),
-        Expr::Divide(a, _) => stays(bounds, a.get()),
-        Expr::Remainder(a, _) => stays(bounds, a.get()),
-        Expr::Select(c, a, b) => {
-            stays(bounds, c.get()) && (stays(bounds, a.get()) && stays(bounds, b.get()))
-        }
-        Expr::Load(_, _, _) => false,
-    }
-}
-
-/// Whether an expression is made of parts.
-fn has_parts(e: &Expr) -> bool {
-    match e {
-        Expr::Number(_) => false,
-        Expr::Linear(_) => false,
-        _ => true,
-    }
-}
-
-/// Adds an expression, unless it is there.
-fn add(alloc: Global, found: &mut Vec<Expr>, e: &Expr) -> Result<(), AllocError> {
-    if !found.as_slice().iter().any(|own| is_same(own, e)) {
-        let own = copy_of(alloc, e)?;
-        found.push(own)?;
-    }
-    Ok(())
-}
-
-/// Whether an expression loads nothing, and its loop variables are those of these loops.
-fn is_same_in_all(bounds: &[Bound], e: &Expr) -> bool {
-    is_still(e) && stays(bounds, e)
-}
-
-/// Whether what stands beside an expression's first operand does not stay the same, or the expression itself has none.
-fn others_leave(bounds: &[Bound], e: &Expr) -> bool {
-    match e {
-        Expr::Number(_) => false,
-        Expr::Linear(_) => !stays(bounds, e),
-        Expr::Binary(_, _, b) => !is_same_in_all(bounds, b.get()),
-        Expr::Divide(_, _) => false,
-        Expr::Remainder(_, _) => false,
-        Expr::Select(_, a, b) => {
-            !is_same_in_all(bounds, a.get()) || !is_same_in_all(bounds, b.get())
-        }
-        Expr::Load(_, _, _) => true,
-    }
-}
-
-/// How many expressions do not stay the same: the expression itself, its first operand, the first operand of that one
-/// and so on. So none of them is asked more than once.
-fn leaving(bounds: &[Bound], e: &Expr) -> u32 {
-    let first = match e {
-        Expr::Number(_) => 0,
-        Expr::Linear(_) => 0,
-        Expr::Binary(_, a, _) => leaving(bounds, a.get()),
-        Expr::Divide(a, _) => leaving(bounds, a.get()),
-        Expr::Remainder(a, _) => leaving(bounds, a.get()),
-        Expr::Select(c, _, _) => leaving(bounds, c.get()),
-        Expr::Load(_, x, _) => leaving(bounds, x.get()),
-    };
-    if first > 0 || others_leave(bounds, e) {
-        first.saturating_add(1)
-    } else {
-        0
-    }
-}
-
-/// How many they are, where so many are known: it counts where none is.
-fn known_leaving(bounds: &[Bound], e: &Expr, known: u32) -> u32 {
-    if known > 0 { known } else { leaving(bounds, e) }
-}
-
-/// Adds the largest parts of an expression that stay the same. Of so many, the expression itself, its first operand and
-/// so on, it is known that they don't.
-fn add_parts(
-    alloc: Global,
-    bounds: &[Bound],
-    found: &mut Vec<Expr>,
-    e: &Expr,
-    known: u32,
-) -> Result<(), AllocError> {
-    let own = known_leaving(bounds, e, known);
-    if own == 0 && has_parts(e) {
-        return add(alloc, found, e);
-    }
-    let within = own.saturating_sub(1);
-    match e {
-        Expr::Number(_) => Ok(()),
-        Expr::Linear(_) => Ok(()),
-        Expr::Binary(_, a, b) => {
-            add_parts(alloc, bounds, found, a.get(), within)?;
-            add_parts(alloc, bounds, found, b.get(), 0)
-        }
-        Expr::Divide(a, _) => add_parts(alloc, bounds, found, a.get(), within),
-        Expr::Remainder(a, _) => add_parts(alloc, bounds, found, a.get(), within),
-        Expr::Select(c, a, b) => {
-            add_parts(alloc, bounds, found, c.get(), within)?;
-            add_parts(alloc, bounds, found, a.get(), 0)?;
-            add_parts(alloc, bounds, found, b.get(), 0)
-        }
-        Expr::Load(_, x, y) => {
-            add_parts(alloc, bounds, found, x.get(), within)?;
-            add_parts(alloc, bounds, found, y.get(), 0)
-        }
-    }
-}
-
-fn add_statement(
-    alloc: Global,
-    bounds: &[Bound],
-    found: &mut Vec<Expr>,
-    statement: &Stmt,
-) -> Result<(), AllocError> {
-    match statement {
-        Stmt::Store(store) => {
-            add_parts(alloc, bounds, found, &store.x, 0)?;
-            add_parts(alloc, bounds, found, &store.y, 0)?;
-            add_parts(alloc, bounds, found, &store.value, 0)
-        }
-        Stmt::Sequence(first, second) => {
-            add_statement(alloc, bounds, found, first.get())?;
-            add_statement(alloc, bounds, found, second.get())
-        }
-        Stmt::For(_, _, _, body) => add_statement(alloc, bounds, found, body.get()),
-        Stmt::Bind(_, _, _, body) => add_statement(alloc, bounds, found, body.get()),
-    }
-}
-
-/// The largest parts of a loop's body, as its code is made, that stay the same in all iterations of this loop and those
-/// inside, where these loops stand around it.
-fn staying(alloc: Global, bounds: &[Bound], body: &Stmt) -> Result<Vec<Expr>, AllocError> {
-    let mut found = Vec::new(alloc);
-    add_statement(alloc, bounds, &mut found, body)?;
-    Ok(found)
-}
-
-/// Whether some part of an expression, which is more than a sum, loads nothing.
-fn has_still(e: &Expr) -> bool {
-    if has_parts(e) && is_still(e) {
-        return true;
-    }
-    match e {
-        Expr::Number(_) => false,
-        Expr::Linear(_) => false,
-        Expr::Binary(_, a, b) => has_still(a.get()) || has_still(b.get()),
-        Expr::Divide(a, _) => has_still(a.get()),
-        Expr::Remainder(a, _) => has_still(a.get()),
-        Expr::Select(c, a, b) => {
-            has_still(c.get()) || (has_still(a.get()) || has_still(b.get()))
-        }
-        Expr::Load(_, x, y) => has_still(x.get()) || has_still(y.get()),
-    }
-}
-
-/// Whether some part of a statement's stores does.
-fn may_stay(statement: &Stmt) -> bool {
-    match statement {
-        Stmt::Store(store) => {
-            has_still(&store.x) || (has_still(&store.y) || has_still(&store.value))
-        }
-        Stmt::Sequence(first, second) => may_stay(first.get()) || may_stay(second.get()),
-        Stmt::For(_, _, _, body) => may_stay(body.get()),
-        Stmt::Bind(_, _, _, body) => may_stay(body.get()),
-    }
-}
+// ---- in front of a loop
 
 /// The largest parts of a loop's body that stay the same in all iterations of this loop and those inside.
 ///
@@ -428,7 +270,7 @@ pub fn staying_in(
     own: Bound,
     body: &Stmt,
 ) -> Result<Vec<Expr>, CodeFault> {
-    if !may_stay(body) {
+    if !may_stay_in(alloc, own.counter, body)? {
         return Ok(Vec::new(alloc));
     }
     let mut named = Vec::new(alloc);

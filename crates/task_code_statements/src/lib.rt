@@ -25,7 +25,7 @@
 //!
 //! Guesses, of which nothing is promised:
 //!
-//! - `guessing`: what of a loop's body is worth a name.
+//! - `guessing`: what of a loop's body is worth a name, and `staying`: what of it stays the same in all iterations.
 //! - `room`: how many registers a loop leaves to those inside.
 #![tactic(auto)]
 
@@ -44,5 +44,6 @@ mod splits;
 pub mod stages;
 mod starts;
 mod statements;
+mod staying;
 pub mod tasks;
 mod vectorizing;

@@ -10,6 +10,7 @@ use loop_ir::expressions::{Expr, Linear};
 use loop_ir::statements::Store;
 use sqlite_items::Boxed;
 use std::alloc::{AllocError, Global};
+use task_code_clamps::clamps::is_leaf;
 use task_code_loops::known::{Known, linear_by_others};
 use task_code_loops::sums::combined;
 
@@ -45,15 +46,6 @@ fn makes_sums(operation: Operation) -> bool {
         Operation::Add => true,
         Operation::Subtract => true,
         Operation::Multiply => true,
-        _ => false,
-    }
-}
-
-/// Whether an expression is a number or a sum.
-fn is_leaf(e: &Expr) -> bool {
-    match e {
-        Expr::Number(_) => true,
-        Expr::Linear(_) => true,
         _ => false,
     }
 }

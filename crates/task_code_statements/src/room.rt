@@ -10,7 +10,7 @@ use std::alloc::{AllocError, Global};
 use task_code_loops::known::{Known, by_others};
 use task_code_loops::tests::variable;
 use task_code_loops::wanted::wanted_forms;
-use task_code_registers::scopes::{Form, Held, free_register};
+use task_code_registers::scopes::{Form, Held, left_registers};
 use task_code_scalar::CodeFault;
 use task_code_scalar::places::Places;
 
@@ -41,13 +41,7 @@ pub(crate) fn depth(statement: &Stmt) -> usize {
 
 /// How many registers are left.
 fn left(scope: &[Held]) -> usize {
-    let mut count = 0;
-    for taken in 0..MOST_HELD {
-        if free_register(scope, taken).is_some() {
-            count = taken + 1;
-        }
-    }
-    count
+    usize::from(left_registers(scope)).min(MOST_HELD)
 }
 
 /// How many registers a loop leaves to so many loops inside: what each has good use for, as far as it has as much

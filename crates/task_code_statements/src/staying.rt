@@ -1,0 +1,282 @@
+//! What of a loop's body stays the same in all iterations. Guesses, of which nothing is promised.
+
+use loop_ir::expressions::{Counter, Expr, Term, same_counter};
+use loop_ir::statements::Stmt;
+use std::alloc::{AllocError, Global};
+use task_code_loops::bounds::Bound;
+use task_code_names::copies::{copy_of, is_same, is_still};
+
+// ---- parts that stay
+
+/// Whether a loop variable is that of one of these loops.
+pub(crate) fn is_among(bounds: &[Bound], counter: Counter) -> bool {
+    bounds.iter().any(|own| same_counter(own.counter, counter))
+}
+
+/// Whether loop variables are among those of these loops.
+fn are_among(bounds: &[Bound], terms: &[Term]) -> bool {
+    terms.iter().all(|term| is_among(bounds, term.counter))
+}
+
+/// Whether an expression's loop variables are those of these loops.
+fn stays(bounds: &[Bound], e: &Expr) -> bool {
+    match e {
+        Expr::Number(_) => true,
+        Expr::Linear(own) => are_among(bounds, own.terms.as_slice()),
+        Expr::Binary(_, a, b) => stays(bounds, a.get()) && stays(bounds, b.get()),
+        Expr::Divide(a, _) => stays(bounds, a.get()),
+        Expr::Remainder(a, _) => stays(bounds, a.get()),
+        Expr::Select(c, a, b) => {
+            stays(bounds, c.get()) && (stays(bounds, a.get()) && stays(bounds, b.get()))
+        }
+        Expr::Load(_, _, _) => false,
+    }
+}
+
+/// Whether an expression is made of parts.
+fn has_parts(e: &Expr) -> bool {
+    match e {
+        Expr::Number(_) => false,
+        Expr::Linear(_) => false,
+        _ => true,
+    }
+}
+
+/// Adds an expression, unless it is there.
+pub(crate) fn add(alloc: Global, found: &mut Vec<Expr>, e: &Expr) -> Result<(), AllocError> {
+    if !found.as_slice().iter().any(|own| is_same(own, e)) {
+        let own = copy_of(alloc, e)?;
+        found.push(own)?;
+    }
+    Ok(())
+}
+
+/// Whether an expression loads nothing, and its loop variables are those of these loops.
+pub(crate) fn is_same_in_all(bounds: &[Bound], e: &Expr) -> bool {
+    is_still(e) && stays(bounds, e)
+}
+
+/// Whether what stands beside an expression's first operand does not stay the same, or the expression itself has none.
+fn others_leave(bounds: &[Bound], e: &Expr) -> bool {
+    match e {
+        Expr::Number(_) => false,
+        Expr::Linear(_) => !stays(bounds, e),
+        Expr::Binary(_, _, b) => !is_same_in_all(bounds, b.get()),
+        Expr::Divide(_, _) => false,
+        Expr::Remainder(_, _) => false,
+        Expr::Select(_, a, b) => {
+            !is_same_in_all(bounds, a.get()) || !is_same_in_all(bounds, b.get())
+        }
+        Expr::Load(_, _, _) => true,
+    }
+}
+
+/// How many expressions do not stay the same: the expression itself, its first operand, the first operand of that one
+/// and so on. So none of them is asked more than once.
+fn leaving(bounds: &[Bound], e: &Expr) -> u32 {
+    let first = match e {
+        Expr::Number(_) => 0,
+        Expr::Linear(_) => 0,
+        Expr::Binary(_, a, _) => leaving(bounds, a.get()),
+        Expr::Divide(a, _) => leaving(bounds, a.get()),
+        Expr::Remainder(a, _) => leaving(bounds, a.get()),
+        Expr::Select(c, _, _) => leaving(bounds, c.get()),
+        Expr::Load(_, x, _) => leaving(bounds, x.get()),
+    };
+    if first > 0 || others_leave(bounds, e) {
+        first.saturating_add(1)
+    } else {
+        0
+    }
+}
+
+/// How many they are, where so many are known: it counts where none is.
+fn known_leaving(bounds: &[Bound], e: &Expr, known: u32) -> u32 {
+    if known > 0 { known } else { leaving(bounds, e) }
+}
+
+/// Adds the largest parts of an expression that stay the same. Of so many, the expression itself, its first operand and
+/// so on, it is known that they don't.
+fn add_parts(
+    alloc: Global,
+    bounds: &[Bound],
+    found: &mut Vec<Expr>,
+    e: &Expr,
+    known: u32,
+) -> Result<(), AllocError> {
+    let own = known_leaving(bounds, e, known);
+    if own == 0 && has_parts(e) {
+        return add(alloc, found, e);
+    }
+    let within = own.saturating_sub(1);
+    match e {
+        Expr::Number(_) => Ok(()),
+        Expr::Linear(_) => Ok(()),
+        Expr::Binary(_, a, b) => {
+            add_parts(alloc, bounds, found, a.get(), within)?;
+            add_parts(alloc, bounds, found, b.get(), 0)
+        }
+        Expr::Divide(a, _) => add_parts(alloc, bounds, found, a.get(), within),
+        Expr::Remainder(a, _) => add_parts(alloc, bounds, found, a.get(), within),
+        Expr::Select(c, a, b) => {
+            add_parts(alloc, bounds, found, c.get(), within)?;
+            add_parts(alloc, bounds, found, a.get(), 0)?;
+            add_parts(alloc, bounds, found, b.get(), 0)
+        }
+        Expr::Load(_, x, y) => {
+            add_parts(alloc, bounds, found, x.get(), within)?;
+            add_parts(alloc, bounds, found, y.get(), 0)
+        }
+    }
+}
+
+fn add_statement(
+    alloc: Global,
+    bounds: &[Bound],
+    found: &mut Vec<Expr>,
+    statement: &Stmt,
+) -> Result<(), AllocError> {
+    match statement {
+        Stmt::Store(store) => {
+            add_parts(alloc, bounds, found, &store.x, 0)?;
+            add_parts(alloc, bounds, found, &store.y, 0)?;
+            add_parts(alloc, bounds, found, &store.value, 0)
+        }
+        Stmt::Sequence(first, second) => {
+            add_statement(alloc, bounds, found, first.get())?;
+            add_statement(alloc, bounds, found, second.get())
+        }
+        Stmt::For(_, _, _, body) => add_statement(alloc, bounds, found, body.get()),
+        Stmt::Bind(_, _, _, body) => add_statement(alloc, bounds, found, body.get()),
+    }
+}
+
+/// The largest parts of a loop's body, as its code is made, that stay the same in all iterations of this loop and those
+/// inside, where these loops stand around it.
+pub(crate) fn staying(
+    alloc: Global,
+    bounds: &[Bound],
+    body: &Stmt,
+) -> Result<Vec<Expr>, AllocError> {
+    let mut found = Vec::new(alloc);
+    add_statement(alloc, bounds, &mut found, body)?;
+    Ok(found)
+}
+
+// ---- whether there may be such parts
+
+/// What is known of an expression where some loop variables go on.
+#[derive(Clone, Copy, Debug, PartialEq, Eq)]
+enum Standing {
+    /// It is a number or a sum, and stays the same.
+    StaysLeaf,
+    /// It is more than that, and stays the same.
+    Stays,
+    /// It doesn't, but some part of it that is more than a sum does.
+    HasStaying,
+    /// Neither.
+    Leaves,
+}
+
+/// Whether an expression stays the same.
+fn is_staying(standing: Standing) -> bool {
+    standing == Standing::StaysLeaf || standing == Standing::Stays
+}
+
+/// Whether an expression is worth a name, or some part of it is.
+fn is_worth(standing: Standing) -> bool {
+    standing == Standing::Stays || standing == Standing::HasStaying
+}
+
+/// Of an operation on two parts.
+fn joined(first: Standing, second: Standing) -> Standing {
+    if is_staying(first) && is_staying(second) {
+        Standing::Stays
+    } else if is_worth(first) || is_worth(second) {
+        Standing::HasStaying
+    } else {
+        Standing::Leaves
+    }
+}
+
+/// Of a pixel that is read at these indexes.
+fn loaded(column: Standing, row: Standing) -> Standing {
+    if is_worth(column) || is_worth(row) {
+        Standing::HasStaying
+    } else {
+        Standing::Leaves
+    }
+}
+
+/// Whether a loop variable is one of these.
+fn is_moving(moving: &[Counter], counter: Counter) -> bool {
+    moving.iter().any(|own| same_counter(*own, counter))
+}
+
+/// Whether some loop variable of a sum is one of these.
+fn moves(moving: &[Counter], terms: &[Term]) -> bool {
+    terms.iter().any(|term| is_moving(moving, term.counter))
+}
+
+/// What is known of an expression where these loop variables go on. Each part is asked once.
+fn standing_of(moving: &[Counter], e: &Expr) -> Standing {
+    match e {
+        Expr::Number(_) => Standing::StaysLeaf,
+        Expr::Linear(own) => {
+            if moves(moving, own.terms.as_slice()) {
+                Standing::Leaves
+            } else {
+                Standing::StaysLeaf
+            }
+        }
+        Expr::Binary(_, a, b) => joined(standing_of(moving, a.get()), standing_of(moving, b.get())),
+        Expr::Divide(a, _) => joined(standing_of(moving, a.get()), Standing::StaysLeaf),
+        Expr::Remainder(a, _) => joined(standing_of(moving, a.get()), Standing::StaysLeaf),
+        Expr::Select(c, a, b) => {
+            let operands = joined(standing_of(moving, a.get()), standing_of(moving, b.get()));
+            joined(standing_of(moving, c.get()), operands)
+        }
+        Expr::Load(_, x, y) => loaded(standing_of(moving, x.get()), standing_of(moving, y.get())),
+    }
+}
+
+/// Whether some part of a statement's stores may stay the same, where these loop variables go on, and those of loops
+/// inside.
+fn may_stay(statement: &Stmt, moving: &mut Vec<Counter>) -> Result<bool, AllocError> {
+    match statement {
+        Stmt::Store(store) => {
+            let own = moving.as_slice();
+            let point = loaded(standing_of(own, &store.x), standing_of(own, &store.y));
+            Ok(is_worth(point) || is_worth(standing_of(own, &store.value)))
+        }
+        Stmt::Sequence(first, second) => {
+            let one = may_stay(first.get(), moving)?;
+            let other = may_stay(second.get(), moving)?;
+            Ok(one || other)
+        }
+        Stmt::For(counter, _, _, body) => {
+            moving.push(*counter)?;
+            may_stay(body.get(), moving)
+        }
+        Stmt::Bind(counter, whole, _, body) => {
+            if is_moving(moving.as_slice(), whole.outer)
+                || is_moving(moving.as_slice(), whole.inner)
+            {
+                moving.push(*counter)?;
+            }
+            may_stay(body.get(), moving)
+        }
+    }
+}
+
+/// Whether some part of a loop's body may stay the same in all iterations of this loop and those inside, as far as its
+/// text tells before its code is made.
+pub(crate) fn may_stay_in(
+    alloc: Global,
+    counter: Counter,
+    body: &Stmt,
+) -> Result<bool, AllocError> {
+    let mut moving = Vec::new(alloc);
+    moving.push(counter)?;
+    may_stay(body, &mut moving)
+}
