@@ -52,6 +52,7 @@ fn push_bytes(bytes: &mut Vec<u8>, pixels: &[u32]) -> Result<(), AllocError>
     ensures { OnOk result (bytes.new.items ≡ bytes.old.items ++ pixels.now) }
 {
     bytes.reserve(pixels.len())?;
+    // Eight at a time here too.
     let mut left = pixels;
     while let [a, b, c, d, e, f, g, h, others @ ..] = left {
         let eight = [
@@ -66,26 +67,25 @@ fn push_bytes(bytes: &mut Vec<u8>, pixels: &[u32]) -> Result<(), AllocError>
     Ok(())
 }
 
-/// The bytes of an input's picture.
-fn input_data(alloc: Global, input: &Input, picture: &Picture) -> Result<Vec<u8>, AllocError>
+/// Appends the bytes of an input's picture.
+fn push_input(bytes: &mut Vec<u8>, input: &Input, picture: &Picture) -> Result<(), AllocError>
     requires { holds_bytes input.now picture.now ≡ true }
-    ensures is { IfOk result (λ bytes. bytes.items ≡ spec.input_data input.now picture.now) }
-    ensures rules { IfOk result (λ bytes. IsPicture picture.now) }
+    ensures is { OnOk result (bytes.new.items ≡ bytes.old.items ++ spec.input_data input.now picture.now) }
+    ensures rules { OnOk result (IsPicture picture.now) }
 {
-    let mut bytes = Vec::new(alloc);
     let pixels = picture.pixels();
     if input.is_bytes {
-        push_bytes(&mut bytes, pixels)?;
-        bytes.resize((pixels.len() + 3) / 4 * 4, 0)?;
+        push_bytes(bytes, pixels)?;
+        let whole = (pixels.len() + 3) / 4 * 4;
+        bytes.extend_from_slice(zeros(whole - pixels.len()))?;
     } else {
-        push_words(&mut bytes, pixels)?;
+        push_words(bytes, pixels)?;
     }
-    Ok(bytes)
+    Ok(())
 }
 
 /// Appends the bytes of all inputs' pictures.
 fn push_inputs(
-    alloc: Global,
     bytes: &mut Vec<u8>,
     inputs: &[Input],
     pictures: &[Picture],
@@ -101,8 +101,8 @@ fn push_inputs(
     let [picture, pictures @ ..] = pictures else {
         return Ok(());
     };
-    bytes.extend_from_slice(input_data(alloc, input, picture)?.as_slice())?;
-    push_inputs(alloc, bytes, inputs, pictures)?;
+    push_input(bytes, input, picture)?;
+    push_inputs(bytes, inputs, pictures)?;
     Ok(())
 }
 
@@ -141,7 +141,7 @@ pub(crate) fn image_data(
     let size = layout.size as usize;
     let mut bytes = Vec::with_capacity(alloc, size)?;
     pad(&mut bytes, 8 * layout.phases as usize)?;
-    push_inputs(alloc, &mut bytes, inputs, pictures)?;
+    push_inputs(&mut bytes, inputs, pictures)?;
     pad(&mut bytes, size)?;
     Ok(bytes)
 }

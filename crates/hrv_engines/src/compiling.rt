@@ -36,23 +36,26 @@ pub fn compile_bytes<A: Source, S: Source, I: Source, O: Sink>(
     let algorithm_text = read_algorithm(alloc, algorithm)?;
     let schedule_text = read_text(alloc, schedule)?;
     let input_texts = read_texts(alloc, inputs)?;
-    let bytes = compilation_of(alloc, &algorithm_text, &schedule_text, &input_texts)?;
+    let bytes = compilation_of(alloc, &algorithm_text, &schedule_text, input_texts)?;
     write_all(alloc, image, &bytes)
 }
 
-/// The bytes of the image that texts mean, or the first refusal.
+/// The bytes of the image that texts mean, or the first refusal. Texts and pictures are dropped as soon as they have
+/// been read, so that what is made next can take their memory.
 fn compilation_of(
     alloc: Global,
     algorithm: &str,
     schedule: &str,
-    inputs: &[String],
+    inputs: Vec<String>,
 ) -> Result<Vec<u8>, Fault>
     ensures { Judges (λ bytes. bytes.items) (IsCompilation alloc) (IsRefusedCompilation alloc)
-        ((algorithm.now, schedule.now), map string_bytes inputs.now) result }
+        ((algorithm.now, schedule.now), map string_bytes inputs.items) result }
 {
     let program = compile(algorithm, schedule, alloc)?;
-    let pictures = read_pictures(alloc, inputs)?;
+    let pictures = read_pictures(alloc, &inputs)?;
+    drop(inputs);
     let image = program.image(alloc, &pictures)?;
+    drop(pictures);
     let mut bytes = Vec::new(alloc);
     store(&image, &mut bytes)?;
     Ok(bytes)

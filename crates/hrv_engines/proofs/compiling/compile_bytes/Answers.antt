@@ -34,5 +34,5 @@ returns g c =
     written (IsCompilation c.args.alloc) (IsRefusedCompilation c.args.alloc) (both (both algorithm schedule) inputs) out c.write_all.result
     ((string_bytes first.algorithm_text, string_bytes second.schedule_text), map string_bytes third.input_texts.items) c.in_ok-bytes.bytes.items
     ((first.ensures.0, second.ensures.0), third.ensures.0) ((first.ensures.1, second.ensures.1), third.ensures.1)
-    (rw (c.deref.ensures, c.deref-2.ensures, ap (map string_bytes) c.deref-3.ensures.value) at c.in_ok-bytes.ensures)
-    (subst (λ bytes. Writes out bytes c.write_all.result) c.deref-4.ensures.value c.write_all.ensures.writes)
+    (rw (c.deref.ensures, c.deref-2.ensures) at c.in_ok-bytes.ensures)
+    (subst (λ bytes. Writes out bytes c.write_all.result) c.deref-3.ensures.value c.write_all.ensures.writes)
