@@ -57,17 +57,25 @@ fn plain_at(negative: bool, text: &[u8]) -> Result<(bool, &[u8], &[u8]), Picture
     }
 }
 
+/// Whether a number at the front has a sign, and what stands behind the sign.
+#[tactic(auto, unfolding(crate::specs::Reading::numeral_at, crate::specs::Reading::plain_at))]
+fn sign_at(text: &[u8]) -> (bool, &[u8])
+    ensures { spec.numeral_at text.now ≡ spec.plain_at result.0 result.1.now }
+{
+    match text {
+        [] => (false, text),
+        [b'-', unsigned @ ..] => (true, unsigned),
+        [_, ..] => (false, text),
+    }
+}
+
 /// The number at the front: whether it has a sign, its digits, and what stands behind it.
-#[tactic(auto, unfolding(crate::specs::Reading::numeral_at))]
 fn numeral_at(text: &[u8]) -> Result<(bool, &[u8], &[u8]), PictureFault>
     ensures { spec.Shows (λ numeral. (record { negative = numeral.0; digits = numeral.1.now }, numeral.2.now)) result
         (spec.numeral_at text.now) }
 {
-    match text {
-        [] => Err(PictureFault::Syntax),
-        [b'-', unsigned @ ..] => plain_at(true, unsigned),
-        [_, ..] => plain_at(false, text),
-    }
+    let (negative, unsigned) = sign_at(text);
+    plain_at(negative, unsigned)
 }
 
 /// The pixel of a number, below 0 or not.
@@ -132,19 +140,8 @@ fn heading_at(text: &[u8]) -> Result<(u32, u32, &[u8]), PictureFault>
     Ok((width, height, rest))
 }
 
-/// Whether a number at the front has a sign, and what stands behind the sign.
-#[tactic(auto, unfolding(crate::specs::Reading::numeral_at, crate::specs::Reading::plain_at))]
-fn sign_at(text: &[u8]) -> (bool, &[u8])
-    ensures { spec.numeral_at text.now ≡ spec.plain_at result.0 result.1.now }
-{
-    match text {
-        [] => (false, text),
-        [b'-', unsigned @ ..] => (true, unsigned),
-        [_, ..] => (false, text),
-    }
-}
-
-/// The number that the digits at the front spell, and how many they are, where they are few.
+/// The number that the digits at the front spell, and how many they are, where they are few and as many bytes are left
+/// as are looked at.
 fn short_number(text: &[u8]) -> Option<(u32, usize)>
     ensures len { IfSome result (λ short. short.1 ≡ prefix_len is_digit text.now) }
     ensures within { IfSome result (λ short. short.1 ≤ length text.now) }
@@ -165,7 +162,8 @@ fn short_number(text: &[u8]) -> Option<(u32, usize)>
     None
 }
 
-/// A pixel of few digits and this byte behind it, and what stands behind both. Each byte is looked at once.
+/// A pixel of few digits and this word of one byte behind it, and what stands behind both. The digits are added up while
+/// their end is looked for.
 fn short_pixel_then<'a>(word: &[u8], text: &'a [u8]) -> Option<(u32, &'a [u8])>
     ensures { IfSome result (λ pixel. spec.pixel_then word.now text.now ≡ Ok (pixel.0, pixel.1.now)) }
 {
@@ -204,11 +202,11 @@ pub(crate) fn separator(width: usize, left: usize) -> &'static [u8]
     ensures value { result.now ≡ spec.separator width left }
     ensures len { length result.now ≡ 1 }
 {
-    separator_before(left % width)
+    separator_ahead_of(left % width)
 }
 
 /// What stands behind a pixel that so many follow in its row.
-fn separator_before(ahead: usize) -> &'static [u8]
+fn separator_ahead_of(ahead: usize) -> &'static [u8]
     ensures value { result.now ≡ (if ahead == 0 then codes "\n" else codes " ") }
     ensures len { length result.now ≡ 1 }
 {
@@ -233,7 +231,7 @@ fn pixels_at(
     let mut ahead = count % width;
     for done in 0..count {
         ahead = if ahead == 0 { width - 1 } else { ahead - 1 };
-        let (pixel, after) = pixel_then(separator_before(ahead), rest)?;
+        let (pixel, after) = pixel_then(separator_ahead_of(ahead), rest)?;
         pixels.push(pixel)?;
         rest = after;
     }

@@ -16,7 +16,7 @@ returns-in_err-pixel-clause-value c =
       | else-ahead-eq0 w ↦
           w.ahead-is ∙ ap (λ (n : ℕ). n - 1) was ∙ sym (mod_less left c.args.width c.requires (omega (arith, was, w.if-ahead-eq0.false)))
     ] in
-    let word = separator_is c.args.width left c.if-ahead-eq0.ahead c.separator_before.result.now c.separator_before.ensures.value ahead in
+    let word = separator_is c.args.width left c.if-ahead-eq0.ahead c.separator_ahead_of.result.now c.separator_ahead_of.ensures.value ahead in
     let read : pixel_then (separator c.args.width left) c.loop-done.rest.now ≡ Err c.in_err-pixel.field-0.0 =
     ap (λ word. pixel_then word c.loop-done.rest.now) (sym word) ∙ c.in_err-pixel.ensures in
     let f : pixels_at c.args.width c.args.count c.args.text.now ≡ Err c.in_err-pixel.field-0.0 =
@@ -36,7 +36,7 @@ loop-done-preserved c =
       | else-ahead-eq0 w ↦
           w.ahead-is ∙ ap (λ (n : ℕ). n - 1) was ∙ sym (mod_less left c.args.width c.requires (omega (arith, was, w.if-ahead-eq0.false)))
     ] in
-    let word = separator_is c.args.width left c.if-ahead-eq0.ahead c.separator_before.result.now c.separator_before.ensures.value ahead in
+    let word = separator_is c.args.width left c.if-ahead-eq0.ahead c.separator_ahead_of.result.now c.separator_ahead_of.ensures.value ahead in
     let read : pixel_then (separator c.args.width left) c.loop-done.rest.now ≡ Ok (c.in_ok-pixel.pixel, c.in_ok-pixel.after.now) =
     ap (λ word. pixel_then word c.loop-done.rest.now) (sym word) ∙ c.in_ok-pixel.ensures in
     record {
