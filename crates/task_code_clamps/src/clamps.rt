@@ -40,7 +40,7 @@ enum Taken {
 }
 
 /// Whether an expression is a number or a sum, so that it loads nothing.
-pub fn is_leaf(e: &Expr) -> bool
+fn is_leaf(e: &Expr) -> bool
     ensures { result ≡ true → (reads : Reads) (values : Values) → loads reads values e.now ≡ [] }
 {
     match e {
@@ -264,7 +264,7 @@ pub fn unclamped(
     }
 }
 
-/// Whether a leaf may come to 0.
+/// Whether a leaf's range may be that of 0 alone.
 fn may_be_zero(e: &Expr) -> bool {
     match e {
         Expr::Number(n) => *n == 0,
@@ -273,8 +273,7 @@ fn may_be_zero(e: &Expr) -> bool {
     }
 }
 
-/// Whether something else may be made of an operation with such a second operand. [`of_both`] leaves others as they
-/// are.
+/// Whether [`of_both`] may make something else of an operation with such a second operand.
 fn may_change(operation: Operation, b: &Expr) -> bool {
     match operation {
         Operation::Minimum => true,
@@ -302,7 +301,7 @@ fn may_have_clamps(e: &Expr) -> bool {
     }
 }
 
-/// So it is with an expression that is given away, whose range is not asked for.
+/// An expression without clamps that cut nothing off, whose range is not asked for: it is moved where it has none.
 fn unclamped_own(
     alloc: Global,
     places: &Places,

@@ -6,7 +6,6 @@ ghost use Rattle.task_code_loops.specs.Beginning.{HasNoRegister};
 ghost use Rattle.task_code_loops.specs.Guarding.{GuardsWords};
 
 use crate::holding::emit_known;
-use std::alloc::Global;
 use task_code_registers::numbers::emit_number;
 use task_code_registers::registers::{ADDRESS, SCRATCH};
 use task_code_registers::scopes::{Form, Held};
@@ -20,7 +19,6 @@ use task_code_scalar::{CodeFault, append};
 /// Memory ran out, the body has nearly as many words as a text may have, or a loop variable of the form has no
 /// register.
 pub fn emit_guarded(
-    alloc: Global,
     code: &mut Vec<u32>,
     scope: &[Held],
     form: &Form,

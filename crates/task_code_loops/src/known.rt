@@ -100,9 +100,13 @@ fn add_one(made: &mut Linear, term: &Term, known: &[Known]) -> Result<(), AllocE
 /// # Errors
 ///
 /// Memory ran out.
-pub fn linear_by_others(alloc: Global, own: &Linear, known: &[Known]) -> Result<Linear, AllocError>
+pub fn sum_by_others(alloc: Global, own: &Linear, known: &[Known]) -> Result<Linear, AllocError>
     ensures { IfOk result (IsRewrittenSum known.now own.now) }
 {
+    if known.is_empty() {
+        let sum = own.copy(alloc)?;
+        return Ok(sum);
+    }
     let mut sum = Linear {
         number: own.number,
         terms: Items::new(alloc),
@@ -119,7 +123,7 @@ pub fn linear_by_others(alloc: Global, own: &Linear, known: &[Known]) -> Result<
 pub fn by_others(alloc: Global, form: &Form, known: &[Known]) -> Result<Form, AllocError>
     ensures { IfOk result (IsRewritten known.now form.now) }
 {
-    let sum = linear_by_others(alloc, &form.sum, known)?;
+    let sum = sum_by_others(alloc, &form.sum, known)?;
     Ok(Form {
         sum,
         per_hart: form.per_hart,

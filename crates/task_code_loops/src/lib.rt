@@ -7,7 +7,7 @@
 //! - [`ending`]: appends what stands behind its body, and goes back (`specs/Ending.antt`).
 //! - [`guards`]: appends a test over a body (`specs/Guarding.antt`).
 //! - [`bounds`]: whether a form stays below an extent, so that it needs no test (`specs/Bounds.antt`).
-//! - [`known`]: loop variables that are sums of others, or numbers, and forms without them (`specs/Known.antt`).
+//! - [`known`]: loop variables that are sums of others, or numbers, and sums without them (`specs/Known.antt`).
 //! - [`sums`]: what operations make of sums, where it is a sum again (`specs/Sums.antt`).
 //! - [`wanted`]: which forms a body wants in registers, a guess.
 //! - [`laws`]: what is begun and ended is a loop; code behind other code, and iterations that are laid out.

@@ -44,6 +44,16 @@ fn product(alloc: Global, x: &Linear, y: &Linear) -> Result<Option<Linear>, Allo
     Ok(None)
 }
 
+/// Whether [`combined`] may make a sum by this operation: what others are given need not be copied for it.
+pub fn may_combine(operation: Operation) -> bool {
+    match operation {
+        Operation::Add => true,
+        Operation::Subtract => true,
+        Operation::Multiply => true,
+        _ => false,
+    }
+}
+
 /// What an operation makes of two sums, where it is a sum.
 ///
 /// # Errors

@@ -17,7 +17,7 @@ use task_code_registers::scopes::Form;
 use task_code_registers::sums::distance;
 use task_code_scalar::places::{Places, place_of};
 
-/// As many uses a sum counts for whose value is wanted and not only an address: there is no code for it where no
+/// As many uses a sum counts for whose value is wanted and not only an address: there may be no code for it where no
 /// register holds it.
 const VALUE_USES: u32 = 64;
 

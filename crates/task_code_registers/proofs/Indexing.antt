@@ -81,8 +81,8 @@ module _ (scope : List Held) (form start : Form) (terms : List Term) (counter : 
   pub is-indexed : Fits base.number → IsIndexed scope form (record { base = base; index = s; stride = stride })
   is-indexed fit = record {
     kept = is.kept;
-    base = is.may;
-    index = holds.may;
+    base_may = is.may;
+    index_may = holds.may;
     fits = fit;
     word = is.word;
     value = value-is;

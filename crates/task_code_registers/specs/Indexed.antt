@@ -8,11 +8,11 @@ use Rattle.task_code_registers.specs.Emitting.{Fits}
 use Rattle.task_code_registers.specs.Registers.{may_hold}
 use Rattle.task_code_registers.specs.Scopes.{Knows, IsKept, form_value}
 
--- a form is a register of the scope, a number, and so many times another register, which holds a word
+-- a form is a register of the scope, a number that an immediate stands for, and so many times a register, which holds a word
 pub record IsIndexed (scope : List Held) (form : Form) (own : Indexed) : Type 0 where
   pub kept : IsKept scope own.base.register
-  pub base : may_hold own.base.register ≡ true
-  pub index : may_hold own.index ≡ true
+  pub base_may : may_hold own.base.register ≡ true
+  pub index_may : may_hold own.index ≡ true
   pub fits : Fits own.base.number
   pub word : own.base.number < 2 ^ 32
   pub value : (hart : ℕ) (values : Values) (f : ℕ → ℕ) → Knows hart scope values f

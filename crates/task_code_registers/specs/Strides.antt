@@ -1,4 +1,4 @@
--- How sums of loop variables go along with one of them. This project's own.
+-- How sums of loop variables go along with one of them, and which go along alike. This project's own.
 use Rattle.std.specs.Prelude.{◌≡◌, ◌⊎◌, ℕ, ◌+◌, ◌%◌, ◌^◌, Bool, true, false, if◌then◌else◌, List, [], ◌∷◌}
 use Rattle.loop_ir.specs.declared.expressions.Counter.{Counter}
 use Rattle.loop_ir.specs.declared.expressions.Term.{Term}
@@ -19,7 +19,7 @@ abbrev pub has_counter : Counter → List Term → Bool
 has_counter counter [] = false
 has_counter counter (first ∷ others) = if same_counter first.counter counter then true else has_counter counter others
 
--- two sums have the same stride in all, of each variable of these terms
+-- two sums of terms have the same stride in all, modulo 2^32, of each variable of these terms
 abbrev pub AgreeOn : List Term → List Term → List Term → Type 0
 AgreeOn own a b =
     (counter : Counter) → (has_counter counter own ≡ false) ⊎ (strides counter a % 2 ^ 32 ≡ strides counter b % 2 ^ 32)

@@ -21,8 +21,8 @@ pub struct Indexed {
     pub stride: u32,
 }
 
-/// What a form is whose value where the loop variable of one of these terms is 0 is held, but for a number that fits an
-/// immediate, if that variable has a register.
+/// A form by one of these terms: what is held of it, but for a number that fits an immediate, where the term's variable
+/// is 0, and the register of that variable times its stride.
 fn find_term(
     alloc: Global,
     scope: &[Held],
@@ -50,10 +50,11 @@ fn find_term(
     }
 }
 
-/// How many terms a form has at least whose own code would be no shorter.
+/// How many terms a form has at least whose own code may have ten instructions, as many as a product and a sum have at
+/// most.
 const FEWEST_TERMS: usize = 2;
 
-/// What a form is, if it is a held one and a scaled index, and its own code would be no shorter.
+/// What a form is, if it is a held one and a scaled index, and has so many terms that its own code may be as long.
 fn find_indexed(alloc: Global, scope: &[Held], form: &Form) -> Result<Option<Indexed>, AllocError>
     ensures is { IfOk result (λ found. IfSome found (IsIndexed scope.now form.now)) }
     ensures long { IfOk result (λ found. IfSome found (λ own. 2 ≤ length form.now.sum.terms)) }

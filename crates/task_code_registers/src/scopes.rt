@@ -2,7 +2,7 @@
 
 ghost use Rattle.std.specs.Prelude.{◌≡◌, [], ◌++◌, ◌<◌, ◌≤◌, ◌∷◌, ℕ, None, IfOk, IfSome, OnOk, true};
 ghost use Rattle.task_code_registers.specs.Scopes as spec;
-ghost use Rattle.task_code_registers.specs.Scopes.{IsLeft, left_below, left_count};
+ghost use Rattle.task_code_registers.specs.Scopes.{IsLeft};
 
 use crate::registers::{FIRST_VALUE, may_hold};
 use loop_ir::expressions::Linear;
@@ -135,14 +135,14 @@ fn is_left(scope: &[Held], register: u8) -> bool
 
 /// How many registers below this one may still be given to forms.
 #[tactic(auto, unfolding(crate::specs::Scopes::left_below))]
-fn count_left(scope: &[Held], end: u8) -> u8
-    ensures count { result ≡ left_below scope.now end }
+fn left_below(scope: &[Held], end: u8) -> u8
+    ensures count { result ≡ spec.left_below scope.now end }
     ensures few { result ≤ end }
 {
     if end == 0 {
         return 0;
     }
-    let others = count_left(scope, end - 1);
+    let others = left_below(scope, end - 1);
     if is_left(scope, end - 1) {
         others + 1
     } else {
@@ -154,7 +154,7 @@ fn count_left(scope: &[Held], end: u8) -> u8
 #[tactic(auto, unfolding(crate::specs::Scopes::left_below))]
 fn last_left(scope: &[Held], end: u8) -> Option<u8>
     ensures some { IfSome result (λ found. spec.is_left scope.now found ≡ true) }
-    ensures none { result ≡ None → left_below scope.now end ≡ 0 }
+    ensures none { result ≡ None → spec.left_below scope.now end ≡ 0 }
 {
     if end == 0 {
         return None;
@@ -167,19 +167,19 @@ fn last_left(scope: &[Held], end: u8) -> Option<u8>
 }
 
 /// How many registers may still be given to forms.
-pub fn left_registers(scope: &[Held]) -> u8
-    ensures { result ≡ left_count scope.now }
+pub fn left_count(scope: &[Held]) -> u8
+    ensures { result ≡ spec.left_count scope.now }
 {
-    count_left(scope, FIRST_VALUE)
+    left_below(scope, FIRST_VALUE)
 }
 
 /// A register that holds nothing yet and may hold a form, where more than so many are left.
 pub fn free_register(scope: &[Held], reserved: usize) -> Option<u8>
-    ensures some { IfSome result (λ found. IsLeft scope.now found × (reserved < left_count scope.now)) }
-    ensures none { result ≡ None → left_count scope.now ≤ reserved }
+    ensures some { IfSome result (λ found. IsLeft scope.now found × (reserved < spec.left_count scope.now)) }
+    ensures none { result ≡ None → spec.left_count scope.now ≤ reserved }
 {
     let found = last_left(scope, FIRST_VALUE)?;
-    if usize::from(left_registers(scope)) > reserved {
+    if usize::from(left_count(scope)) > reserved {
         Some(found)
     } else {
         None

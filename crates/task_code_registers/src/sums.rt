@@ -74,6 +74,7 @@ fn have_same_strides(own: &[Term], a: &[Term], b: &[Term]) -> bool
 fn are_same(a: &[Term], b: &[Term]) -> bool
     ensures { result ≡ true → (values : Values) → sum_of values a.now % 2 ^ 32 ≡ sum_of values b.now % 2 ^ 32 }
 {
+    // Mostly their terms stand in the same order, which is seen sooner.
     same_terms(a, b) || (have_same_strides(a, a, b) && have_same_strides(b, a, b))
 }
 

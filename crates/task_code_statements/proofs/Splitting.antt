@@ -29,7 +29,7 @@ use Rattle.task_code_loops.specs.Known.{AreKnown}
 use Rattle.task_code_loops.proofs.Knowledge.{knows-with}
 use Rattle.task_code_statements.specs.declared.contexts.Context.{Context}
 use Rattle.task_code_statements.specs.Contexts.{MeetsSum, Meets}
-use Rattle.task_code_statements.specs.Rewriting.{IsSameSum}
+use Rattle.task_code_loops.specs.Known.{IsRewrittenSum}
 use Rattle.task_code_statements.specs.declared.splits.Start.{Start}
 use Rattle.task_code_statements.specs.declared.splits.Start.TheVariants as starts
 use Rattle.task_code_statements.specs.Splits.{AddsInner, BeginsRun, HasLesser, IsProduct, IsSplitSum, product, start_value}
@@ -60,11 +60,11 @@ product-made whole own none one e0 e1 es values =
     ∙ ap (λ l. l ++ (record { counter = whole.outer; stride = whole.factor } ∷ [])) e0)) ∙ g
 
 pub product-is : (context : Context) (known : List Known) (whole : Whole) (none one : List Term) (made : Linear) → known ≡ context.known.items → none ≡ []
-    → one ≡ none ++ (record { counter = whole.outer; stride = whole.factor } ∷ []) → IsSameSum known (record { number = 0; terms = one }) made
+    → one ≡ none ++ (record { counter = whole.outer; stride = whole.factor } ∷ []) → IsRewrittenSum known (record { number = 0; terms = one }) made
     → IsProduct context whole made
 product-is context known whole none one made ek e0 e1 same = record {
   value_is = λ values are.
-      same.value_is values (subst (λ k. AreKnown k values) (sym ek) are)
+      same values (subst (λ k. AreKnown k values) (sym ek) are)
       ∙ product-made whole (record { number = 0; terms = one }) none one e0 e1 refl values;
 }
 
@@ -136,12 +136,12 @@ name-adds whole start name none one both es e0 e1 e2 other values =
 
 pub split-is : (context : Context) (known : List Known) (whole : Whole) (start : Start) (found : Option Linear) (own made : Linear)
     → known ≡ context.known.items → found ≡ Some own → is_name whole.outer ≡ false → is_name whole.inner ≡ false → BeginsRun context whole start
-    → IfSome found (AddsInner whole start) → IsSameSum known own made → IsSplitSum context whole made
+    → IfSome found (AddsInner whole start) → IsRewrittenSum known own made → IsSplitSum context whole made
 split-is context known whole start found own made ek ef outer inner begins adds same = record {
   plain = whole-plain whole outer inner;
   value_is = λ values meets.
       let here = at_most whole.last (product whole values) in
-      same.value_is values (subst (λ k. AreKnown k values) (sym ek) meets.known)
+      same values (subst (λ k. AreKnown k values) (sym ek) meets.known)
       ∙ subst (λ o. IfSome o (AddsInner whole start)) ef adds here values
       ∙ ap (λ n. word.add n (values whole.inner)) (sym (begins values meets));
 }

@@ -39,7 +39,7 @@ use Rattle.task_code_statements.specs.declared.replacing.Standing.{Standing}
 use Rattle.task_code_statements.specs.declared.vectorizing.Guarded.{Guarded}
 use Rattle.task_code_statements.specs.Contexts.{Meets, MeetsLoop}
 use Rattle.task_code_statements.specs.Replacing.{AddsSum, IsReplaced, IsReplacedStore, IsRest, IsTimes, StandsAt}
-use Rattle.task_code_statements.specs.Rewriting.{IsSameSum}
+use Rattle.task_code_loops.specs.Known.{IsRewrittenSum}
 use Rattle.task_code_statements.specs.Splits.{BeginsAt, IsInner, IsSplitValue, IsValueOf, product}
 use Rattle.task_code_statements.specs.Vectorizing.{IsStoreOf, ReplacesIn, passes}
 use Rattle.task_code_statements.proofs.AtOnce.{effect-left, sound-left}
@@ -142,10 +142,10 @@ rest-made own sum rest stride es none left = record {
 -- ---- values of split loops
 
 pub inner-is : (context : Context) (whole : Whole) (known : List Known) (bounds : List Bound) (count : ℕ) (own made : Linear) → known ≡ context.known.items
-    → bounds ≡ context.bounds.items → ((values : Values) → linear_value values own ≡ values whole.inner % 2 ^ 32) → IsSameSum known own made
+    → bounds ≡ context.bounds.items → ((values : Values) → linear_value values own ≡ values whole.inner % 2 ^ 32) → IsRewrittenSum known own made
     → IsBelow bounds (record { sum = made; per_hart = 0 }) count → IsInner context whole count made
 inner-is context whole known bounds count own made ek eb is same below = record {
-  value_is = λ values meets. same.value_is values (subst (λ k. AreKnown k values) (sym ek) meets.known) ∙ is values;
+  value_is = λ values meets. same values (subst (λ k. AreKnown k values) (sym ek) meets.known) ∙ is values;
   below = λ values meets. subst (λ n. n < count) (form-sum 0 values made) (below 0 values (subst (λ b. AreBelow b values) (sym eb) meets.below));
 }
 

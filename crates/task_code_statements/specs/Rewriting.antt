@@ -12,11 +12,7 @@ use Rattle.task_code_loops.specs.declared.known.Known.{Known}
 use Rattle.task_code_loops.specs.Known.{AreKnown}
 use Rattle.task_code_names.specs.Alike.{IsAlike, IsAlikeStore}
 
--- a sum comes to the same wherever these are known
-pub record IsSameSum (known : List Known) (own made : Linear) : Type 0 where
-  pub value_is : (values : Values) → AreKnown known values → linear_value values made ≡ linear_value values own
-
--- an expression comes to the same there, and loads the same points
+-- an expression comes to the same wherever these are known, and loads the same points
 abbrev pub IsSameExpr : List Known → Expr → Expr → Type 0
 IsSameExpr known own made = IsAlike (AreKnown known) own made
 

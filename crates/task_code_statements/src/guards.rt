@@ -241,7 +241,7 @@ pub fn emit_behind(
             let sum = first.sum.copy(alloc)?;
             let form = Form { sum, per_hart: 0 };
             let mut inner = Vec::new(alloc);
-            emit_guarded(alloc, &mut inner, scope, &form, first.extent, words)?;
+            emit_guarded(&mut inner, scope, &form, first.extent, words)?;
             emit_behind(alloc, code, scope, others, inner.as_slice())?;
             Ok(())
         }

@@ -3,28 +3,16 @@
 ghost use Rattle.std.specs.Prelude.{◌≡◌, IfOk, IfSome};
 ghost use Rattle.loop_ir.specs.declared.expressions.Expr.{Expr};
 ghost use Rattle.loop_ir.specs.declared.expressions.Expr.TheVariants as expressions;
-ghost use Rattle.task_code_statements.specs.Rewriting.{IsBinary, IsLeafSum, IsSameExpr, IsSameStore, IsSameSum};
+ghost use Rattle.task_code_statements.specs.Rewriting.{IsBinary, IsLeafSum, IsSameExpr, IsSameStore};
 
 use halide_pipeline::Operation;
 use loop_ir::expressions::{Expr, Linear};
 use loop_ir::statements::Store;
 use sqlite_items::Boxed;
 use std::alloc::{AllocError, Global};
-use task_code_clamps::clamps::is_leaf;
-use task_code_loops::known::{Known, linear_by_others};
-use task_code_loops::sums::combined;
-
-/// A sum by other loop variables than the known ones.
-pub fn sum_by_others(alloc: Global, own: &Linear, known: &[Known]) -> Result<Linear, AllocError>
-    ensures { IfOk result (IsSameSum known.now own.now) }
-{
-    if known.is_empty() {
-        let sum = own.copy(alloc)?;
-        return Ok(sum);
-    }
-    let made = linear_by_others(alloc, own, known)?;
-    Ok(made)
-}
+use task_code_loops::known::{Known, sum_by_others};
+use task_code_loops::sums::{combined, may_combine};
+use task_code_values::needs::is_leaf;
 
 /// A number or a sum as a sum.
 pub(crate) fn leaf_sum(alloc: Global, e: &Expr) -> Result<Option<Linear>, AllocError>
@@ -37,16 +25,6 @@ pub(crate) fn leaf_sum(alloc: Global, e: &Expr) -> Result<Option<Linear>, AllocE
             Ok(Some(sum))
         }
         _ => Ok(None),
-    }
-}
-
-/// Whether an operation makes sums of sums. What others are given need not be copied.
-fn makes_sums(operation: Operation) -> bool {
-    match operation {
-        Operation::Add => true,
-        Operation::Subtract => true,
-        Operation::Multiply => true,
-        _ => false,
     }
 }
 
@@ -83,7 +61,7 @@ fn sum_of_both(
 ) -> Result<Option<Linear>, AllocError>
     ensures { IfOk result (λ found. IfSome found (λ sum. IsBinary operation a.now b.now (expressions.Linear sum))) }
 {
-    if !makes_sums(operation) || !is_leaf(b) {
+    if !may_combine(operation) || !is_leaf(b) {
         return Ok(None);
     }
     match leaf_sum(alloc, a)? {

@@ -316,7 +316,6 @@ fn emit_parted(
 
 /// Appends code that was made beside, under a test on a form.
 fn emit_tested(
-    alloc: Global,
     code: &mut Code,
     scope: &[Held],
     form: &Form,
@@ -327,7 +326,7 @@ fn emit_tested(
         made.now.words.items) }
 {
     let words = made.words.as_slice();
-    emit_guarded(alloc, &mut code.words, scope, form, extent, words)?;
+    emit_guarded(&mut code.words, scope, form, extent, words)?;
     let found = made.stages.list.as_slice();
     let behind = code.words.len();
     add_last(&mut code.stages.list, found, words.len(), behind)?;
@@ -386,7 +385,7 @@ fn emit_entered(
     }
     let mut made = no_words_beside(alloc, code);
     emit_statement(alloc, &mut made, site, &entered.inner, body)?;
-    emit_tested(alloc, code, site.scope, &entered.form, split.extent, &made)?;
+    emit_tested(code, site.scope, &entered.form, split.extent, &made)?;
     Ok(())
 }
 

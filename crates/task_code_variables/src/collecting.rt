@@ -158,7 +158,7 @@ fn collect_pixel(
             )?;
             let form = variable(alloc, numbered(around.len()))?;
             let made = words.as_slice();
-            emit_guarded(alloc, code, within.scope, &form, *extent, made)?;
+            emit_guarded(code, within.scope, &form, *extent, made)?;
             Ok(())
         }
     }

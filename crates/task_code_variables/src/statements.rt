@@ -133,7 +133,7 @@ fn emit_tested(
 {
     let form = variable(alloc, counter)?;
     let words = made.words.as_slice();
-    emit_guarded(alloc, &mut code.words, scope, &form, extent, words)?;
+    emit_guarded(&mut code.words, scope, &form, extent, words)?;
     let found = made.stages.list.as_slice();
     let behind = code.words.len();
     add_last(&mut code.stages.list, found, words.len(), behind)?;

@@ -8,5 +8,5 @@ returns-then-from-reserved-clause-some c = (
     left-may c.args.scope.now c.in_ok-found.found c.in_ok-found.ensures.some,
     left-free c.args.scope.now c.in_ok-found.found c.in_ok-found.ensures.some,
   ),
-  subst (λ (n : ℕ). c.args.reserved < n) (c.from.ensures ∙ c.left_registers.ensures) c.if-from-reserved.true,
+  subst (λ (n : ℕ). c.args.reserved < n) (c.from.ensures ∙ c.left_count.ensures) c.if-from-reserved.true,
 )

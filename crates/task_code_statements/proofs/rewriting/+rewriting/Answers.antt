@@ -8,7 +8,7 @@ by_other_variables-returns-in-Number t c = alike-number (AreKnown c.args.known.n
 
 pub by_other_variables-returns-in_ok-sum-in-Linear : goal.by_other_variables-returns-in_ok-sum-in-Linear
 by_other_variables-returns-in_ok-sum-in-Linear t c =
-    alike-linear (AreKnown c.args.known.now) c.args.e.now c.in-Linear.own c.in_ok-sum-in-Linear.sum c.in-Linear.is c.in_ok-sum-in-Linear.ensures.value_is
+    alike-linear (AreKnown c.args.known.now) c.args.e.now c.in-Linear.own c.in_ok-sum-in-Linear.sum c.in-Linear.is c.in_ok-sum-in-Linear.ensures
 
 pub by_other_variables-returns-in_ok-made-in-Binary : goal.by_other_variables-returns-in_ok-made-in-Binary
 by_other_variables-returns-in_ok-made-in-Binary t c =

@@ -2,7 +2,7 @@ use Rattle.std.proofs.Common.{◌∙◌, ◌+◌, ◌%◌, ◌^◌, ap, refl}
 use Rattle.loop_ir.specs.declared.expressions.Linear.{Linear}
 use Rattle.loop_ir.specs.Expressions.{linear_value, sum_of}
 use Rattle.task_code_loops.proofs.Rewriting.{sum-rewritten}
-use Rattle.task_code_loops.proofs.known.linear_by_others.Goals as goal
+use Rattle.task_code_loops.proofs.known.sum_by_others.Goals as goal
 
 pub returns : goal.returns
 returns c =
