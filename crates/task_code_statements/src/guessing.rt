@@ -2,7 +2,7 @@
 
 use crate::contexts::{Context, in_loop, with_value};
 use crate::names::free_name;
-use crate::plain::name;
+use crate::plain::{is_name, name};
 use crate::rewriting::store_by_others;
 use crate::splits::{Entered, enter_split, is_cut, unnamed_start, without_last};
 use crate::statements::{is_laid_out, made_store};
@@ -210,18 +210,20 @@ fn statement_by_names(
     }
 }
 
-/// A sum as it is where all loop variables but those of these loops are 0.
-fn first_sum(alloc: Global, bounds: &[Bound], own: &Linear) -> Result<Linear, AllocError> {
+/// A sum as it is in the first iterations of all loops but these, if names are no part of it.
+fn first_sum(alloc: Global, bounds: &[Bound], own: &Linear) -> Result<Option<Linear>, AllocError> {
     let mut terms = Items::new(alloc);
     for term in own.terms.as_slice() {
         if is_among(bounds, term.counter) {
             terms.push(*term)?;
+        } else if is_name(term.counter) {
+            return Ok(None);
         }
     }
-    Ok(Linear {
+    Ok(Some(Linear {
         number: own.number,
         terms,
-    })
+    }))
 }
 
 /// Adds the sums that an expression is made of, as they are in the first iterations of loops inside, if they go on with
@@ -235,9 +237,10 @@ pub fn add_sums(
     match e {
         Expr::Number(_) => Ok(()),
         Expr::Linear(own) => {
-            let sum = first_sum(alloc, bounds, own)?;
-            if !sum.terms.as_slice().is_empty() {
-                found.push(Form { sum, per_hart: 0 })?;
+            if let Some(sum) = first_sum(alloc, bounds, own)? {
+                if !sum.terms.as_slice().is_empty() {
+                    found.push(Form { sum, per_hart: 0 })?;
+                }
             }
             Ok(())
         }

@@ -5,21 +5,24 @@ use crate::guessing::{add_sums, ready};
 use crate::statements::is_laid_out;
 use crate::vectorizing::is_at_once;
 use loop_ir::expressions::{Counter, Expr};
-use loop_ir::statements::Stmt;
+use loop_ir::statements::{LoopKind, Stmt};
 use std::alloc::{AllocError, Global};
 use task_code_loops::known::{Known, by_others};
 use task_code_loops::tests::variable;
 use task_code_loops::wanted::wanted_forms;
-use task_code_registers::scopes::{Form, Held, left_registers};
+use task_code_registers::scopes::{Form, Held, left_count};
 use task_code_scalar::CodeFault;
 use task_code_scalar::places::Places;
 
-/// How many registers hold forms at most.
-const MOST_HELD: usize = 14;
 /// How many registers a loop has good use for: for its variable and its count, or for pointers and their ends.
 const VARIABLE_REGISTERS: usize = 2;
 
 const POINTER_REGISTERS: usize = 4;
+
+/// Whether a loop's iterations come one behind the other.
+pub(crate) fn is_in_turn(kind: LoopKind, count: u32) -> bool {
+    !is_at_once(kind) && !is_laid_out(kind, count)
+}
 
 /// How many registers the loops of a statement ask for at once: one each, but for those that are laid out or done at
 /// once. The values of split loops are sums.
@@ -32,7 +35,7 @@ pub(crate) fn depth(statement: &Stmt) -> usize {
             if one < other { other } else { one }
         }
         Stmt::For(_, count, kind, body) => {
-            let own = usize::from(!is_at_once(*kind) && !is_laid_out(*kind, *count));
+            let own = usize::from(is_in_turn(*kind, *count));
             depth(body.get()).saturating_add(own)
         }
         Stmt::Bind(_, _, _, body) => depth(body.get()),
@@ -41,7 +44,7 @@ pub(crate) fn depth(statement: &Stmt) -> usize {
 
 /// How many registers are left.
 fn left(scope: &[Held]) -> usize {
-    usize::from(left_registers(scope)).min(MOST_HELD)
+    usize::from(left_count(scope))
 }
 
 /// How many registers a loop leaves to so many loops inside: what each has good use for, as far as it has as much

@@ -8,12 +8,13 @@ use crate::contexts::{Context, with_sum};
 use crate::lessers::{NEGATIVE, lesser_of};
 use crate::plain::is_name;
 use crate::replacing::plus;
-use crate::rewriting::sum_by_others;
+use crate::room::is_in_turn;
 use loop_ir::expressions::{Counter, Expr, Linear, Term, same_counter};
 use loop_ir::statements::{Stmt, Whole};
 use sqlite_items::Items;
 use std::alloc::{AllocError, Global};
 use task_code_loops::bounds::{Bound, is_below};
+use task_code_loops::known::sum_by_others;
 use task_code_names::copies::is_still;
 use task_code_names::names::name_for;
 use task_code_registers::scopes::Form;
@@ -356,23 +357,36 @@ fn is_cut_by(whole: &Whole, own: Bound) -> bool
     same_counter(whole.outer, own.counter) && product > u64::from(last)
 }
 
-/// Whether some split loop's value inside isn't the same sum in a loop's last iteration as in those before.
+/// How many loops in turn around a split loop's value are enough to make code of its own for a last iteration not worth
+/// while: where a run begins gets a name in front of them, once for all their iterations.
+const ENOUGH_LOOPS: usize = 2;
+
+/// Whether some split loop's value inside isn't the same sum in a loop's last iteration as in those before, and few
+/// loops stand around it.
 pub(crate) fn is_cut(body: &Stmt, own: Bound) -> bool
     ensures { result ≡ true → 1 ≤ own.count }
 {
     if own.count == 0 {
         return false;
     }
-    has_cut(body, own)
+    has_cut(body, own, 0)
 }
 
-fn has_cut(body: &Stmt, own: Bound) -> bool
+/// So it is inside of so many loops in turn.
+fn has_cut(body: &Stmt, own: Bound, around: usize) -> bool
     requires { 1 ≤ own.count }
 {
     match body {
         Stmt::Store(_) => false,
-        Stmt::Sequence(first, second) => has_cut(first.get(), own) || has_cut(second.get(), own),
-        Stmt::For(_, _, _, inside) => has_cut(inside.get(), own),
-        Stmt::Bind(_, whole, _, inside) => is_cut_by(whole, own) || has_cut(inside.get(), own),
+        Stmt::Sequence(first, second) => {
+            has_cut(first.get(), own, around) || has_cut(second.get(), own, around)
+        }
+        Stmt::For(_, count, kind, inside) => {
+            let inner = around.saturating_add(usize::from(is_in_turn(*kind, *count)));
+            inner < ENOUGH_LOOPS && has_cut(inside.get(), own, inner)
+        }
+        Stmt::Bind(_, whole, _, inside) => {
+            is_cut_by(whole, own) || has_cut(inside.get(), own, around)
+        }
     }
 }

@@ -17,7 +17,7 @@ use task_code_values::sites::Site;
 /// How far names of what might be made in each iteration go: they leave registers to loops and pointers.
 const SPARING: Limits = Limits {
     names: 4,
-    registers: 6,
+    registers: 5,
 };
 
 /// How many names there are at most of where runs begin.

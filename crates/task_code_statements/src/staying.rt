@@ -241,7 +241,7 @@ fn standing_of(moving: &[Counter], e: &Expr) -> Standing {
 }
 
 /// Whether some part of a statement's stores may stay the same, where these loop variables go on, and those of loops
-/// inside.
+/// inside, which are added to them.
 fn may_stay(statement: &Stmt, moving: &mut Vec<Counter>) -> Result<bool, AllocError> {
     match statement {
         Stmt::Store(store) => {
@@ -258,6 +258,7 @@ fn may_stay(statement: &Stmt, moving: &mut Vec<Counter>) -> Result<bool, AllocEr
             moving.push(*counter)?;
             may_stay(body.get(), moving)
         }
+        // Its variable is the sum of both loops'.
         Stmt::Bind(counter, whole, _, body) => {
             if is_moving(moving.as_slice(), whole.outer)
                 || is_moving(moving.as_slice(), whole.inner)
