@@ -182,6 +182,30 @@ module _ (places : Places) (bounds : List Bound) where
               subst (λ n. n < 2 ^ 32) (sym (value_binary reads values o x y)) (choice k.1 (value reads values x) (value reads values y) both.0 both.1);
         })
 
+    -- by an expression that comes to the same as an operation on both
+    pub as-both : (p : Expr) (made : Ranged) → ((reads : Reads) (values : Values) → value reads values p ≡ value reads values (e.Binary o a.e b.e))
+        → ((reads : Reads) (values : Values) → loads reads values p ≡ loads reads values (e.Binary o a.e b.e)) → IsRanged places bounds p made
+        → IsRanged places bounds (e.Binary o x y) made
+    as-both p made ev el rp = record {
+      same = record {
+        value_is = λ reads values below bytes.
+            rp.same.value_is reads values below (inner reads values below bytes) ∙ ev reads values ∙ both-value o x y a b rx ry reads values below bytes;
+        loads_are = λ reads values below bytes.
+            rp.same.loads_are reads values below (inner reads values below bytes) ∙ el reads values ∙ both-loads o x y a b rx ry reads values below bytes;
+      };
+      lies = λ reads values below bytes.
+          subst (λ n. LiesIn made.range n) (ev reads values ∙ both-value o x y a b rx ry reads values below bytes)
+          (rp.lies reads values below (inner reads values below bytes));
+      word = λ reads values below bytes w.
+          subst (λ n. n < 2 ^ 32) (ev reads values ∙ both-value o x y a b rx ry reads values below bytes)
+          (rp.word reads values below (inner reads values below bytes) w);
+    }
+      where
+        inner : (reads : Reads) (values : Values) → AreBelow bounds values → AreBytesAt places reads (loads reads values (e.Binary o x y))
+            → AreBytesAt places reads (loads reads values p)
+        inner reads values below bytes =
+            subst (λ l. AreBytesAt places reads l) (sym (el reads values ∙ both-loads o x y a b rx ry reads values below bytes)) bytes
+
     -- by a test
     pub by-test : (made : Expr) (range : Range) (is_word is_choice : Bool) → IsTested o a b made
         → ((v w : ℕ) → LiesIn a.range v → LiesIn b.range w → LiesIn range (word.applied o v w))

@@ -1,5 +1,6 @@
 -- Stores as their code is made, and where loops begin. This project's own.
 use Rattle.std.specs.Prelude.{◌≡◌, ℕ, false, List}
+use Rattle.loop_ir.specs.declared.expressions.Expr.{Expr}
 use Rattle.loop_ir.specs.declared.statements.Store.{Store}
 use Rattle.task_code_scalar.specs.declared.places.Places.{Places}
 use Rattle.task_code_registers.specs.declared.scopes.Form.{Form}
@@ -7,11 +8,31 @@ use Rattle.task_code_registers.specs.declared.scopes.Held.{Held}
 use Rattle.task_code_registers.specs.Holding.{mentions}
 use Rattle.task_code_loops.specs.declared.beginning.Begun.{Begun}
 use Rattle.task_code_loops.specs.declared.bounds.Bound.{Bound}
+use Rattle.task_code_loops.specs.declared.known.Known.{Known}
 use Rattle.task_code_loops.specs.Beginning.{Begins}
+use Rattle.task_code_clamps.specs.declared.clamps.Ranged.{Ranged}
 use Rattle.task_code_clamps.specs.Clamps as clamps
 use Rattle.task_code_names.specs.Names.{IsNamedStore}
 use Rattle.task_code_statements.specs.declared.contexts.Context.{Context}
-use Rattle.task_code_statements.specs.Rewriting.{IsSameStore}
+use Rattle.task_code_statements.specs.Rewriting.{IsSameExpr, IsSameStore}
+
+-- an expression without clamps that cut nothing off, made of one by other loop variables than the known ones
+pub record IsUnclamped (places : Places) (known : List Known) (bounds : List Bound) (own made : Expr) : Type 0 where
+  pub middle : Expr
+  pub by_others : IsSameExpr known own middle
+  pub without_clamps : clamps.IsSame places bounds middle made
+
+-- and it lies in a range
+pub record IsUnclampedIn (places : Places) (known : List Known) (bounds : List Bound) (own : Expr) (made : Ranged) : Type 0 where
+  pub middle : Expr
+  pub by_others : IsSameExpr known own middle
+  pub ranged : clamps.IsRanged places bounds middle made
+
+-- so is a store
+pub record IsUnclampedStore (places : Places) (known : List Known) (bounds : List Bound) (own made : Store) : Type 0 where
+  pub middle : Store
+  pub by_others : IsSameStore known own middle
+  pub without_clamps : clamps.IsSameStore places bounds middle made
 
 -- a store by other loop variables than the known ones, without clamps that cut nothing off, and with names in place of parts
 pub record IsMadeStore (places : Places) (context : Context) (own made : Store) : Type 0 where

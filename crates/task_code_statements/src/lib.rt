@@ -19,7 +19,8 @@
 //!
 //! Stores by other variables:
 //!
-//! - `rewriting`: by those that aren't known (`specs/Rewriting.antt`).
+//! - `rewriting`: by those that aren't known (`specs/Rewriting.antt`), and `making`: without clamps that cut nothing
+//!   off too (`specs/Making.antt`).
 //! - `replacing`: with an expression for a variable (`specs/Replacing.antt`).
 //! - `plain`: without names, `lacking`: without one variable, `mentions`: which variables there are.
 //!
@@ -34,6 +35,7 @@ mod guards;
 mod guessing;
 mod lacking;
 mod lessers;
+mod making;
 mod mentions;
 mod names;
 mod plain;

@@ -53,7 +53,7 @@ fn sum_with(
 }
 
 /// What an operation makes of two expressions that are sums, where it is a sum. The first one's sum is copied.
-fn sum_of_both(
+pub(crate) fn sum_of_both(
     alloc: Global,
     operation: Operation,
     a: &Expr,

@@ -12,8 +12,8 @@ ghost use Rattle.task_code_statements.specs.Making.{BeginsIterations, IsMadeStor
 ghost use Rattle.task_code_statements.specs.Statements.{EmitsLoop, EmitsStatement};
 
 use crate::contexts::{Context, in_loop, with_sum};
+use crate::making::unclamped_store;
 use crate::plain::is_plain_store;
-use crate::rewriting::store_by_others;
 use crate::room::{depth, reserve, wanted_in};
 use crate::splits::{enter_split, is_cut, without_last};
 use crate::stages::{Code, add_first, add_last, add_second, no_words_beside};
@@ -22,7 +22,6 @@ use crate::vectorizing::emit_vectorized;
 use loop_ir::expressions::{Counter, Linear};
 use loop_ir::statements::{LoopKind, Stmt, Store, Whole};
 use std::alloc::{AllocError, Global};
-use task_code_clamps::clamps::unclamped_store;
 use task_code_loops::beginning::{Begun, begin_loop};
 use task_code_loops::bounds::{Bound, is_below};
 use task_code_loops::ending::end_loop;
@@ -57,8 +56,8 @@ pub(crate) fn made_store(
 ) -> Result<Store, AllocError>
     ensures { IfOk result (IsMadeStore places.now context.now store.now) }
 {
-    let made = store_by_others(alloc, store, context.known.as_slice())?;
-    let plain = unclamped_store(alloc, places, context.bounds.as_slice(), made)?;
+    let known = context.known.as_slice();
+    let plain = unclamped_store(alloc, places, known, context.bounds.as_slice(), store)?;
     if context.names.is_empty() {
         return Ok(plain);
     }

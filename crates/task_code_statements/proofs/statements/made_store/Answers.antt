@@ -3,11 +3,13 @@ use Rattle.task_code_statements.proofs.statements.made_store.Goals as goal
 
 pub returns : goal.returns
 returns c =
-    made-is c.args.places.now c.args.context.now c.as_slice.result.now c.as_slice-2.result.now c.as_slice-3.result.now c.args.store.now c.in_ok-made.made
-    c.in_ok-plain.plain c.in_ok-named.named c.as_slice.ensures.value c.as_slice-2.ensures.value c.as_slice-3.ensures.value c.in_ok-made.ensures
-    c.in_ok-plain.ensures c.in_ok-named.ensures
+    let plain = c.in_ok-plain.ensures in
+    made-is c.args.places.now c.args.context.now c.as_slice-known.result.now c.as_slice.result.now c.as_slice-2.result.now c.args.store.now plain.middle
+    c.in_ok-plain.plain c.in_ok-named.named c.as_slice-known.ensures.value c.as_slice.ensures.value c.as_slice-2.ensures.value plain.by_others
+    plain.without_clamps c.in_ok-named.ensures
 
 pub returns-then-is_empty : goal.returns-then-is_empty
 returns-then-is_empty c =
-    unnamed-is c.args.places.now c.args.context.now c.as_slice.result.now c.as_slice-2.result.now c.args.store.now c.in_ok-made.made c.in_ok-plain.plain
-    c.as_slice.ensures.value c.as_slice-2.ensures.value c.in_ok-made.ensures c.in_ok-plain.ensures
+    let plain = c.in_ok-plain.ensures in
+    unnamed-is c.args.places.now c.args.context.now c.as_slice-known.result.now c.as_slice.result.now c.args.store.now plain.middle c.in_ok-plain.plain
+    c.as_slice-known.ensures.value c.as_slice.ensures.value plain.by_others plain.without_clamps
