@@ -14,7 +14,7 @@ use task_code_registers::holding::{at_value, stride_of};
 use task_code_registers::numbers::fits;
 use task_code_registers::points::point_form;
 use task_code_registers::scopes::Form;
-use task_code_registers::sums::distance;
+use task_code_registers::sums::small_distance;
 use task_code_scalar::places::{Places, place_of};
 
 /// As many uses a sum counts for whose value is wanted and not only an address: there may be no code for it where no
@@ -28,18 +28,10 @@ struct Use {
     times: u32,
 }
 
-/// Whether a form is so near another one that an immediate tells them apart.
-fn is_near(form: &Form, base: &Form) -> bool {
-    match distance(form, base) {
-        Some(number) => fits(number),
-        None => false,
-    }
-}
-
 /// Where a form stands that is near this one.
 fn place_near(found: &[Use], form: &Form) -> Option<usize> {
     for (place, own) in found.iter().enumerate() {
-        if is_near(form, &own.form) {
+        if small_distance(form, &own.form).is_some() {
             return Some(place);
         }
     }

@@ -91,6 +91,32 @@ pub fn distance(form: &Form, base: &Form) -> Option<u32>
     }
 }
 
+/// So much it is, if that fits an immediate. Where their numbers are further apart, terms aren't looked at.
+pub fn small_distance(form: &Form, base: &Form) -> Option<u32>
+    ensures apart { IfSome result (IsApart form.now base.now) }
+    ensures small { IfSome result Fits }
+{
+    if !fits(words::subtract(form.sum.number, base.sum.number)) {
+        return None;
+    }
+    match distance(form, base) {
+        Some(number) if fits(number) => Some(number),
+        _ => None,
+    }
+}
+
+/// Either of both.
+fn wanted_distance(form: &Form, base: &Form, is_small: bool) -> Option<u32>
+    ensures apart { IfSome result (IsApart form.now base.now) }
+    ensures small { is_small ≡ true → IfSome result Fits }
+{
+    if is_small {
+        small_distance(form, base)
+    } else {
+        distance(form, base)
+    }
+}
+
 /// A register, and by how much a form is more than what it holds.
 #[derive(Clone, Copy, Debug)]
 pub struct Near {
@@ -106,9 +132,9 @@ pub fn find(scope: &[Held], form: &Form, is_small: bool) -> Option<Near>
     match scope {
         [] => None,
         [first, others @ ..] => {
-            match distance(form, &first.form) {
+            match wanted_distance(form, &first.form, is_small) {
                 Some(number) => {
-                    if may_hold(first.register) && (!is_small || fits(number)) {
+                    if may_hold(first.register) {
                         return Some(Near {
                             register: first.register,
                             number,
