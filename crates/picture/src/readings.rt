@@ -162,8 +162,8 @@ fn short_number(text: &[u8]) -> Option<(u32, usize)>
     None
 }
 
-/// A pixel of few digits and this word of one byte behind it, and what stands behind both. The digits are added up while
-/// their end is looked for.
+/// A pixel of few digits and this word of one byte behind it, and what stands behind both. The digits are added up
+/// while their end is looked for.
 fn short_pixel_then<'a>(word: &[u8], text: &'a [u8]) -> Option<(u32, &'a [u8])>
     ensures { IfSome result (λ pixel. spec.pixel_then word.now text.now ≡ Ok (pixel.0, pixel.1.now)) }
 {

@@ -11,4 +11,5 @@ returns c =
     behind_byte c.args.word.now after (omega arith) (omega arith) c.if-first-separator.false in
     short-pixel c.args.word.now c.args.text.now unsigned _ c.sign_at-negative.result.0 c.in_ok-size.size c.in_ok-size.len c.signed.result
     c.sign_at-negative.ensures c.in_ok-size.ensures.len c.in_ok-size.ensures.number c.in_ok-size.ensures.few
-    (rw c.split_at.ensures.front at (sym c.is_plain.ensures ∙ c.if-not-is_plain.false)) (ap (λ (l : List ℕ). behind c.args.word.now l) (sym c.split_at.ensures.back) ∙ stops) c.signed.ensures
+    (rw c.split_at.ensures.front at (sym c.is_plain.ensures ∙ c.if-not-is_plain.false))
+    (ap (λ (l : List ℕ). behind c.args.word.now l) (sym c.split_at.ensures.back) ∙ stops) c.signed.ensures
