@@ -1,11 +1,15 @@
 -- Bytes without the zeros at their end, and with them again.
-use Rattle.std.proofs.Common.{◌≡◌, ℕ, zero, suc, ◌+◌, ◌-◌, ◌<◌, ◌≤◌, Bool, true, false, cond, List, [], ◌∷◌, ◌++◌, length, take, get_or, refl, sym, ap, ◌∙◌}
+use Rattle.std.proofs.Common.{◌≡◌, ℕ, zero, suc, ◌+◌, ◌-◌, ◌<◌, ◌≤◌, Bool, true, false, cond, List, [], ◌∷◌, ◌++◌, length, take, drop, get_or, refl, sym, ap}
+use Rattle.std.proofs.Common.{◌∙◌}
 use Rattle.std.proofs.Common.{arith, inl, inr}
 use Rattle.std.specs.Prelude.{◌==◌, replicate, slice_get}
 use Rattle.std.proofs.lemmas.Bool.{cases_Bool, ne_eqb, eqb-true, cond-true, cond-false}
-use Rattle.std.proofs.lemmas.List.{append-nil, take_more, length-append, length-replicate}
+use Rattle.std.specs.Int.{w64, from_le_bytes}
+use Rattle.std.proofs.lemmas.List.{append-nil, take_more, length-append, length-drop, length-replicate, take-append-drop}
+use Rattle.std.proofs.lemmas.Nat.{le_bytes_8}
 use Rattle.loader.specs.declared.formats.Format.{Format}
 use Rattle.loader.specs.declared.formats.Format.TheVariants.{Hrv1, Hrv2}
+use Rattle.loader.proofs.Numbers.{IsBytes, IsBytes-drop}
 use Rattle.loader.specs.Spelling.{in_front, trimmed, stored, padded, is_zero, stores_zero, byte_count, stored_count}
 
 -- ---- the zeros are put back
@@ -149,3 +153,25 @@ pub other_before : (bytes : List ℕ) (count : ℕ) → 0 < count → count ≤ 
 other_before bytes count some within other =
     let next : count - 1 + 1 ≡ count = omega arith in
     rw next at (other_kept bytes (count - 1) (omega arith) other)
+
+-- ---- eight zeros at once
+
+-- zeros behind other bytes are lost
+lost_behind : (front zeros : List ℕ) → trimmed zeros ≡ [] → trimmed (front ++ zeros) ≡ trimmed front
+lost_behind [] zeros none = none
+lost_behind (byte ∷ front) zeros none = ap (in_front byte) (lost_behind front zeros none)
+
+-- bytes that spell 0 are zeros
+all_zeros : (last : List ℕ) → length last ≡ 8 → ((i : ℕ) → get_or last i 0 < 256) → from_le_bytes w64 last ≡ 0 → trimmed last ≡ []
+all_zeros last len small is = ap trimmed (sym (le_bytes_8 last 0 len small (sym is)))
+
+-- the last eight bytes are lost where they spell 0
+pub eight_behind : (bytes front last : List ℕ) → IsBytes bytes
+    → (front ≡ take (length bytes - 8) bytes) × (last ≡ drop (length bytes - 8) bytes) × (length front + 8 ≡ length bytes)
+    → from_le_bytes w64 last ≡ 0 → trimmed front ≡ trimmed bytes
+eight_behind bytes front last small parts is =
+    let n = length bytes - 8 in
+    let rest = drop n bytes in
+    let len : length rest ≡ 8 = omega (arith, length-drop n bytes, parts.2) in
+    let none : trimmed rest ≡ [] = all_zeros rest len (IsBytes-drop n bytes small) (ap (from_le_bytes w64) (sym parts.1) ∙ is) in
+    ap trimmed parts.0 ∙ sym (lost_behind (take n bytes) rest none) ∙ ap trimmed (take-append-drop n bytes)

@@ -1,6 +1,7 @@
 //! Writing images as bytes.
 
-ghost use Rattle.std.specs.Prelude.{◌≡◌, ◌+◌, ◌*◌, ◌<◌, ◌≤◌, ◌++◌, ℕ, List, OnOk, OnErr, length, vec_len, vec_capacity};
+ghost use Rattle.std.specs.Prelude.{◌≡◌, ◌+◌, ◌*◌, ◌<◌, ◌≤◌, ◌++◌, ℕ, IfSome, List, OnOk, OnErr, length};
+ghost use Rattle.std.specs.Prelude.{vec_len, vec_capacity};
 ghost use Rattle.std.specs.Int.{w32, to_le_bytes};
 ghost use Rattle.loader.specs.Image.{ImageContents, IsImage};
 ghost use Rattle.loader.specs.Spelling.{spelled, spelled_numbers, output_fields, spelled_start, spelled_header, stored};
@@ -70,19 +71,27 @@ fn push_start(out: &mut Vec<u8>, image: &Image)
     push_numbers(out, &output_fields(image.output()));
 }
 
+/// The bytes in front of the last eight, where those are zeros.
+fn in_front_of_zeros(bytes: &[u8]) -> Option<&[u8]>
+    ensures same { IfSome result (λ front. trimmed front.now ≡ trimmed bytes.now) }
+    ensures len { IfSome result (λ front. length front.now < length bytes.now) }
+{
+    let (front, last) = bytes.split_last_chunk::<8>()?;
+    if u64::from_le_bytes(*last) == 0 {
+        Some(front)
+    } else {
+        None
+    }
+}
+
 /// The bytes without the zeros at their end.
 fn trimmed(bytes: &[u8]) -> &[u8]
     ensures value { result.now ≡ trimmed bytes.now }
     ensures len { length result.now ≤ length bytes.now }
 {
     let mut kept = bytes;
-    // Four at a time, since data often ends in many zeros.
-    while let [front @ .., first, second, third, fourth] = kept
-        && *first == 0
-        && *second == 0
-        && *third == 0
-        && *fourth == 0
-    {
+    // Eight at a time, since data often ends in many zeros.
+    while let Some(front) = in_front_of_zeros(kept) {
         kept = front;
     }
     while let [front @ .., last] = kept

@@ -8,30 +8,16 @@ pub loop-kept-preserved : goal.loop-kept-preserved
 loop-kept-preserved c =
     let kept = c.loop-kept.kept.now in
     let n = length kept in
-    let four = c.in-len4-up.len_at_least in
     record {
-      within = omega (arith, length-take-le (n - 4) kept (omega arith), c.loop-kept.invariant.within);
-      same = zero_stepped kept (n - 4) (n - 3) (omega (arith, four)) (omega arith) c.if-first-eq0.true
-          ∙ (zero_stepped kept (n - 3) (n - 2) (omega (arith, four)) (omega arith) c.if-second-eq0.true
-          ∙ (zero_stepped kept (n - 2) (n - 1) (omega (arith, four)) (omega arith) c.if-third-eq0.true
-          ∙ (zero_stepped kept (n - 1) n (omega (arith, four)) (omega arith) c.if-fourth-eq0.true
-          ∙ (ap trimmed (take_all n kept (omega arith)) ∙ c.loop-kept.invariant.same))));
-    }
-
-pub loop-kept-2-preserved : goal.loop-kept-2-preserved
-loop-kept-2-preserved c =
-    let kept = c.loop-kept-2.kept.now in
-    let n = length kept in
-    record {
-      within = omega (arith, length-take-le (n - 1) kept (omega arith), c.loop-kept-2.invariant.within);
+      within = omega (arith, length-take-le (n - 1) kept (omega arith), c.loop-kept.invariant.within);
       same = zero_stepped kept (n - 1) n (omega (arith, c.in-len1-up.len_at_least)) (omega arith) c.if-last-eq0.true
-          ∙ (ap trimmed (take_all n kept (omega arith)) ∙ c.loop-kept-2.invariant.same);
+          ∙ (ap trimmed (take_all n kept (omega arith)) ∙ c.loop-kept.invariant.same);
     }
 
 pub returns-else-last-eq0-clause-value : goal.returns-else-last-eq0-clause-value
 returns-else-last-eq0-clause-value c =
-    let kept = c.loop-kept-2.kept.now in
+    let kept = c.loop-kept.kept.now in
     let n = length kept in
     let whole = take_all n kept (omega arith) in
     sym whole ∙ (sym (other_before kept n (omega (arith, c.in-len1-up.len_at_least)) (omega arith) c.if-last-eq0.false)
-    ∙ (ap trimmed whole ∙ c.loop-kept-2.invariant.same))
+    ∙ (ap trimmed whole ∙ c.loop-kept.invariant.same))
