@@ -10,6 +10,7 @@ mod HelpOnly
 mod MapAsked
 mod MapWords
 mod NamedWords
+mod OneSubcommand
 mod Parses
 mod PictureWords
 mod Positionals

@@ -1,5 +1,5 @@
 -- Which words ask for a map.
-use Rattle.std.proofs.Common.{◌≡◌, ◌∙◌, codes, true, refl, sym, ap, List, [], ◌∷◌, Some}
+use Rattle.std.proofs.Common.{◌≡◌, ◌∙◌, codes, refl, sym, ap, List, [], ◌∷◌, Some}
 use Rattle.std.specs.Prelude.{option_and_then}
 use Rattle.clap.specs.Walk.{Text}
 use Rattle.clap.specs.Simple.{subcommand_of}

@@ -11,7 +11,7 @@ use Rattle.clap.specs.declared.builder.value_parser.ValueParser.TheVariants.{Uns
 use Rattle.clap.proofs.CallerLemmas.{some_of_text}
 use Rattle.clap.proofs.WalkLemmas.{first_value-rows, one_text-rows, raw_values-rows}
 use Rattle.clap.specs.Walk.{Row, Text, all_of, first_of, one_of, rows_of, texts}
-use Rattle.clap.specs.Simple.{HasMatchesOf, app_of, is_simple, subcommand_of, subcommand_rows_of}
+use Rattle.clap.specs.Simple.{HasMatchesOf, app_of, subcommand_rows_of}
 use Rattle.clap.specs.Matches.{ReadsOne, first_value, found_of, matched_of, one_text, raw_values, subcommand_name_of}
 use Rattle.clap.specs.declared.parser.matches.Found.{Found}
 use Rattle.clap.specs.Faults.{fault_of, is_simple_and_free}
@@ -33,7 +33,8 @@ use Rattle.hrv_command_line.specs.Faults.{fault_for}
 use Rattle.hrv_command_line.specs.declared.command_lines.Invocation.{Invocation}
 use Rattle.hrv_command_line.specs.declared.faults.CommandLineFault.{CommandLineFault}
 use Rattle.hrv_command_line.specs.declared.faults.CommandLineFault.TheVariants.{Refused, Memory, Unexplained}
-use Rattle.hrv_command_line.specs.CommandLine.{Asked, Assembles, Blames, Compiles, Debugs, Draws, Explains, IsRefusal, IsSpelled, IsWithinLimits, Makes, Maps}
+use Rattle.hrv_command_line.specs.CommandLine.{AnswersAsWhole, Asked, Assembles, Blames, Compiles, Debugs, Draws, Explains, IsRefusal, IsSpelled}
+use Rattle.hrv_command_line.specs.CommandLine.{IsWithinLimits, Maps}
 use Rattle.hrv_command_line.specs.CommandLine.{Renews, Replays, asked_in, asked_of, asm_of, blame_of, compile_of, debug_of, dis_of, explain_of, hrv_app}
 use Rattle.hrv_command_line.specs.CommandLine.{if_known, is_given_by, listing_of, map_of, most_harts, most_turns, named_by_clap as named, number_or, picture_of}
 use Rattle.hrv_command_line.specs.CommandLine.{renew_of, replay_of, run_from, run_of}
@@ -41,26 +42,19 @@ use Rattle.hrv_command_line.proofs.AskedWords.{Asks, asked_named, fault_of-named
 use Rattle.hrv_command_line.proofs.BlameWords.{blame_needs}
 use Rattle.hrv_command_line.proofs.RunWords.{run_needs}
 
--- the program's command is one that `clap` gives the matches and the faults of
-pub simple : is_simple_and_free hrv_app ≡ true
-simple = refl
-
-pub is_simple_app : is_simple hrv_app ≡ true
-is_simple_app = refl
-
 -- an answer to the words, with the matches that were found
 pub record Taken (words : List Text) (m : ArgMatches) : Type 0 where
   pub asks : Asks words
   pub met : subcommand_rows_of m ≡ Some (asks.name, asks.rows)
   pub is_asked : asked_in words ≡ Some asks.asked
 
-pub taken : (command : Command) (words : List Text) (m : ArgMatches) → Makes hrv_app command
+pub taken : (command : Command) (words : List Text) (m : ArgMatches) → AnswersAsWhole words command
     → (is_simple_and_free (app_of command) ≡ true → fault_of (app_of command) words ≡ [])
     → HasMatchesOf (app_of command) words m → Taken words m
-taken command words m made passes matches =
-    let pass : fault_of hrv_app words ≡ [] = subst (λ a. fault_of a words ≡ []) made.app (passes (ap is_simple_and_free made.app ∙ simple)) in
+taken command words m answers passes matches =
+    let pass : fault_of hrv_app words ≡ [] = sym answers.faults ∙ passes answers.simple in
     let asks = words_ask words pass in
-    let rows = (matches (ap is_simple made.app ∙ is_simple_app)).1 ∙ ap (λ a. subcommand_of a words) made.app in
+    let rows = (matches answers.ready).1 ∙ answers.met in
     record {
       asks = asks;
       met = rows ∙ asks.met;
@@ -255,6 +249,15 @@ pub asked_here : (words : List Text) (m : ArgMatches) (t : Taken words m) (o : O
     → asked_of (x.0.now, rows_of (found_of x.1.now)) ≡ Some t.asks.asked
 asked_here words m t o x is names gives = met_as m t.asks.name t.asks.rows o x is names gives t.met ∙ t.asks.asks
 
+-- a subcommand is there
+pub is_met : (words : List Text) (m : ArgMatches) (t : Taken words m) (o : Option (Bor Text × Bor ArgMatches))
+    → option_map (λ p. p.0.now) o ≡ subcommand_name_of m → IsSome o
+is_met words m t o names = go o (names ∙ sym (name_of m) ∙ ap (option_map (λ p. p.0)) t.met)
+  where
+    go : (o : Option (Bor Text × Bor ArgMatches)) → option_map (λ p. p.0.now) o ≡ Some t.asks.name → IsSome o
+    go None e = absurd (true≢false (sym (ap is_some e)))
+    go (Some x) e = refl
+
 pub limited_as : (words : List Text) (m : ArgMatches) (t : Taken words m) (asked : Asked) → Some t.asks.asked ≡ Some asked → IsWithinLimits asked
 limited_as words m t asked same = subst IsWithinLimits (ap (λ o. unwrap_or o asked) same) t.asks.limits
 
@@ -267,10 +270,9 @@ fault_cases : (k : ErrorKind) (error : Error) → (fault_for k error ≡ Memory)
 fault_cases OutOfMemory error = inl refl
 fault_cases _ error = inr refl
 
-pub kinds_of : (command : Command) (words : List Text) (error : Error) → Makes hrv_app command
+pub kinds_of : (command : Command) (words : List Text) (error : Error) → AnswersAsWhole words command
     → (is_simple_and_free (app_of command) ≡ true → HasKind (fault_of (app_of command) words) error) → HasKind (fault_of hrv_app words) error
-kinds_of command words error made kinds =
-    subst (λ a. HasKind (fault_of a words) error) made.app (kinds (ap is_simple_and_free made.app ∙ simple))
+kinds_of command words error answers kinds = subst (λ k. HasKind k error) answers.faults (kinds answers.simple)
 
 -- memory runs out, or the error's kind is one that the words have
 pub refused : (r : Result Invocation CommandLineFault) (words : List Text) (error : Error) → IsErrAnd r (λ f. f ≡ fault_for (kind_of error) error)

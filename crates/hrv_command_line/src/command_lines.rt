@@ -9,7 +9,7 @@ ghost use Rattle.hrv_command_line.specs.CommandLine.{listing_of, map_of, named, 
 ghost use Rattle.hrv_command_line.specs.CommandLine.{renew_of, replay_of, run_of};
 
 use crate::faults::CommandLineFault;
-use crate::programs::program;
+use crate::programs::program_for;
 use clap::ArgMatches;
 use hrv_refusals::is_explained;
 use std::alloc::{AllocError, Global};
@@ -142,7 +142,7 @@ fn command_by_clap<'a>(
     ensures memory { IfErr result (λ fault.
         IsSome (named_by_clap (texts words.now)) → fault ≡ CommandLineFault.Memory) }
 {
-    let matches = program(alloc)?.try_get_matches_from(words)?;
+    let matches = program_for(alloc, words)?.try_get_matches_from(words)?;
     let (name, given) = matches.subcommand().unwrap();
     let invocation = asked_for(alloc, name, given)?;
     if !is_known(&invocation) {

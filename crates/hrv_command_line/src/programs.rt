@@ -1,11 +1,13 @@
 //! The program's command, with its subcommands and their arguments.
-ghost use Rattle.std.specs.Prelude.{◌≡◌, codes, false, IfOk};
+ghost use Rattle.std.specs.Prelude.{◌≡◌, codes, false, IfOk, IfSome};
 ghost use Rattle.clap.specs.Built.{AddsSubcommand};
+ghost use Rattle.clap.specs.Walk.{texts};
 ghost use Rattle.clap.specs.Words.{new_rule, rule_of};
 ghost use Rattle.hrv_command_line.specs.CommandLine.{Makes, algorithm_app, asm_app, bare_app, blame_app, listing_app};
 ghost use Rattle.hrv_command_line.specs.CommandLine.{blame_files_app, blame_pixel_app, compile_app, compiling_app};
 ghost use Rattle.hrv_command_line.specs.CommandLine.{compile_texts_app, debug_app, dis_app, explain_app, flag_rule};
-ghost use Rattle.hrv_command_line.specs.CommandLine.{hrv_app, log_app, map_app, most_harts, most_turns, number_rule};
+ghost use Rattle.hrv_command_line.specs.CommandLine.{AnswersAsWhole, IsNamed, hrv_app, log_app};
+ghost use Rattle.hrv_command_line.specs.CommandLine.{map_app, most_harts, most_turns, number_rule};
 ghost use Rattle.hrv_command_line.specs.CommandLine.{picture_app, renew_app, replay_app, required_rule, rest_rule};
 ghost use Rattle.hrv_command_line.specs.CommandLine.{run_app, run_files_app, run_numbers_app, running_app};
 ghost use Rattle.hrv_command_line.specs.CommandLine.{telling_app, text_app, version_app, word_rule};
@@ -45,8 +47,51 @@ impl<'a> Grown<'a> {
     }
 }
 
-/// The program's command.
-pub(crate) fn program<'a>(alloc: Global) -> Result<Command<'a>, AllocError>
+/// A command that answers to these words as the program's does: with the subcommand that they begin with alone, since a
+/// command is built as a whole before it reads any word; with all, where they begin with none.
+pub(crate) fn program_for<'a>(alloc: Global, words: &[&str]) -> Result<Command<'a>, AllocError>
+    ensures { IfOk result (AnswersAsWhole (texts words.now)) }
+{
+    let [name, ..] = words else {
+        let whole = program(alloc)?;
+        return Ok(whole);
+    };
+    match named_command(alloc, name)? {
+        None => {
+            let whole = program(alloc)?;
+            Ok(whole)
+        }
+        Some(own) => {
+            let command = bare_program(alloc)?.with(own)?.into_command();
+            Ok(command)
+        }
+    }
+}
+
+// The subcommand of a name.
+fn named_command<'a>(alloc: Global, name: &str) -> Result<Option<Command<'a>>, AllocError>
+    ensures { IfOk result (λ found. IfSome found (IsNamed name.now)) }
+{
+    let command = match name {
+        "replay" => replay_command(alloc)?,
+        "debug" => debug_command(alloc)?,
+        "blame" => blame_command(alloc)?,
+        "asm" => asm_command(alloc)?,
+        "dis" => dis_command(alloc)?,
+        "renew" => renew_command(alloc)?,
+        "picture" => picture_command(alloc)?,
+        "compile" => compile_command(alloc)?,
+        "map" => map_command(alloc)?,
+        "run" => run_command(alloc)?,
+        "explain" => explain_command(alloc)?,
+        "version" => version_command(alloc),
+        _ => return Ok(None),
+    };
+    Ok(Some(command))
+}
+
+// The program's command.
+fn program<'a>(alloc: Global) -> Result<Command<'a>, AllocError>
     ensures { IfOk result (Makes hrv_app) }
 {
     let told = running_program(alloc)?.with(explain_command(alloc)?)?;
