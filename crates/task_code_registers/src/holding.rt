@@ -9,6 +9,7 @@ ghost use Rattle.task_code_registers.specs.Strides.{others_of, strides};
 use crate::numbers::emit_plus;
 use crate::scopes::{Form, Held, free_register, with_held};
 use crate::sums::emit_form;
+use crate::terms::with_room;
 use halide_pipeline::words;
 use loop_ir::expressions::{Counter, Linear, Term, same_counter};
 use sqlite_items::Items;
@@ -63,7 +64,7 @@ pub fn at_value(
 ) -> Result<Form, AllocError>
     ensures { IfOk result (λ made. IsAt counter value form.now made) }
 {
-    let mut terms = Items::new(alloc);
+    let mut terms = with_room(alloc, form.sum.terms.len())?;
     other_terms(&mut terms, form.sum.terms.as_slice(), counter)?;
     let stride = stride_of(form.sum.terms.as_slice(), counter);
     let far = words::multiply(stride, value);

@@ -12,6 +12,7 @@
 //!   (`specs/Points.antt`).
 //! - [`holding`]: appends what holds a form in a register while a loop runs, and what makes of the forms of an
 //!   iteration those of the next one (`specs/Holding.antt`).
+//! - [`terms`]: terms of sums that are still to be added.
 //! - [`laws`]: scopes may be entered one behind the other; a loop that is tested at its bottom does its iterations
 //!   (`specs/Looping.antt`).
 #![tactic(auto)]
@@ -24,3 +25,4 @@ pub mod points;
 pub mod registers;
 pub mod scopes;
 pub mod sums;
+pub mod terms;

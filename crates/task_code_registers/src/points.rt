@@ -5,6 +5,7 @@ ghost use Rattle.task_code_scalar.specs.Code.{pixel_bytes};
 ghost use Rattle.task_code_registers.specs.Points.{IsPoint, times};
 
 use crate::scopes::Form;
+use crate::terms::with_room;
 use halide_pipeline::words;
 use loop_ir::expressions::{Linear, Term};
 use sqlite_items::Items;
@@ -48,7 +49,7 @@ pub fn point_form(alloc: Global, place: &Place, x: &Linear, y: &Linear) -> Resul
 {
     let bytes = bytes_of(place.pixels);
     let row = words::multiply(bytes, place.width);
-    let mut terms = Items::new(alloc);
+    let mut terms = with_room(alloc, y.terms.len().saturating_add(x.terms.len()))?;
     add_times(&mut terms, y.terms.as_slice(), row)?;
     add_times(&mut terms, x.terms.as_slice(), bytes)?;
     let rows = words::multiply(y.number, row);

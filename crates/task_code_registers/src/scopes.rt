@@ -100,6 +100,25 @@ pub fn with_held(
     Ok(made)
 }
 
+/// A scope that gets one more form, in front.
+///
+/// # Errors
+///
+/// Memory ran out.
+pub fn holding_too(
+    alloc: Global,
+    scope: Vec<Held>,
+    register: u8,
+    form: &Form,
+) -> Result<Vec<Held>, AllocError>
+    ensures { IfOk result (λ made. made.items ≡ record { register = register; form = form.now } ∷ scope.items) }
+{
+    let form = form.copy(alloc)?;
+    let mut made = scope;
+    made.insert(0, Held { register, form })?;
+    Ok(made)
+}
+
 /// Whether registers hold all forms of a scope, and neither the number of lanes nor their configuration does.
 pub fn are_registers(scope: &[Held]) -> bool
     ensures { result ≡ spec.are_registers scope.now }

@@ -70,12 +70,28 @@ fn have_same_strides(own: &[Term], a: &[Term], b: &[Term]) -> bool
     }
 }
 
+/// Whether two sums have the same stride in all, of each loop variable.
+fn have_strides_alike(a: &[Term], b: &[Term]) -> bool
+    ensures { result ≡ true → (values : Values) → sum_of values a.now % 2 ^ 32 ≡ sum_of values b.now % 2 ^ 32 }
+{
+    have_same_strides(a, a, b) && have_same_strides(b, a, b)
+}
+
+/// The strides of all terms together.
+fn all_strides(terms: &[Term]) -> u32 {
+    let mut all = 0;
+    for term in terms {
+        all = words::add(all, term.stride);
+    }
+    all
+}
+
 /// Whether two sums of terms are the same in all iterations.
 fn are_same(a: &[Term], b: &[Term]) -> bool
     ensures { result ≡ true → (values : Values) → sum_of values a.now % 2 ^ 32 ≡ sum_of values b.now % 2 ^ 32 }
 {
-    // Mostly their terms stand in the same order, which is seen sooner.
-    same_terms(a, b) || (have_same_strides(a, a, b) && have_same_strides(b, a, b))
+    // Mostly their terms stand in the same order, or not even all strides together agree, which is seen sooner.
+    same_terms(a, b) || (all_strides(a) == all_strides(b) && have_strides_alike(a, b))
 }
 
 /// By how much a form is more than another one, where that is the same number on all harts and in all iterations.

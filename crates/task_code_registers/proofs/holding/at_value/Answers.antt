@@ -8,6 +8,6 @@ pub returns : goal.returns
 returns c =
     form-at c.args.counter c.args.value c.stride_of-stride.result c.args.form.now _
     (c.stride_of-stride.ensures ∙ ap (λ ts. strides c.args.counter ts % 2 ^ 32) c.as_slice-2.ensures)
-    (c.in_ok-other_terms.ensures ∙ ap (λ l. l ++ others_of c.args.counter c.as_slice.result.now) c.new-terms.ensures
+    (c.in_ok-other_terms.ensures ∙ ap (λ l. l ++ others_of c.args.counter c.as_slice.result.now) c.in_ok-terms.ensures
     ∙ ap (others_of c.args.counter) c.as_slice.ensures)
     (c.add-number.ensures ∙ ap (word.add c.args.form.now.sum.number) c.multiply-far.ensures) refl

@@ -12,7 +12,7 @@ returns c =
     (
     c.in_ok-add_times-2.ensures
     ∙ ap (λ made. made ++ times bytes c.as_slice-2.result.now)
-    (c.in_ok-add_times.ensures ∙ ap (λ none. none ++ times row c.as_slice.result.now) c.new-terms.ensures ∙ ap (times row) c.as_slice.ensures)
+    (c.in_ok-add_times.ensures ∙ ap (λ none. none ++ times row c.as_slice.result.now) c.in_ok-terms.ensures ∙ ap (times row) c.as_slice.ensures)
     ∙ ap (λ ts. times row c.args.y.now.terms ++ times bytes ts) c.as_slice-2.ensures
     )
     c.multiply-rows.ensures c.multiply-columns.ensures c.add-far.ensures c.add-number.ensures refl

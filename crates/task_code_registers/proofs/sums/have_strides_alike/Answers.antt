@@ -1,5 +1,5 @@
 use Rattle.task_code_registers.proofs.Agreeing.{both-agree}
-use Rattle.task_code_registers.proofs.sums.are_same.Goals as goal
+use Rattle.task_code_registers.proofs.sums.have_strides_alike.Goals as goal
 
 pub returns-then-have_same_strides : goal.returns-then-have_same_strides
 returns-then-have_same_strides c =
