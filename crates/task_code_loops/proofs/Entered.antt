@@ -63,6 +63,15 @@ gains-one counter scope scope' inner form r reserved c0 c1 e x =
       left = λ left. x.left;
     })
 
+-- so it is where the form is put in front of the scope itself
+pub gains-front : (counter : Counter) (scope scope' inner : List Held) (form : Form) (r reserved : ℕ) (c0 c1 : List ℕ) → scope' ≡ scope
+    → Takes c0 c1 counter scope' form reserved r (record { register = r; form = form } ∷ scope') → inner ≡ record { register = r; form = form } ∷ scope
+    → Gains c0 c1 (sum_words form.per_hart form.sum.terms) counter reserved scope inner
+gains-front counter scope scope' inner form r reserved c0 c1 e x is =
+    let own : Held = record { register = r; form = form } in
+    subst (λ s. Gains c0 c1 (sum_words form.per_hart form.sum.terms) counter reserved scope s) (sym is)
+    (gains-one counter scope scope' (own ∷ scope) form r reserved c0 c1 e (subst (λ s. Takes c0 c1 counter scope' form reserved r (own ∷ s)) e x))
+
 pub gains-then : (counter : Counter) (scope next inner : List Held) (n k most reserved : ℕ) (c0 c1 c2 : List ℕ) → n + k ≤ most
     → Gains c0 c1 n counter reserved scope next → Gains c1 c2 k counter reserved next inner → Gains c0 c2 most counter reserved scope inner
 gains-then counter scope next inner n k most reserved c0 c1 c2 fits x y = record {

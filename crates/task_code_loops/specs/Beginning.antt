@@ -1,6 +1,6 @@
 -- What stands in front of a loop: forms that registers hold, and what tells behind each iteration whether there is a next one.
 -- This project's own.
-use Rattle.std.specs.Prelude.{◌≡◌, ◌<◌, ◌≤◌, ℕ, suc, ◌+◌, ◌*◌, ◌^◌, nat_lt, Bool, true, false, List, [], ◌∷◌}
+use Rattle.std.specs.Prelude.{◌≡◌, ◌<◌, ◌≤◌, ℕ, suc, ◌+◌, ◌*◌, ◌^◌, nat_lt, Bool, true, false, List, [], ◌∷◌, Option, IfSome}
 use Rattle.rv_insn.specs.declared.operations.BranchOp.TheVariants as branches
 use Rattle.hart_core.specs.Scalar.{is_taken}
 use Rattle.loop_ir.specs.declared.expressions.Counter.{Counter}
@@ -8,7 +8,7 @@ use Rattle.loop_ir.specs.Counters.{Values, same_counter, with}
 use Rattle.task_code_registers.specs.declared.scopes.Form.{Form}
 use Rattle.task_code_registers.specs.declared.scopes.Held.{Held}
 use Rattle.task_code_registers.specs.Emitting.{MakesValue, sum_words}
-use Rattle.task_code_registers.specs.Holding.{Enters, can_advance, mentions, moving}
+use Rattle.task_code_registers.specs.Holding.{Enters, Takes, can_advance, mentions, moving}
 use Rattle.task_code_registers.specs.Registers.{may_hold}
 use Rattle.task_code_registers.specs.Scopes.{Knows, are_registers, has_variable, have_registers, left_count}
 use Rattle.task_code_loops.specs.declared.beginning.Begun.{Begun}
@@ -79,6 +79,11 @@ pub record Gains (old new : List ℕ) (most : ℕ) (counter : Counter) (reserved
   pub enters : Enters old new most counter scope inner
   pub can : can_advance counter scope ≡ true → can_advance counter inner ≡ true
   pub left : reserved ≤ left_count scope → reserved ≤ left_count inner
+
+-- a register is given to a form, as it is in the first iteration
+abbrev pub StartsIf : List ℕ → List ℕ → Counter → List Held → Form → ℕ → Option ℕ → Type 0
+StartsIf old new counter scope form reserved found =
+    IfSome found (λ r. Takes old new counter scope form reserved r (record { register = r; form = form } ∷ scope))
 
 -- so it is for one form, and for several
 abbrev pub GainsForm : List ℕ → List ℕ → Counter → Form → ℕ → List Held → List Held → Type 0

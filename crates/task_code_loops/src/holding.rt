@@ -3,13 +3,13 @@
 ghost use Rattle.std.specs.Prelude.{◌≡◌, [], None, IfOk};
 ghost use Rattle.task_code_registers.specs.Holding.{TakesIf};
 ghost use Rattle.task_code_registers.specs.Registers.{IsPlace};
-ghost use Rattle.task_code_loops.specs.Beginning.{GainsForm, GainsOf, IsUnknownIf, MakesIf};
+ghost use Rattle.task_code_loops.specs.Beginning.{GainsForm, GainsOf, IsUnknownIf, MakesIf, StartsIf};
 
 use loop_ir::expressions::Counter;
 use std::alloc::{AllocError, Global};
 use task_code_registers::holding::{Taken, at_value};
 use task_code_registers::numbers::emit_plus;
-use task_code_registers::scopes::{Form, Held, free_register, with_held};
+use task_code_registers::scopes::{Form, Held, free_register, holding_too, with_held};
 use task_code_registers::sums::{emit_form, find, have_registers, nearest};
 
 /// Appends what leaves a form's value in a register, where its loop variables have registers or a form near it is held.
@@ -42,7 +42,32 @@ pub fn emit_known(
 }
 
 /// Appends what leaves a form, as it is in a loop's first iteration, in a register that holds nothing yet, where more
-/// than so many are left and its value can be made. Else there is no code.
+/// than so many are left and its value can be made: it returns the register. Else there is no code.
+fn start_known(
+    alloc: Global,
+    code: &mut Vec<u32>,
+    scope: &[Held],
+    counter: Counter,
+    form: &Form,
+    reserved: usize,
+) -> Result<Option<u8>, AllocError>
+    ensures some { IfOk result (StartsIf code.old.items code.new.items counter scope.now form.now reserved) }
+    ensures none { IfOk result (λ found. found ≡ None → code.new.items ≡ code.old.items) }
+{
+    match free_register(scope, reserved) {
+        None => Ok(None),
+        Some(register) => {
+            let start = at_value(alloc, form, counter, 0)?;
+            if emit_known(code, scope, &start, register)? {
+                Ok(Some(register))
+            } else {
+                Ok(None)
+            }
+        }
+    }
+}
+
+/// So it holds the form.
 ///
 /// # Errors
 ///
@@ -58,19 +83,14 @@ pub fn hold_known(
     ensures some { IfOk result (TakesIf code.old.items code.new.items counter scope.now form.now reserved) }
     ensures none { IfOk result (λ made. made ≡ None → code.new.items ≡ code.old.items) }
 {
-    match free_register(scope, reserved) {
+    match start_known(alloc, code, scope, counter, form, reserved)? {
         None => Ok(None),
         Some(register) => {
-            let start = at_value(alloc, form, counter, 0)?;
-            let made = emit_known(code, scope, &start, register)?;
-            if made {
-                let inner = with_held(alloc, scope, register, form)?;
-                return Ok(Some(Taken {
-                    scope: inner,
-                    register,
-                }));
-            }
-            Ok(None)
+            let inner = with_held(alloc, scope, register, form)?;
+            Ok(Some(Taken {
+                scope: inner,
+                register,
+            }))
         }
     }
 }
@@ -89,9 +109,12 @@ fn hold_wanted(
     if find(scope.as_slice(), form, true).is_some() {
         return Ok(scope);
     }
-    match hold_known(alloc, code, scope.as_slice(), counter, form, reserved)? {
-        Some(taken) => Ok(taken.scope),
+    match start_known(alloc, code, scope.as_slice(), counter, form, reserved)? {
         None => Ok(scope),
+        Some(register) => {
+            let inner = holding_too(alloc, scope, register, form)?;
+            Ok(inner)
+        }
     }
 }
 

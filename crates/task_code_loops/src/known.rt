@@ -10,6 +10,7 @@ use loop_ir::expressions::{Counter, Linear, Term, same_counter};
 use sqlite_items::Items;
 use std::alloc::{AllocError, Global};
 use task_code_registers::scopes::Form;
+use task_code_registers::terms::with_room;
 
 /// A loop variable, and the sum that it is.
 #[derive(Debug)]
@@ -107,9 +108,11 @@ pub fn sum_by_others(alloc: Global, own: &Linear, known: &[Known]) -> Result<Lin
         let sum = own.copy(alloc)?;
         return Ok(sum);
     }
+    // One more than it has now: a split loop's variable is that of two loops.
+    let terms = with_room(alloc, own.terms.len().saturating_add(1))?;
     let mut sum = Linear {
         number: own.number,
-        terms: Items::new(alloc),
+        terms,
     };
     add_known(&mut sum, own.terms.as_slice(), known)?;
     Ok(sum)

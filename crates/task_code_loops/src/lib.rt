@@ -9,7 +9,7 @@
 //! - [`bounds`]: whether a form stays below an extent, so that it needs no test (`specs/Bounds.antt`).
 //! - [`known`]: loop variables that are sums of others, or numbers, and sums without them (`specs/Known.antt`).
 //! - [`sums`]: what operations make of sums, where it is a sum again (`specs/Sums.antt`).
-//! - [`wanted`]: which forms a body wants in registers, a guess.
+//! - [`wanted`]: which forms a body wants in registers, and [`uses`]: how often it uses them, guesses.
 //! - [`laws`]: what is begun and ended is a loop; code behind other code, and iterations that are laid out.
 #![tactic(auto)]
 
@@ -22,4 +22,5 @@ pub mod known;
 pub mod laws;
 pub mod sums;
 pub mod tests;
+pub mod uses;
 pub mod wanted;

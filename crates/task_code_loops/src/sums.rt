@@ -7,14 +7,14 @@ ghost use Rattle.task_code_loops.specs.Sums.{IsCombined, IsTimes};
 use crate::known::add_scaled;
 use halide_pipeline::{Operation, words};
 use loop_ir::expressions::Linear;
-use sqlite_items::Items;
 use std::alloc::{AllocError, Global};
+use task_code_registers::terms::with_room;
 
 /// A sum so many times.
 fn scaled(alloc: Global, own: &Linear, factor: u32) -> Result<Linear, AllocError>
     ensures { IfOk result (IsTimes own.now factor) }
 {
-    let mut terms = Items::new(alloc);
+    let mut terms = with_room(alloc, own.terms.len())?;
     add_scaled(&mut terms, own.terms.as_slice(), factor)?;
     let number = words::multiply(own.number, factor);
     Ok(Linear { number, terms })

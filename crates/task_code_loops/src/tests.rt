@@ -14,6 +14,7 @@ use sqlite_items::Items;
 use std::alloc::{AllocError, Global};
 use task_code_registers::holding::{at_value, hold, is_test};
 use task_code_registers::scopes::{Form, Held};
+use task_code_registers::terms::with_room;
 use task_code_scalar::CodeFault;
 
 /// What a loop's register is compared with behind each iteration.
@@ -40,7 +41,7 @@ pub struct Tested {
 pub fn variable(alloc: Global, counter: Counter) -> Result<Form, AllocError>
     ensures { IfOk result (λ made. made ≡ spec.variable counter) }
 {
-    let mut terms = Items::new(alloc);
+    let mut terms = with_room(alloc, 1)?;
     terms.push(Term { counter, stride: 1 })?;
     Ok(Form {
         sum: Linear { number: 0, terms },

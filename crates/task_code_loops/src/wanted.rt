@@ -2,62 +2,24 @@
 //! most first. A guess, of which nothing is promised.
 
 use crate::bounds::{Bound, is_below};
-use crate::known::{Known, by_others};
+use crate::known::Known;
 use crate::sums::combined;
 use crate::tests::number;
+use crate::uses::{Use, count, count_at_zero, count_by_others, most_used_first};
 use halide_pipeline::{Operation, Source, words};
 use loop_ir::expressions::{Counter, Expr, Linear, Term, same_counter};
 use loop_ir::statements::{LoopKind, Stmt, Store, Whole};
-use sqlite_items::Items;
 use std::alloc::{AllocError, Global};
-use task_code_registers::holding::{at_value, stride_of};
+use task_code_registers::holding::stride_of;
 use task_code_registers::numbers::fits;
 use task_code_registers::points::point_form;
 use task_code_registers::scopes::Form;
-use task_code_registers::sums::small_distance;
+use task_code_registers::terms::with_room;
 use task_code_scalar::places::{Places, place_of};
 
 /// As many uses a sum counts for whose value is wanted and not only an address: there may be no code for it where no
 /// register holds it.
 const VALUE_USES: u32 = 64;
-
-/// A form, and how often one near it is used.
-#[derive(Debug, Drop)]
-struct Use {
-    form: Form,
-    times: u32,
-}
-
-/// Where a form stands that is near this one.
-fn place_near(found: &[Use], form: &Form) -> Option<usize> {
-    for (place, own) in found.iter().enumerate() {
-        if small_distance(form, &own.form).is_some() {
-            return Some(place);
-        }
-    }
-    None
-}
-
-/// Whether an instruction makes a form of nothing.
-fn is_small(form: &Form) -> bool {
-    form.sum.terms.len() == 0 && form.per_hart == 0 && fits(form.sum.number)
-}
-
-/// Counts so many uses of a form.
-fn count(found: &mut Vec<Use>, form: Form, times: u32) -> Result<(), AllocError> {
-    match place_near(found.as_slice(), &form) {
-        Some(place) => {
-            if place < found.len() {
-                found[place].times = found[place].times.saturating_add(times);
-            }
-            Ok(())
-        }
-        None => {
-            found.push(Use { form, times })?;
-            Ok(())
-        }
-    }
-}
 
 /// An expression as a sum, if it is one.
 fn sum_of(alloc: Global, e: &Expr) -> Result<Option<Linear>, AllocError> {
@@ -81,19 +43,57 @@ fn sum_of(alloc: Global, e: &Expr) -> Result<Option<Linear>, AllocError> {
     }
 }
 
+/// An index of a point, as far as it is a sum.
+#[derive(Debug, Drop)]
+enum Index<'a> {
+    /// It is one.
+    Own(&'a Linear),
+    /// It is made of parts that come to one.
+    Made(Linear),
+    /// It is none.
+    Other,
+}
+
+impl<'a> Index<'a> {
+    fn of(alloc: Global, e: &'a Expr) -> Result<Index<'a>, AllocError> {
+        match e {
+            Expr::Linear(own) => Ok(Index::Own(own)),
+            _ => match sum_of(alloc, e)? {
+                Some(sum) => Ok(Index::Made(sum)),
+                None => Ok(Index::Other),
+            },
+        }
+    }
+
+    /// The sum, or 0 where it is none.
+    fn sum_or<'b>(&'b self, zero: &'b Linear) -> &'b Linear {
+        match self {
+            Index::Own(sum) => sum,
+            Index::Made(sum) => sum,
+            Index::Other => zero,
+        }
+    }
+
+    fn is_sum(&self) -> bool {
+        match self {
+            Index::Other => false,
+            _ => true,
+        }
+    }
+}
+
 /// Counts the part of a point's address that is made of those of its indexes that are sums.
 fn count_point(
     alloc: Global,
     places: &Places,
     source: Source,
-    column: Option<Linear>,
-    row: Option<Linear>,
+    column: &Index<'_>,
+    row: &Index<'_>,
     found: &mut Vec<Use>,
 ) -> Result<(), AllocError> {
     let place = place_of(places, source);
-    let x = column.unwrap_or(Linear::of_number(alloc, 0));
-    let y = row.unwrap_or(Linear::of_number(alloc, 0));
-    let form = point_form(alloc, &place, &x, &y)?;
+    let zero = Linear::of_number(alloc, 0);
+    let form = point_form(alloc, &place, column.sum_or(&zero), row.sum_or(&zero))?;
     count(found, form, 1)?;
     Ok(())
 }
@@ -216,15 +216,15 @@ fn gather_load(
     let Expr::Load(source, x, y) = e else {
         return Ok(());
     };
-    let column = sum_of(alloc, x.get())?;
-    let row = sum_of(alloc, y.get())?;
-    if column.is_none() {
+    let column = Index::of(alloc, x.get())?;
+    let row = Index::of(alloc, y.get())?;
+    if !column.is_sum() {
         gather_expr(alloc, places, x.get(), found)?;
     }
-    if row.is_none() {
+    if !row.is_sum() {
         gather_expr(alloc, places, y.get(), found)?;
     }
-    count_point(alloc, places, *source, column, row, found)?;
+    count_point(alloc, places, *source, &column, &row, found)?;
     Ok(())
 }
 
@@ -268,26 +268,9 @@ fn gather_store(
 ) -> Result<(), AllocError> {
     gather_expr(alloc, places, &store.value, found)?;
     let source = Source::Func(store.func);
-    let column = sum_of(alloc, &store.x)?;
-    let row = sum_of(alloc, &store.y)?;
-    count_point(alloc, places, source, column, row, found)?;
-    Ok(())
-}
-
-/// Counts forms as they are in a loop's first iteration.
-fn count_at_zero(
-    alloc: Global,
-    inner: &[Use],
-    counter: Counter,
-    found: &mut Vec<Use>,
-) -> Result<(), AllocError> {
-    for own in inner {
-        let form = at_value(alloc, &own.form, counter, 0)?;
-        let is_own = own.form.sum.terms.len() == 0;
-        if is_own || !is_small(&form) {
-            count(found, form, own.times)?;
-        }
-    }
+    let column = Index::of(alloc, &store.x)?;
+    let row = Index::of(alloc, &store.y)?;
+    count_point(alloc, places, source, &column, &row, found)?;
     Ok(())
 }
 
@@ -297,7 +280,7 @@ fn split_sum(alloc: Global, counter: Counter, whole: &Whole) -> Result<Vec<Known
     if whole.last.is_some() {
         return Ok(known);
     }
-    let mut terms = Items::new(alloc);
+    let mut terms = with_room(alloc, 2)?;
     terms.push(Term {
         counter: whole.outer,
         stride: whole.factor,
@@ -311,20 +294,6 @@ fn split_sum(alloc: Global, counter: Counter, whole: &Whole) -> Result<Vec<Known
         sum: Linear { number: 0, terms },
     })?;
     Ok(known)
-}
-
-/// Counts forms by other loop variables.
-fn count_by_others(
-    alloc: Global,
-    inner: &[Use],
-    known: &[Known],
-    found: &mut Vec<Use>,
-) -> Result<(), AllocError> {
-    for own in inner {
-        let form = by_others(alloc, &own.form, known)?;
-        count(found, form, own.times)?;
-    }
-    Ok(())
 }
 
 /// A variable that goes up from one lane to the next, and by how much.
@@ -433,7 +402,7 @@ fn gather(
                 body.get(),
                 &mut inner,
             )?;
-            count_at_zero(alloc, inner.as_slice(), *counter, found)?;
+            count_at_zero(alloc, inner, *counter, found)?;
             Ok(())
         }
         Stmt::Bind(counter, whole, extent, body) => {
@@ -441,24 +410,11 @@ fn gather(
             let along = along(*counter, whole, lanes);
             gather(alloc, places, bounds, along, body.get(), &mut inner)?;
             let known = split_sum(alloc, *counter, whole)?;
-            count_by_others(alloc, inner.as_slice(), known.as_slice(), found)?;
+            count_by_others(alloc, inner, known.as_slice(), found)?;
             count_tested(alloc, known.as_slice(), bounds, lanes, *extent, found)?;
             Ok(())
         }
     }
-}
-
-/// Where the form stands that is used most; none where there is none.
-fn most_used(found: &[Use]) -> Option<usize> {
-    let mut best = None;
-    let mut most = 0;
-    for (place, own) in found.iter().enumerate() {
-        if own.times > most {
-            best = Some(place);
-            most = own.times;
-        }
-    }
-    best
 }
 
 /// The forms that a loop's body wants in registers, most used first, where loop variables stay below these bounds.
@@ -474,17 +430,5 @@ pub fn wanted_forms(
 ) -> Result<Vec<Form>, AllocError> {
     let mut found = Vec::new(alloc);
     gather(alloc, places, bounds, None, body, &mut found)?;
-    let mut wanted = Vec::new(alloc);
-    for _ in 0..found.len() {
-        match most_used(found.as_slice()) {
-            Some(place) => {
-                if place < found.len() {
-                    let own = found.swap_remove(place);
-                    wanted.push(own.form)?;
-                }
-            }
-            None => {}
-        }
-    }
-    Ok(wanted)
+    most_used_first(alloc, found)
 }

@@ -1,8 +1,11 @@
-use Rattle.task_code_registers.proofs.Entering.{takes-one}
+use Rattle.std.proofs.Common.{subst, sym}
+use Rattle.task_code_registers.specs.Holding.{Takes}
+use Rattle.task_code_loops.specs.Beginning.{StartsIf}
 use Rattle.task_code_loops.proofs.holding.hold_known.Goals as goal
 
-pub returns-then-made-clause-some : goal.returns-then-made-clause-some
-returns-then-made-clause-some c =
-    takes-one c.args.counter c.args.scope.now c.in_ok-inner-in-Some.inner.items c.args.form.now c.in_ok-start-in-Some.start c.args.reserved
-    c.in-Some.register _ _ c.in-Some.ensures.some c.in_ok-start-in-Some.ensures (c.in_ok-made-in-Some.ensures.yes c.if-made.true)
-    c.in_ok-inner-in-Some.ensures
+pub returns-in_ok-inner-in-Some-clause-some : goal.returns-in_ok-inner-in-Some-clause-some
+returns-in_ok-inner-in-Some-clause-some c =
+    subst (λ s. Takes c.args.code.now.items c.start_known.new.code.items c.args.counter c.args.scope.now c.args.form.now c.args.reserved c.in-Some.register s)
+    (sym c.in_ok-inner-in-Some.ensures)
+    (subst (λ o. StartsIf c.args.code.now.items c.start_known.new.code.items c.args.counter c.args.scope.now c.args.form.now c.args.reserved o)
+    c.in-Some.is c.in_ok-start_known.ensures.some)
