@@ -32,6 +32,9 @@ module _ (is_so : Values → Type 0) where
   pub alike-as : (own x made : Expr) → own ≡ x → IsAlike is_so x made → IsAlike is_so own made
   alike-as own x made is same = subst (λ y. IsAlike is_so y made) (sym is) same
 
+  pub alike-same : (own made : Expr) → made ≡ own → IsAlike is_so own made
+  alike-same own made is = subst (IsAlike is_so own) (sym is) (record { value_is = λ reads values are. refl; loads_are = λ reads values are. refl })
+
   pub alike-number : (own : Expr) (n : ℕ) → own ≡ e.Number n → IsAlike is_so own (e.Number n)
   alike-number own n is = alike-as own (e.Number n) (e.Number n) is (record { value_is = λ reads values are. refl; loads_are = λ reads values are. refl })
 
@@ -98,6 +101,16 @@ module _ (is_so : Values → Type 0) where
             ∙ ap (λ z. (loads reads values x ++ loads reads values y) ++ (point source (value reads values x) z ∷ [])) (two.value_is reads values are)
             ∙ sym (loads_load reads values source x y);
       })
+
+-- ---- the same
+
+pub store-same : (is_so : Values → Type 0) (own : Store) → IsAlikeStore is_so own own
+store-same is_so own = record {
+  func_is = refl;
+  column = alike-same is_so own.x own.x refl;
+  row = alike-same is_so own.y own.y refl;
+  pixel = alike-same is_so own.value own.value refl;
+}
 
 -- ---- one behind the other
 

@@ -46,7 +46,7 @@ pub fn is_same(a: &Expr, b: &Expr) -> bool
 }
 
 /// The nodes of an expression whose parts have so many.
-pub(crate) fn with_nodes(first: usize, second: usize) -> usize {
+fn with_nodes(first: usize, second: usize) -> usize {
     first.saturating_add(second).saturating_add(1)
 }
 
@@ -59,7 +59,7 @@ pub(crate) fn nodes_of(e: &Expr) -> usize {
         Expr::Divide(a, _) => with_nodes(nodes_of(a.get()), 0),
         Expr::Remainder(a, _) => with_nodes(nodes_of(a.get()), 0),
         Expr::Select(c, a, b) => {
-            let others = with_nodes(nodes_of(a.get()), nodes_of(b.get()));
+            let others = nodes_of(a.get()).saturating_add(nodes_of(b.get()));
             with_nodes(nodes_of(c.get()), others)
         }
         Expr::Load(_, x, y) => with_nodes(nodes_of(x.get()), nodes_of(y.get())),

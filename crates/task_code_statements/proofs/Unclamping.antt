@@ -184,18 +184,6 @@ made-is places context known bounds names store first second made ek eb en one t
   by_names = subst (λ n. IsNamedStore n second made) en three;
 }
 
--- where there are no names, or none is used
-pub unnamed-is : (places : Places) (context : Context) (known : List Known) (bounds : List Bound) (store first made : Store)
-    → known ≡ context.known.items → bounds ≡ context.bounds.items → IsSameStore known store first → clamps.IsSameStore places bounds first made
-    → IsMadeStore places context store made
-unnamed-is places context known bounds store first made ek eb one two =
-    made-is places context known bounds context.names.items store first made made ek eb refl one two (record {
-      func_is = refl;
-      column = record { value_is = λ reads values are. refl; loads_are = λ reads values are. refl };
-      row = record { value_is = λ reads values are. refl; loads_are = λ reads values are. refl };
-      pixel = record { value_is = λ reads values are. refl; loads_are = λ reads values are. refl };
-    })
-
 pub made-emits : (places : Places) (scope : List Held) (context : Context) (store final : Store) (c0 c1 : List ℕ) → IsPlainStore store
     → IsMadeStore places context store final → MakesStore c0 c1 places scope final → EmitsStatement c0 c1 places scope (Meets context) (s.Store store)
 made-emits places scope context store final c0 c1 simple m x = record {

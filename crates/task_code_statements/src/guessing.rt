@@ -10,12 +10,14 @@ use crate::staying::{add, is_among, is_same_in_all, may_stay_in, staying};
 use crate::vectorizing::is_at_once;
 use loop_ir::expressions::{Counter, Expr, Linear};
 use loop_ir::statements::{LoopKind, Stmt, Store, Whole};
-use sqlite_items::{Boxed, Items};
+use sqlite_items::Boxed;
 use std::alloc::{AllocError, Global};
 use task_code_loops::bounds::Bound;
 use task_code_names::copies::copy_of;
-use task_code_names::names::{Named, new_named, store_by_names};
+use task_code_names::names::{Named, new_named};
+use task_code_names::renaming::{renamed_store, store_by_names};
 use task_code_registers::scopes::Form;
+use task_code_registers::terms::with_room;
 use task_code_scalar::CodeFault;
 use task_code_scalar::places::Places;
 
@@ -35,12 +37,7 @@ fn ready_store(
         return made_store(alloc, places, context, store);
     }
     let made = store_by_others(alloc, store, context.known.as_slice())?;
-    if context.names.is_empty() {
-        return Ok(made);
-    }
-    let named = store_by_names(alloc, context.names.as_slice(), &made);
-    drop(made);
-    named
+    renamed_store(alloc, context.names.as_slice(), made)
 }
 
 /// A loop whose body is ready, with names of what stays the same in its iterations.
@@ -212,7 +209,7 @@ fn statement_by_names(
 
 /// A sum as it is in the first iterations of all loops but these, if names are no part of it.
 fn first_sum(alloc: Global, bounds: &[Bound], own: &Linear) -> Result<Option<Linear>, AllocError> {
-    let mut terms = Items::new(alloc);
+    let mut terms = with_room(alloc, own.terms.len())?;
     for term in own.terms.as_slice() {
         if is_among(bounds, term.counter) {
             terms.push(*term)?;

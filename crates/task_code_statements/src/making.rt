@@ -38,7 +38,7 @@ fn unclamped_binary(
     }
 }
 
-/// So it is with an expression behind a pointer, whose range is not asked for.
+/// An expression as `unclamped` makes it, behind a pointer; its range is not asked for.
 #[cycle(unclamping)]
 fn unclamped_part(
     alloc: Global,

@@ -7,8 +7,9 @@ use crate::vectorizing::is_at_once;
 use loop_ir::expressions::{Counter, Expr};
 use loop_ir::statements::{LoopKind, Stmt};
 use std::alloc::{AllocError, Global};
-use task_code_loops::known::{Known, by_others};
+use task_code_loops::known::Known;
 use task_code_loops::tests::variable;
+use task_code_loops::uses::form_by_others;
 use task_code_loops::wanted::wanted_forms;
 use task_code_registers::scopes::{Form, Held, left_count};
 use task_code_scalar::CodeFault;
@@ -65,11 +66,11 @@ pub(crate) fn reserve(scope: &[Held], inside: usize, with_variables: bool) -> us
 fn add_by_others(
     alloc: Global,
     known: &[Known],
-    forms: &[Form],
+    forms: Vec<Form>,
     wanted: &mut Vec<Form>,
 ) -> Result<(), AllocError> {
     for own in forms {
-        let form = by_others(alloc, own, known)?;
+        let form = form_by_others(alloc, own, known)?;
         wanted.push(form)?;
     }
     Ok(())
@@ -95,12 +96,7 @@ fn wanted_by(
         add_sums(alloc, bounds, e, &mut wanted)?;
     }
     let found = wanted_forms(alloc, places, bounds, body)?;
-    add_by_others(
-        alloc,
-        context.known.as_slice(),
-        found.as_slice(),
-        &mut wanted,
-    )?;
+    add_by_others(alloc, context.known.as_slice(), found, &mut wanted)?;
     Ok(wanted)
 }
 

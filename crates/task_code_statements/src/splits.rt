@@ -11,13 +11,13 @@ use crate::replacing::plus;
 use crate::room::is_in_turn;
 use loop_ir::expressions::{Counter, Expr, Linear, Term, same_counter};
 use loop_ir::statements::{Stmt, Whole};
-use sqlite_items::Items;
 use std::alloc::{AllocError, Global};
 use task_code_loops::bounds::{Bound, is_below};
 use task_code_loops::known::sum_by_others;
 use task_code_names::copies::is_still;
 use task_code_names::names::name_for;
 use task_code_registers::scopes::Form;
+use task_code_registers::terms::with_room;
 use task_code_scalar::CodeFault;
 
 /// Where a run of a split loop's inner loop begins.
@@ -37,7 +37,7 @@ pub(crate) enum Start {
 fn product_of(alloc: Global, context: &Context, whole: &Whole) -> Result<Linear, AllocError>
     ensures { IfOk result (IsProduct context.now whole.now) }
 {
-    let mut terms = Items::new(alloc);
+    let mut terms = with_room(alloc, 1)?;
     terms.push(Term {
         counter: whole.outer,
         stride: whole.factor,
@@ -124,7 +124,7 @@ fn sum_from(alloc: Global, whole: &Whole, start: Start) -> Result<Option<Linear>
         counter: whole.inner,
         stride: 1,
     };
-    let mut terms = Items::new(alloc);
+    let mut terms = with_room(alloc, 2)?;
     match start {
         Start::Product => {
             terms.push(Term {

@@ -26,7 +26,7 @@ use task_code_loops::beginning::{Begun, begin_loop};
 use task_code_loops::bounds::{Bound, is_below};
 use task_code_loops::ending::end_loop;
 use task_code_loops::guards::emit_guarded;
-use task_code_names::names::store_by_names;
+use task_code_names::renaming::renamed_store;
 use task_code_registers::scopes::{Form, Held};
 use task_code_runs::terms::mentions;
 use task_code_scalar::CodeFault;
@@ -58,12 +58,7 @@ pub(crate) fn made_store(
 {
     let known = context.known.as_slice();
     let plain = unclamped_store(alloc, places, known, context.bounds.as_slice(), store)?;
-    if context.names.is_empty() {
-        return Ok(plain);
-    }
-    let renamed = store_by_names(alloc, context.names.as_slice(), &plain);
-    drop(plain);
-    let named = renamed?;
+    let named = renamed_store(alloc, context.names.as_slice(), plain)?;
     Ok(named)
 }
 

@@ -21,7 +21,7 @@ use std::alloc::Global;
 use task_code_lane_values::vectorized::Lanes;
 use task_code_lanes::groups::Group;
 use task_code_loops::bounds::Bound;
-use task_code_names::names::store_by_names;
+use task_code_names::renaming::renamed_store;
 use task_code_registers::scopes::Held;
 use task_code_runs::left::Left;
 use task_code_runs::runs::emit_run;
@@ -82,11 +82,9 @@ fn stored_alone(alloc: Global, context: &Context, store: &Store) -> Result<Guard
         return Err(CodeFault::TooDeep);
     }
     let made = store_by_others(alloc, store, context.known.as_slice())?;
-    let renamed = store_by_names(alloc, context.names.as_slice(), &made);
-    drop(made);
-    let named = renamed?;
+    let store = renamed_store(alloc, context.names.as_slice(), made)?;
     Ok(Guarded {
-        store: named,
+        store,
         guards: Vec::new(alloc),
     })
 }

@@ -1,0 +1,195 @@
+//! Where names stand in an expression. Guesses, of which nothing is promised: whoever puts a name there asks once more.
+
+use crate::copies::{is_same, nodes_of};
+use crate::names::Named;
+use loop_ir::expressions::Expr;
+use loop_ir::statements::Store;
+use std::alloc::{AllocError, Global};
+
+/// What of an expression has a name.
+#[derive(Clone, Copy, Debug, PartialEq, Eq)]
+pub(crate) enum Standing {
+    /// Neither the expression nor a part of it.
+    HasNone,
+    /// Some part of it.
+    HasSome,
+    /// The expression itself.
+    IsNamed,
+}
+
+/// What is known of a node of an expression, and how many nodes it has itself. Marks come in the order of an
+/// expression's text: a node's stands in front of those of its parts.
+#[derive(Clone, Copy, Debug)]
+pub(crate) struct Mark {
+    pub nodes: u32,
+    pub standing: Standing,
+}
+
+impl Mark {
+    /// How many nodes the expression's name has, if it has one: 0 where it has none, as no expression has.
+    pub(crate) fn named_nodes(&self) -> usize {
+        if self.standing == Standing::IsNamed {
+            self.nodes as usize
+        } else {
+            0
+        }
+    }
+}
+
+/// The marks of a store's parts.
+#[derive(Debug, Drop)]
+pub(crate) struct StoreMarks {
+    pub x: Vec<Mark>,
+    pub y: Vec<Mark>,
+    pub value: Vec<Mark>,
+}
+
+impl StoreMarks {
+    /// Whether some part has a name.
+    pub(crate) fn have_name(&self) -> bool {
+        has_name(self.x.as_slice())
+            || has_name(self.y.as_slice())
+            || has_name(self.value.as_slice())
+    }
+}
+
+/// Of a number or a sum.
+const LEAF: Mark = Mark {
+    nodes: 1,
+    standing: Standing::HasNone,
+};
+
+/// The marks behind those of the first part.
+pub(crate) fn behind(marks: &[Mark]) -> &[Mark] {
+    match marks {
+        [] => marks,
+        [first, ..] => marks.get(first.nodes as usize..).unwrap_or(&[]),
+    }
+}
+
+/// Whether some part of the expression that has these marks has a name.
+fn has_name(marks: &[Mark]) -> bool {
+    match marks {
+        [] => false,
+        [first, ..] => first.standing != Standing::HasNone,
+    }
+}
+
+/// Of an expression whose parts have so many nodes, and names or none.
+fn of_parts(nodes: u32, have_none: bool) -> Mark {
+    Mark {
+        nodes: nodes.saturating_add(1),
+        standing: if have_none {
+            Standing::HasNone
+        } else {
+            Standing::HasSome
+        },
+    }
+}
+
+/// Of one part.
+fn of_one(a: Mark) -> Mark {
+    of_parts(a.nodes, a.standing == Standing::HasNone)
+}
+
+/// Of two parts.
+fn of_both(a: Mark, b: Mark) -> Mark {
+    of_parts(
+        a.nodes.saturating_add(b.nodes),
+        a.standing == Standing::HasNone && b.standing == Standing::HasNone,
+    )
+}
+
+/// Of a condition and two parts.
+fn of_choice(c: Mark, a: Mark, b: Mark) -> Mark {
+    let nodes = a.nodes.saturating_add(b.nodes).saturating_add(c.nodes);
+    let others = of_both(a, b);
+    of_parts(
+        nodes,
+        c.standing == Standing::HasNone && others.standing == Standing::HasNone,
+    )
+}
+
+/// Whether an expression of so many nodes has a name.
+fn is_named(names: &[Named], e: &Expr, nodes: u32) -> bool {
+    names
+        .iter()
+        .any(|own| own.nodes == nodes as usize && is_same(&own.e, e))
+}
+
+/// Adds the marks of an expression's parts, and says what they come to.
+#[cycle(marking)]
+fn add_part_marks(names: &[Named], e: &Expr, marks: &mut Vec<Mark>) -> Result<Mark, AllocError> {
+    match e {
+        Expr::Number(_) => Ok(LEAF),
+        Expr::Linear(_) => Ok(LEAF),
+        Expr::Binary(_, a, b) => {
+            let first = add_marks(names, a.get(), marks)?;
+            let second = add_marks(names, b.get(), marks)?;
+            Ok(of_both(first, second))
+        }
+        Expr::Divide(a, _) => Ok(of_one(add_marks(names, a.get(), marks)?)),
+        Expr::Remainder(a, _) => Ok(of_one(add_marks(names, a.get(), marks)?)),
+        Expr::Select(c, a, b) => {
+            let condition = add_marks(names, c.get(), marks)?;
+            let first = add_marks(names, a.get(), marks)?;
+            let second = add_marks(names, b.get(), marks)?;
+            Ok(of_choice(condition, first, second))
+        }
+        Expr::Load(_, x, y) => {
+            let column = add_marks(names, x.get(), marks)?;
+            let row = add_marks(names, y.get(), marks)?;
+            Ok(of_both(column, row))
+        }
+    }
+}
+
+/// Adds the marks of an expression, and says which is its own.
+#[cycle(marking)]
+fn add_marks(names: &[Named], e: &Expr, marks: &mut Vec<Mark>) -> Result<Mark, AllocError> {
+    let place = marks.len();
+    marks.push(LEAF)?;
+    let parts = add_part_marks(names, e, marks)?;
+    let own = if is_named(names, e, parts.nodes) {
+        Mark {
+            nodes: parts.nodes,
+            standing: Standing::IsNamed,
+        }
+    } else {
+        parts
+    };
+    if let Some(slot) = marks.get_mut(place) {
+        *slot = own;
+    }
+    Ok(own)
+}
+
+/// The marks of an expression that is made of parts: a number or a sum has none, as no name is one of theirs.
+fn marks_in(alloc: Global, names: &[Named], e: &Expr) -> Result<Vec<Mark>, AllocError> {
+    match e {
+        Expr::Number(_) => Ok(Vec::new(alloc)),
+        Expr::Linear(_) => Ok(Vec::new(alloc)),
+        _ => {
+            let mut marks = Vec::with_capacity(alloc, nodes_of(e))?;
+            add_marks(names, e, &mut marks)?;
+            Ok(marks)
+        }
+    }
+}
+
+/// The marks of a store's parts.
+///
+/// # Errors
+///
+/// Memory ran out.
+pub(crate) fn marks_of(
+    alloc: Global,
+    names: &[Named],
+    store: &Store,
+) -> Result<StoreMarks, AllocError> {
+    Ok(StoreMarks {
+        x: marks_in(alloc, names, &store.x)?,
+        y: marks_in(alloc, names, &store.y)?,
+        value: marks_in(alloc, names, &store.value)?,
+    })
+}
