@@ -13,9 +13,10 @@ use Rattle.clap.specs.Kinds.{Kinds, or_else}
 use Rattle.clap.specs.Faults.{built_fault, check_fault, defaults_fault, entered_fault, fault_of, is_simple_and_free, level_fault, settle_fault, turn_fault}
 use Rattle.clap.specs.Faults.{walk_fault}
 use Rattle.clap.specs.declared.builder.command.Command.{Command}
-use Rattle.hrv_command_line.specs.CommandLine.{AnswersAsWhole, IsNamed, Makes, app_named, asm_app, bare_app, blame_app, compile_app, debug_app, dis_app}
+use Rattle.hrv_command_line.specs.CommandLine.{Makes, asm_app, bare_app, blame_app, compile_app, debug_app, dis_app}
 use Rattle.hrv_command_line.specs.CommandLine.{explain_app}
 use Rattle.hrv_command_line.specs.CommandLine.{hrv_app, map_app, picture_app, renew_app, replay_app, run_app, version_app}
+use Rattle.hrv_command_line.specs.inner.OneSubcommand.{AnswersAsWhole, IsNamed, app_named}
 use Rattle.hrv_command_line.proofs.Subcommands.{IsSubcommand, stopped}
 use Rattle.hrv_command_line.proofs.AsmWords.{asm_command}
 use Rattle.hrv_command_line.proofs.BlameWords.{blame_command}
@@ -89,16 +90,16 @@ in_whole : {name : Text} {leaf : Shape} → IsSubcommand name leaf → Enters wh
 in_whole s = record { quiet = s.quiet; stops = s.stops; enters = s.enters; rows = s.rows }
 
 record IsAlike (own : App) (words : List Text) : Type 0 where
-  pub simple : is_simple_and_free own ≡ true
-  pub ready : is_simple own ≡ true
+  pub free : is_simple_and_free own ≡ true
+  pub simple : is_simple own ≡ true
   pub faults : fault_of own words ≡ fault_of hrv_app words
   pub met : subcommand_of own words ≡ subcommand_of hrv_app words
 
 alike : (own : App) (name : Text) (leaf : Shape) → is_simple_and_free (one own) ≡ true → is_simple (one own) ≡ true → (built (one own)).top ≡ whole.top
     → Enters (built (one own)) name leaf → Enters whole name leaf → (words : List Text) → IsAlike (one own) (name ∷ words)
-alike own name leaf simple ready tops alone among words = record {
+alike own name leaf free simple tops alone among words = record {
+  free = free;
   simple = simple;
-  ready = ready;
   faults = faults_met (built (one own)) name leaf alone words
       ∙ ap (λ top. closing top (level_fault leaf [] nothing_held words false []) true (stopped nothing_held name words)) tops
       ∙ sym (faults_met whole name leaf among words);
@@ -213,8 +214,8 @@ alike_by_name name found words is =
 
 pub whole_answers : (words : List Text) (command : Command) → Makes hrv_app command → AnswersAsWhole words command
 whole_answers words command made = record {
-  simple = ap is_simple_and_free made.app;
-  ready = ap is_simple made.app;
+  free = ap is_simple_and_free made.app;
+  simple = ap is_simple made.app;
   faults = ap (λ a. fault_of a words) made.app;
   met = ap (λ a. subcommand_of a words) made.app;
 }
@@ -225,8 +226,8 @@ one_answers name words bare own command made is adds =
     let shape : app_of command ≡ one (app_of own) = adds.shape is.local ∙ ap (λ a. with_subcommand a (shape_of own)) made.app in
     let same = alike_by_name name (app_of own) words is.app in
     record {
-      simple = ap is_simple_and_free shape ∙ same.simple;
-      ready = ap is_simple shape ∙ same.ready;
+      free = ap is_simple_and_free shape ∙ same.free;
+      simple = ap is_simple shape ∙ same.simple;
       faults = ap (λ a. fault_of a (name ∷ words)) shape ∙ same.faults;
       met = ap (λ a. subcommand_of a (name ∷ words)) shape ∙ same.met;
     }

@@ -33,11 +33,12 @@ use Rattle.hrv_command_line.specs.Faults.{fault_for}
 use Rattle.hrv_command_line.specs.declared.command_lines.Invocation.{Invocation}
 use Rattle.hrv_command_line.specs.declared.faults.CommandLineFault.{CommandLineFault}
 use Rattle.hrv_command_line.specs.declared.faults.CommandLineFault.TheVariants.{Refused, Memory, Unexplained}
-use Rattle.hrv_command_line.specs.CommandLine.{AnswersAsWhole, Asked, Assembles, Blames, Compiles, Debugs, Draws, Explains, IsRefusal, IsSpelled}
+use Rattle.hrv_command_line.specs.CommandLine.{Asked, Assembles, Blames, Compiles, Debugs, Draws, Explains, IsRefusal, IsSpelled}
 use Rattle.hrv_command_line.specs.CommandLine.{IsWithinLimits, Maps}
 use Rattle.hrv_command_line.specs.CommandLine.{Renews, Replays, asked_in, asked_of, asm_of, blame_of, compile_of, debug_of, dis_of, explain_of, hrv_app}
 use Rattle.hrv_command_line.specs.CommandLine.{if_known, is_given_by, listing_of, map_of, most_harts, most_turns, named_by_clap as named, number_or, picture_of}
 use Rattle.hrv_command_line.specs.CommandLine.{renew_of, replay_of, run_from, run_of}
+use Rattle.hrv_command_line.specs.inner.OneSubcommand.{AnswersAsWhole}
 use Rattle.hrv_command_line.proofs.AskedWords.{Asks, asked_named, fault_of-named, words_ask}
 use Rattle.hrv_command_line.proofs.BlameWords.{blame_needs}
 use Rattle.hrv_command_line.proofs.RunWords.{run_needs}
@@ -52,9 +53,9 @@ pub taken : (command : Command) (words : List Text) (m : ArgMatches) → Answers
     → (is_simple_and_free (app_of command) ≡ true → fault_of (app_of command) words ≡ [])
     → HasMatchesOf (app_of command) words m → Taken words m
 taken command words m answers passes matches =
-    let pass : fault_of hrv_app words ≡ [] = sym answers.faults ∙ passes answers.simple in
+    let pass : fault_of hrv_app words ≡ [] = sym answers.faults ∙ passes answers.free in
     let asks = words_ask words pass in
-    let rows = (matches answers.ready).1 ∙ answers.met in
+    let rows = (matches answers.simple).1 ∙ answers.met in
     record {
       asks = asks;
       met = rows ∙ asks.met;
@@ -272,7 +273,7 @@ fault_cases _ error = inr refl
 
 pub kinds_of : (command : Command) (words : List Text) (error : Error) → AnswersAsWhole words command
     → (is_simple_and_free (app_of command) ≡ true → HasKind (fault_of (app_of command) words) error) → HasKind (fault_of hrv_app words) error
-kinds_of command words error answers kinds = subst (λ k. HasKind k error) answers.faults (kinds answers.simple)
+kinds_of command words error answers kinds = subst (λ k. HasKind k error) answers.faults (kinds answers.free)
 
 -- memory runs out, or the error's kind is one that the words have
 pub refused : (r : Result Invocation CommandLineFault) (words : List Text) (error : Error) → IsErrAnd r (λ f. f ≡ fault_for (kind_of error) error)

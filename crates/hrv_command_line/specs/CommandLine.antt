@@ -5,9 +5,9 @@ use Rattle.std.specs.Str.{bytes_eq}
 use Rattle.std.specs.Str.Parse.{digits_value, without_leading_plus}
 use Rattle.hrv_refusals.specs.Explanations.{is_explained}
 use Rattle.clap.specs.Lexer.{usize_max}
-use Rattle.clap.specs.Simple.{is_simple, on_top}
+use Rattle.clap.specs.Simple.{on_top}
 use Rattle.clap.specs.Walk.{texts}
-use Rattle.clap.specs.Words.{App, IsAmong, Kinds, Row, Rule, Text, all_of, app_of, fault_of, first_of, is_simple_and_free, kind_of, one_of}
+use Rattle.clap.specs.Words.{App, IsAmong, Kinds, Row, Rule, Text, all_of, app_of, fault_of, first_of, kind_of, one_of}
 use Rattle.clap.specs.Words.{new_app, new_rule, subcommand_of, with_rule, with_subcommand}
 use Rattle.clap.specs.ValueTests.{accepts}
 use Rattle.clap.specs.declared.builder.action.ArgAction.TheVariants.{SetTrue}
@@ -211,32 +211,6 @@ hrv_app = with_subcommand (with_subcommand running_app explain_app.top) version_
 pub record Makes (wanted : App) (command : Command) : Type 0 where
   pub app : app_of command ≡ wanted
   pub local : (out-Command command).has_globals ≡ false
-
--- the subcommand of a name
-abbrev pub app_named : Text → Option App
-app_named name = if bytes_eq name (codes "replay") then Some replay_app
-    else (if bytes_eq name (codes "debug") then Some debug_app
-    else (if bytes_eq name (codes "blame") then Some blame_app
-    else (if bytes_eq name (codes "asm") then Some asm_app
-    else (if bytes_eq name (codes "dis") then Some dis_app
-    else (if bytes_eq name (codes "renew") then Some renew_app
-    else (if bytes_eq name (codes "picture") then Some picture_app
-    else (if bytes_eq name (codes "compile") then Some compile_app
-    else (if bytes_eq name (codes "map") then Some map_app
-    else (if bytes_eq name (codes "run") then Some run_app
-    else (if bytes_eq name (codes "explain") then Some explain_app
-    else (if bytes_eq name (codes "version") then Some version_app else None)))))))))))
-
-pub record IsNamed (name : Text) (command : Command) : Type 0 where
-  pub app : app_named name ≡ Some (app_of command)
-  pub local : (out-Command command).has_globals ≡ false
-
--- To these words the command answers as the program's does, with matches or with the same faults.
-pub record AnswersAsWhole (words : List Text) (command : Command) : Type 0 where
-  pub simple : is_simple_and_free (app_of command) ≡ true
-  pub ready : is_simple (app_of command) ≡ true
-  pub faults : fault_of (app_of command) words ≡ fault_of hrv_app words
-  pub met : subcommand_of (app_of command) words ≡ subcommand_of hrv_app words
 
 -- ---- what the words ask for
 

@@ -6,11 +6,12 @@ ghost use Rattle.clap.specs.Words.{new_rule, rule_of};
 ghost use Rattle.hrv_command_line.specs.CommandLine.{Makes, algorithm_app, asm_app, bare_app, blame_app, listing_app};
 ghost use Rattle.hrv_command_line.specs.CommandLine.{blame_files_app, blame_pixel_app, compile_app, compiling_app};
 ghost use Rattle.hrv_command_line.specs.CommandLine.{compile_texts_app, debug_app, dis_app, explain_app, flag_rule};
-ghost use Rattle.hrv_command_line.specs.CommandLine.{AnswersAsWhole, IsNamed, hrv_app, log_app};
+ghost use Rattle.hrv_command_line.specs.CommandLine.{hrv_app, log_app};
 ghost use Rattle.hrv_command_line.specs.CommandLine.{map_app, most_harts, most_turns, number_rule};
 ghost use Rattle.hrv_command_line.specs.CommandLine.{picture_app, renew_app, replay_app, required_rule, rest_rule};
 ghost use Rattle.hrv_command_line.specs.CommandLine.{run_app, run_files_app, run_numbers_app, running_app};
 ghost use Rattle.hrv_command_line.specs.CommandLine.{telling_app, text_app, version_app, word_rule};
+ghost use Rattle.hrv_command_line.specs.inner.OneSubcommand.{AnswersAsWhole, IsNamed};
 
 use clap::{Arg, ArgAction, Command};
 use std::alloc::{AllocError, Global};

@@ -54,7 +54,7 @@ gains-none counter scope most reserved c0 c1 e = record {
   left = λ left. left;
 }
 
-pub gains-one : (counter : Counter) (scope scope' inner : List Held) (form : Form) (r reserved : ℕ) (c0 c1 : List ℕ) → scope' ≡ scope
+gains-one : (counter : Counter) (scope scope' inner : List Held) (form : Form) (r reserved : ℕ) (c0 c1 : List ℕ) → scope' ≡ scope
     → Takes c0 c1 counter scope' form reserved r inner → Gains c0 c1 (sum_words form.per_hart form.sum.terms) counter reserved scope inner
 gains-one counter scope scope' inner form r reserved c0 c1 e x =
     subst (λ s. Gains c0 c1 (sum_words form.per_hart form.sum.terms) counter reserved s inner) e (record {

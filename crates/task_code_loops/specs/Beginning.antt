@@ -74,16 +74,16 @@ pub record HoldsPlainly (counter : Counter) (scope inner : List Held) : Type 0 w
 
 -- ---- before a loop
 
+-- If a register is found, it is given to the form, as it is in the first iteration, and so many stay free.
+abbrev pub StartsIf : List ℕ → List ℕ → Counter → List Held → Form → ℕ → Option ℕ → Type 0
+StartsIf old new counter scope form reserved found =
+    IfSome found (λ r. Takes old new counter scope form reserved r (record { register = r; form = form } ∷ scope))
+
 -- One scope is made of another, and in that one code can go along with the loop, and as many registers are left.
 pub record Gains (old new : List ℕ) (most : ℕ) (counter : Counter) (reserved : ℕ) (scope inner : List Held) : Type 0 where
   pub enters : Enters old new most counter scope inner
   pub can : can_advance counter scope ≡ true → can_advance counter inner ≡ true
   pub left : reserved ≤ left_count scope → reserved ≤ left_count inner
-
--- a register is given to a form, as it is in the first iteration
-abbrev pub StartsIf : List ℕ → List ℕ → Counter → List Held → Form → ℕ → Option ℕ → Type 0
-StartsIf old new counter scope form reserved found =
-    IfSome found (λ r. Takes old new counter scope form reserved r (record { register = r; form = form } ∷ scope))
 
 -- so it is for one form, and for several
 abbrev pub GainsForm : List ℕ → List ℕ → Counter → Form → ℕ → List Held → List Held → Type 0

@@ -67,7 +67,8 @@ fn start_known(
     }
 }
 
-/// So it holds the form.
+/// Appends what leaves a form, as it is in a loop's first iteration, in a register that holds nothing yet, where more
+/// than so many are left and its value can be made: the scope gains it. Else there is no code.
 ///
 /// # Errors
 ///

@@ -108,7 +108,7 @@ pub fn sum_by_others(alloc: Global, own: &Linear, known: &[Known]) -> Result<Lin
         let sum = own.copy(alloc)?;
         return Ok(sum);
     }
-    // One more than it has now: a split loop's variable is that of two loops.
+    // Room for one term more: a split loop's variable is a sum of those of two loops.
     let terms = with_room(alloc, own.terms.len().saturating_add(1))?;
     let mut sum = Linear {
         number: own.number,

@@ -75,10 +75,7 @@ impl<'a> Index<'a> {
     }
 
     fn is_sum(&self) -> bool {
-        match self {
-            Index::Other => false,
-            _ => true,
-        }
+        !matches!(self, Index::Other)
     }
 }
 

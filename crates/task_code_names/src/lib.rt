@@ -2,7 +2,7 @@
 //!
 //! - [`copies`]: expressions once more, whether two are the same, and which load nothing (`specs/Copies.antt`).
 //! - [`names`]: names of expressions, and [`renaming`]: expressions and stores with names in place of parts
-//!   (`specs/Names.antt`). Where names stand in an expression `marks` guess, of which nothing is promised.
+//!   (`specs/Names.antt`). `marks` guesses where names stand in an expression; nothing is promised of that.
 #![tactic(auto)]
 
 pub mod copies;

@@ -1,6 +1,6 @@
 //! Where names stand in an expression. Guesses, of which nothing is promised: whoever puts a name there asks once more.
 
-use crate::copies::{is_same, nodes_of};
+use crate::copies::is_same;
 use crate::names::Named;
 use loop_ir::expressions::Expr;
 use loop_ir::statements::Store;
@@ -17,8 +17,8 @@ pub(crate) enum Standing {
     IsNamed,
 }
 
-/// What is known of a node of an expression, and how many nodes it has itself. Marks come in the order of an
-/// expression's text: a node's stands in front of those of its parts.
+/// What of a part of an expression has a name, and how many nodes the part has. Marks come in the order of an
+/// expression's text: that of a part stands in front of those of its own parts.
 #[derive(Clone, Copy, Debug)]
 pub(crate) struct Mark {
     pub nodes: u32,
@@ -26,7 +26,7 @@ pub(crate) struct Mark {
 }
 
 impl Mark {
-    /// How many nodes the expression's name has, if it has one: 0 where it has none, as no expression has.
+    /// How many nodes the part has, if it has a name itself. Else it is 0, which no named expression has.
     pub(crate) fn named_nodes(&self) -> usize {
         if self.standing == Standing::IsNamed {
             self.nodes as usize
@@ -52,6 +52,9 @@ impl StoreMarks {
             || has_name(self.value.as_slice())
     }
 }
+
+/// How many marks there is room for at first: for those of most expressions.
+const ROOM: usize = 96;
 
 /// Of a number or a sum.
 const LEAF: Mark = Mark {
@@ -148,6 +151,7 @@ fn add_part_marks(names: &[Named], e: &Expr, marks: &mut Vec<Mark>) -> Result<Ma
 #[cycle(marking)]
 fn add_marks(names: &[Named], e: &Expr, marks: &mut Vec<Mark>) -> Result<Mark, AllocError> {
     let place = marks.len();
+    // In the place of its own, which is known behind its parts.
     marks.push(LEAF)?;
     let parts = add_part_marks(names, e, marks)?;
     let own = if is_named(names, e, parts.nodes) {
@@ -164,13 +168,13 @@ fn add_marks(names: &[Named], e: &Expr, marks: &mut Vec<Mark>) -> Result<Mark, A
     Ok(own)
 }
 
-/// The marks of an expression that is made of parts: a number or a sum has none, as no name is one of theirs.
+/// The marks of an expression. A number or a sum alone needs none: only what is made of parts is given names.
 fn marks_in(alloc: Global, names: &[Named], e: &Expr) -> Result<Vec<Mark>, AllocError> {
     match e {
         Expr::Number(_) => Ok(Vec::new(alloc)),
         Expr::Linear(_) => Ok(Vec::new(alloc)),
         _ => {
-            let mut marks = Vec::with_capacity(alloc, nodes_of(e))?;
+            let mut marks = Vec::with_capacity(alloc, ROOM)?;
             add_marks(names, e, &mut marks)?;
             Ok(marks)
         }

@@ -128,7 +128,7 @@ pub fn store_by_names(alloc: Global, names: &[Named], store: &Store) -> Result<S
     Ok(made)
 }
 
-/// A store with names in place of the parts that have one. What has none is not copied.
+/// A store with names in place of the parts that have one. A store of which no part has one is given back as it is.
 ///
 /// # Errors
 ///

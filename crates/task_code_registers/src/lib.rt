@@ -12,7 +12,7 @@
 //!   (`specs/Points.antt`).
 //! - [`holding`]: appends what holds a form in a register while a loop runs, and what makes of the forms of an
 //!   iteration those of the next one (`specs/Holding.antt`).
-//! - [`terms`]: terms of sums that are still to be added.
+//! - [`terms`]: room for the terms of a sum.
 //! - [`laws`]: scopes may be entered one behind the other; a loop that is tested at its bottom does its iterations
 //!   (`specs/Looping.antt`).
 #![tactic(auto)]

@@ -100,7 +100,7 @@ pub fn with_held(
     Ok(made)
 }
 
-/// A scope that gets one more form, in front.
+/// The scope with one more form in front, as [`with_held`] makes it, without a copy.
 ///
 /// # Errors
 ///

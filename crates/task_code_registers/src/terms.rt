@@ -1,4 +1,4 @@
-//! Terms of sums that are still to be added.
+//! Room for the terms of a sum.
 
 ghost use Rattle.std.specs.Prelude.{◌≡◌, [], IfOk};
 

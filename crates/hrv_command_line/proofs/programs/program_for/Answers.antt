@@ -3,7 +3,7 @@ use Rattle.std.specs.Borrow.{Bor}
 use Rattle.std.specs.Prelude.{IfSome}
 use Rattle.clap.specs.Built.{AddsSubcommand}
 use Rattle.clap.specs.Walk.{Text, texts}
-use Rattle.hrv_command_line.specs.CommandLine.{AnswersAsWhole, IsNamed}
+use Rattle.hrv_command_line.specs.inner.OneSubcommand.{AnswersAsWhole, IsNamed}
 use Rattle.hrv_command_line.proofs.OneSubcommand.{begin, one_answers, whole_answers}
 use Rattle.hrv_command_line.proofs.programs.program_for.Goals as goal
 
