@@ -116,7 +116,7 @@ fn ready_part(
 ///
 /// As of the code of the statement.
 #[cycle(readying)]
-pub fn ready(
+fn ready(
     alloc: Global,
     places: &Places,
     context: &Context,
@@ -258,26 +258,78 @@ pub fn add_sums(
 
 // ---- in front of a loop
 
-/// The largest parts of a loop's body that stay the same in all iterations of this loop and those inside.
+/// A loop's body whose stores are as their code is made, and what gets names in front of loops inside.
+#[derive(Debug, Drop)]
+pub struct Guess {
+    pub body: Boxed<Stmt>,
+    pub named: Vec<Expr>,
+}
+
+impl Guess {
+    /// The same with names in place of parts, unless some loop inside gets names too: which these are may depend on the
+    /// others.
+    ///
+    /// # Errors
+    ///
+    /// Memory ran out.
+    pub fn by_names(self, alloc: Global, names: &[Named]) -> Result<Option<Guess>, AllocError> {
+        let Guess { body, named } = self;
+        if !named.is_empty() {
+            return Ok(None);
+        }
+        let body = part_by_names(alloc, names, body.get())?;
+        Ok(Some(Guess { body, named }))
+    }
+}
+
+/// A loop's body as its code is made.
+///
+/// # Errors
+///
+/// As of the code of the body.
+pub fn ready_in(
+    alloc: Global,
+    places: &Places,
+    inner: &Context,
+    body: &Stmt,
+) -> Result<Guess, CodeFault> {
+    let mut named = Vec::new(alloc);
+    let body = ready_part(alloc, places, inner, true, body, &mut named)?;
+    Ok(Guess { body, named })
+}
+
+/// The body of a loop as its code is made, where some part of it may stay the same in all iterations of this loop and
+/// those inside.
 ///
 /// # Errors
 ///
 /// As of the code of the loop.
-pub fn staying_in(
+pub fn ready_to_stay(
     alloc: Global,
     places: &Places,
     context: &Context,
     own: Bound,
     body: &Stmt,
-) -> Result<Vec<Expr>, CodeFault> {
-    if !may_stay_in(alloc, own.counter, body)? {
-        return Ok(Vec::new(alloc));
+) -> Result<Option<Guess>, CodeFault> {
+    if context.with_variables || !may_stay_in(alloc, own.counter, body)? {
+        return Ok(None);
     }
-    let mut named = Vec::new(alloc);
     let inner = in_loop(alloc, context, own)?;
-    let made = ready_part(alloc, places, &inner, true, body, &mut named)?;
-    let all = staying(alloc, context.bounds.as_slice(), made.get())?;
-    Ok(all)
+    let made = ready_in(alloc, places, &inner, body)?;
+    Ok(Some(made))
+}
+
+/// The largest parts of a loop's body that stay the same in all iterations of this loop and those inside.
+///
+/// # Errors
+///
+/// Memory ran out.
+pub fn staying_in(
+    alloc: Global,
+    context: &Context,
+    guess: &Guess,
+) -> Result<Vec<Expr>, AllocError> {
+    staying(alloc, context.bounds.as_slice(), guess.body.get())
 }
 
 /// Adds where runs inside a statement begin that need a name, if these stay the same where these loops stand around it.

@@ -1,10 +1,10 @@
 //! How many registers a loop leaves to those inside, and which forms it holds. Guesses, of which nothing is promised.
 
 use crate::contexts::Context;
-use crate::guessing::{add_sums, ready};
+use crate::guessing::{Guess, add_sums, ready_in};
 use crate::statements::is_laid_out;
 use crate::vectorizing::is_at_once;
-use loop_ir::expressions::{Counter, Expr};
+use loop_ir::expressions::Counter;
 use loop_ir::statements::{LoopKind, Stmt};
 use std::alloc::{AllocError, Global};
 use task_code_loops::known::Known;
@@ -76,15 +76,18 @@ fn add_by_others(
     Ok(())
 }
 
-/// The forms that a loop's body wants in registers where its stores are as their code is made, by the loop variables
-/// that aren't known. Some parts are named.
-fn wanted_by(
+/// The forms that a loop's body wants in registers, by the loop variables that aren't known, where it is known how its
+/// code is made.
+///
+/// # Errors
+///
+/// Memory ran out.
+pub(crate) fn wanted_by(
     alloc: Global,
     places: &Places,
     context: &Context,
     counter: Counter,
-    body: &Stmt,
-    named: &[Expr],
+    guess: &Guess,
 ) -> Result<Vec<Form>, AllocError> {
     let bounds = context.bounds.as_slice();
     let mut wanted = Vec::new(alloc);
@@ -92,10 +95,10 @@ fn wanted_by(
         let own = variable(alloc, counter)?;
         wanted.push(own)?;
     }
-    for e in named {
+    for e in guess.named.as_slice() {
         add_sums(alloc, bounds, e, &mut wanted)?;
     }
-    let found = wanted_forms(alloc, places, bounds, body)?;
+    let found = wanted_forms(alloc, places, bounds, guess.body.get())?;
     add_by_others(alloc, context.known.as_slice(), found, &mut wanted)?;
     Ok(wanted)
 }
@@ -112,10 +115,9 @@ pub(crate) fn wanted_in(
     counter: Counter,
     body: &Stmt,
 ) -> Result<Vec<Form>, CodeFault> {
-    let mut named = Vec::new(alloc);
-    let made = ready(alloc, places, context, true, body, &mut named)?;
-    let found = wanted_by(alloc, places, context, counter, &made, named.as_slice());
-    drop(made);
+    let guess = ready_in(alloc, places, context, body)?;
+    let found = wanted_by(alloc, places, context, counter, &guess);
+    drop(guess);
     let wanted = found?;
     Ok(wanted)
 }

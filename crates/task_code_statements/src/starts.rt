@@ -4,7 +4,7 @@ ghost use Rattle.std.specs.Prelude.{IfOk};
 ghost use Rattle.task_code_statements.specs.Naming.{NamesIf};
 
 use crate::contexts::Context;
-use crate::guessing::{starts_in, staying_in};
+use crate::guessing::{Guess, ready_to_stay, starts_in, staying_in};
 use crate::names::{Limits, Naming, emit_name, emit_names};
 use crate::room::depth;
 use crate::splits::unnamed_start;
@@ -78,6 +78,41 @@ pub fn emit_starts(
     Ok(found)
 }
 
+/// What registers hold behind the names that a loop gets, if there are any, and its body as its code is made, where that
+/// was guessed for them.
+#[derive(Debug, Drop)]
+pub struct Before {
+    pub naming: Option<Naming>,
+    pub guess: Option<Guess>,
+}
+
+/// Appends code that gives names to what stays the same in a loop's body, as its code is made.
+fn emit_guessed(
+    alloc: Global,
+    code: &mut Vec<u32>,
+    site: &Site<'_>,
+    context: &Context,
+    guess: Guess,
+) -> Result<Before, CodeFault>
+    ensures { IfOk result (λ before. NamesIf code.old.items code.new.items site.now.places.now site.now.scope.now
+        context.now before.naming) }
+{
+    let all = staying_in(alloc, context, &guess)?;
+    match emit_names(alloc, code, site, context, all.as_slice(), SPARING)? {
+        None => Ok(Before {
+            naming: None,
+            guess: Some(guess),
+        }),
+        Some(naming) => {
+            let guess = guess.by_names(alloc, naming.context.names.as_slice())?;
+            Ok(Before {
+                naming: Some(naming),
+                guess,
+            })
+        }
+    }
+}
+
 /// Appends code that gives names to what else stays the same in all iterations of a loop.
 fn emit_staying(
     alloc: Global,
@@ -86,15 +121,20 @@ fn emit_staying(
     context: &Context,
     own: Bound,
     body: &Stmt,
-) -> Result<Option<Naming>, CodeFault>
-    ensures { IfOk result (NamesIf code.old.items code.new.items site.now.places.now site.now.scope.now context.now) }
+) -> Result<Before, CodeFault>
+    ensures { IfOk result (λ before. NamesIf code.old.items code.new.items site.now.places.now site.now.scope.now
+        context.now before.naming) }
 {
-    if context.with_variables {
-        return Ok(None);
+    match ready_to_stay(alloc, site.places, context, own, body)? {
+        None => Ok(Before {
+            naming: None,
+            guess: None,
+        }),
+        Some(guess) => {
+            let before = emit_guessed(alloc, code, site, context, guess)?;
+            Ok(before)
+        }
     }
-    let all = staying_in(alloc, site.places, context, own, body)?;
-    let found = emit_names(alloc, code, site, context, all.as_slice(), SPARING)?;
-    Ok(found)
 }
 
 /// Appends code that gives names to what stays the same in all iterations of a loop.
@@ -109,22 +149,32 @@ pub fn emit_before(
     context: &Context,
     own: Bound,
     body: &Stmt,
-) -> Result<Option<Naming>, CodeFault>
-    ensures { IfOk result (NamesIf code.old.items code.new.items site.now.places.now site.now.scope.now context.now) }
+) -> Result<Before, CodeFault>
+    ensures { IfOk result (λ before. NamesIf code.old.items code.new.items site.now.places.now site.now.scope.now
+        context.now before.naming) }
 {
     match emit_starts(alloc, code, site, context, own, body)? {
         None => {
-            let found = emit_staying(alloc, code, site, context, own, body)?;
-            Ok(found)
+            let before = emit_staying(alloc, code, site, context, own, body)?;
+            Ok(before)
         }
         Some(one) => {
             let inner = Site {
                 places: site.places,
                 scope: one.scope.as_slice(),
             };
-            match emit_staying(alloc, code, &inner, &one.context, own, body)? {
-                None => Ok(Some(one)),
-                Some(more) => Ok(Some(more)),
+            let before = emit_staying(alloc, code, &inner, &one.context, own, body)?;
+            let naming = before.naming;
+            let guess = before.guess;
+            match naming {
+                None => Ok(Before {
+                    naming: Some(one),
+                    guess,
+                }),
+                Some(more) => Ok(Before {
+                    naming: Some(more),
+                    guess,
+                }),
             }
         }
     }

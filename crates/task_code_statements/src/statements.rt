@@ -12,9 +12,10 @@ ghost use Rattle.task_code_statements.specs.Making.{BeginsIterations, IsMadeStor
 ghost use Rattle.task_code_statements.specs.Statements.{EmitsLoop, EmitsStatement};
 
 use crate::contexts::{Context, in_loop, with_sum};
+use crate::guessing::Guess;
 use crate::making::unclamped_store;
 use crate::plain::is_plain_store;
-use crate::room::{depth, reserve, wanted_in};
+use crate::room::{depth, reserve, wanted_by, wanted_in};
 use crate::splits::{enter_split, is_cut, without_last};
 use crate::stages::{Code, add_first, add_last, add_second, no_words_beside};
 use crate::starts::{emit_before, emit_start};
@@ -149,20 +150,31 @@ fn way_of(kind: LoopKind, count: u32) -> Way
 
 // ---- statements
 
+/// A loop whose iterations come one behind the other, and its body as its code is made, if that is guessed already.
+#[derive(Clone, Copy, Debug)]
+struct Iterations<'a> {
+    own: Bound,
+    body: &'a Stmt,
+    guess: &'a [Guess],
+}
+
 /// Appends what stands in front of a loop: forms that its body wants in registers.
 fn begin_iterations(
     alloc: Global,
     code: &mut Vec<u32>,
     site: &Site<'_>,
     inner: &Context,
-    own: Bound,
-    body: &Stmt,
+    iterations: &Iterations<'_>,
 ) -> Result<Begun, CodeFault>
-    requires { 1 ≤ own.count }
-    ensures { IfOk result (BeginsIterations code.old.items code.new.items own site.now.scope.now) }
+    requires { 1 ≤ iterations.now.own.count }
+    ensures { IfOk result (BeginsIterations code.old.items code.new.items iterations.now.own site.now.scope.now) }
 {
-    let wanted = wanted_in(alloc, site.places, inner, own.counter, body)?;
-    let reserved = reserve(site.scope, depth(body), inner.with_variables);
+    let own = iterations.own;
+    let wanted = match iterations.guess {
+        [] => wanted_in(alloc, site.places, inner, own.counter, iterations.body)?,
+        [guess, ..] => wanted_by(alloc, site.places, inner, own.counter, guess)?,
+    };
+    let reserved = reserve(site.scope, depth(iterations.body), inner.with_variables);
     let begun = begin(alloc, code, site.scope, own, wanted.as_slice(), reserved)?;
     Ok(begun)
 }
@@ -174,22 +186,21 @@ fn emit_iterations(
     code: &mut Code,
     site: &Site<'_>,
     context: &Context,
-    own: Bound,
-    body: &Stmt,
+    iterations: &Iterations<'_>,
 ) -> Result<(), CodeFault>
-    requires { 1 ≤ own.count }
+    requires { 1 ≤ iterations.now.own.count }
     ensures { OnOk result (EmitsLoop code.old.words.items code.new.words.items site.now.places.now site.now.scope.now
         (Meets context.now)
-        own.counter own.count body.now) }
+        iterations.now.own.counter iterations.now.own.count iterations.now.body.now) }
 {
-    let inner = in_loop(alloc, context, own)?;
-    let begun = begin_iterations(alloc, &mut code.words, site, &inner, own, body)?;
+    let inner = in_loop(alloc, context, iterations.own)?;
+    let begun = begin_iterations(alloc, &mut code.words, site, &inner, iterations)?;
     let start = code.words.len();
     let within = Site {
         places: site.places,
         scope: begun.inner.as_slice(),
     };
-    emit_statement(alloc, code, &within, &inner, body)?;
+    emit_statement(alloc, code, &within, &inner, iterations.body)?;
     end_loop(&mut code.words, &begun, start)?;
     Ok(())
 }
@@ -211,17 +222,20 @@ fn emit_loop(
     if own.count == 0 {
         return Ok(());
     }
-    match emit_before(alloc, &mut code.words, site, context, own, body)? {
+    let before = emit_before(alloc, &mut code.words, site, context, own, body)?;
+    let guess = before.guess.as_slice();
+    let iterations = Iterations { own, body, guess };
+    match &before.naming {
         None => {
-            emit_iterations(alloc, code, site, context, own, body)?;
+            emit_iterations(alloc, code, site, context, &iterations)?;
             Ok(())
         }
-        Some(before) => {
+        Some(naming) => {
             let inner = Site {
                 places: site.places,
-                scope: before.scope.as_slice(),
+                scope: naming.scope.as_slice(),
             };
-            emit_iterations(alloc, code, &inner, &before.context, own, body)?;
+            emit_iterations(alloc, code, &inner, &naming.context, &iterations)?;
             Ok(())
         }
     }

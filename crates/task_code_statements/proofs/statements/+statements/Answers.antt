@@ -52,26 +52,28 @@ emit_loop-returns-then-own-eq0 t c = λ kind plain.
     none-emits c.args.site.now.places.now c.args.site.now.scope.now (Meets c.args.context.now) c.args.own.counter c.args.own.count kind c.args.body.now _
     c.if-own-eq0.true
 
-pub emit_loop-returns-in_ok-emit_iterations-in-None : goal.emit_loop-returns-in_ok-emit_iterations-in-None
-emit_loop-returns-in_ok-emit_iterations-in-None t c =
+pub emit_loop-returns-in-None : goal.emit_loop-returns-in-None
+emit_loop-returns-in-None t c =
     loop-alone c.args.site.now.places.now c.args.site.now.scope.now (Meets c.args.context.now) c.args.own.counter c.args.own.count c.args.body.now
     c.args.code.now.words.items c.emit_before.new.code.items _
-    (none-given c.args.site.now.places.now c.args.site.now.scope.now c.args.context.now c.in_ok-emit_before.field-0 c.args.code.now.words.items
-    c.emit_before.new.code.items c.in-None.is c.in_ok-emit_before.ensures) c.in_ok-emit_iterations-in-None.ensures
+    (none-given c.args.site.now.places.now c.args.site.now.scope.now c.args.context.now c.in_ok-before.before.naming c.args.code.now.words.items
+    c.emit_before.new.code.items c.in-None.is c.in_ok-before.ensures) c.in_ok-emit_iterations-in-None.ensures
 
-pub emit_loop-returns-in_ok-emit_iterations-in-Some : goal.emit_loop-returns-in_ok-emit_iterations-in-Some
-emit_loop-returns-in_ok-emit_iterations-in-Some t c =
-    loop-behind c.args.site.now.places.now c.args.site.now.scope.now c.as_slice.result.now c.args.context.now c.in-Some.before c.args.own.counter
+pub emit_loop-returns : goal.emit_loop-returns
+emit_loop-returns t c =
+    loop-behind c.args.site.now.places.now c.args.site.now.scope.now c.as_slice.result.now c.args.context.now c.in-Some.naming c.args.own.counter
     c.args.own.count c.args.body.now c.args.code.now.words.items c.emit_before.new.code.items _
-    (some-given c.args.site.now.places.now c.args.site.now.scope.now c.args.context.now c.in-Some.before c.in_ok-emit_before.field-0 c.args.code.now.words.items
-    c.emit_before.new.code.items c.in-Some.is c.in_ok-emit_before.ensures) c.as_slice.ensures.value c.in_ok-emit_iterations-in-Some.ensures
+    (some-given c.args.site.now.places.now c.args.site.now.scope.now c.args.context.now c.in-Some.naming c.in_ok-before.before.naming
+    c.args.code.now.words.items c.emit_before.new.code.items c.in-Some.is c.in_ok-before.ensures) c.as_slice.ensures.value
+    c.in_ok-emit_iterations-in-Some.ensures
 
 pub emit_iterations-returns : goal.emit_iterations-returns
 emit_iterations-returns t c = λ kind plain.
-    loop-arm c.args.site.now.places.now c.args.site.now.scope.now (Meets c.args.context.now) (Meets c.in_ok-inner.inner) c.args.own.counter c.args.own.count
-    kind c.args.body.now c.in_ok-begun.begun c.as_slice.result.now _ _ c.len-start.result _ _ _ _ plain c.in_ok-inner.ensures.meets c.in_ok-begun.ensures.steady
-    c.in_ok-begun.ensures.begins c.as_slice.ensures.value (c.len-start.ensures ∙ c.begin_iterations.new.code.ok.0) c.in_ok-emit_statement.ensures
-    c.in_ok-end_loop.ensures.ok
+    let own = c.args.iterations.now.own in
+    loop-arm c.args.site.now.places.now c.args.site.now.scope.now (Meets c.args.context.now) (Meets c.in_ok-inner.inner) own.counter own.count
+    kind c.args.iterations.now.body.now c.in_ok-begun.begun c.as_slice.result.now _ _ c.len-start.result _ _ _ _ plain c.in_ok-inner.ensures.meets
+    c.in_ok-begun.ensures.steady c.in_ok-begun.ensures.begins c.as_slice.ensures.value (c.len-start.ensures ∙ c.begin_iterations.new.code.ok.0)
+    c.in_ok-emit_statement.ensures c.in_ok-end_loop.ensures.ok
 
 pub emit_laid_out-loop-iteration-init : goal.emit_laid_out-loop-iteration-init
 emit_laid_out-loop-iteration-init t c =

@@ -1,5 +1,6 @@
 -- The size of the statement; a loop and a split loop are made of their bodies.
 use Rattle.std.proofs.Common.{suc, ◌*◌}
+use Rattle.loop_ir.specs.declared.statements.Stmt.{size-Stmt}
 use Rattle.task_code_statements.specs.Contexts.{Meets}
 use Rattle.task_code_statements.specs.Laying.{LaysOut}
 use Rattle.task_code_statements.proofs.statements.+statements.Given as goal
@@ -11,7 +12,7 @@ abbrev pub decreases-emit_loop : goal.decreases-emit_loop
 decreases-emit_loop l = suc (suc (5 * goal.size-emit_loop l))
 
 abbrev pub decreases-emit_iterations : goal.decreases-emit_iterations
-decreases-emit_iterations l = suc (5 * goal.size-emit_iterations l)
+decreases-emit_iterations l = suc (5 * size-Stmt l.iterations.now.body.now)
 
 abbrev pub decreases-emit_serial : goal.decreases-emit_serial
 decreases-emit_serial l = suc (suc (suc (suc (5 * goal.size-emit_serial l))))
