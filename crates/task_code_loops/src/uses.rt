@@ -76,8 +76,8 @@ pub(crate) fn count_at_zero(
     Ok(())
 }
 
-/// A form by the loop variables that aren't known, for guesses, which need no promise: it is made once more only where it
-/// has known ones.
+/// A form by the loop variables that aren't known, for guesses, which need no promise: it is made once more only where
+/// it has known ones.
 ///
 /// # Errors
 ///
