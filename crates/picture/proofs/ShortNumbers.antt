@@ -1,10 +1,33 @@
 -- Pixels of few digits, read in one pass.
-use Rattle.std.proofs.Common.{◌≡◌, ℕ, ◌-◌, ◌^◌, ◌<◌, ◌≤◌, ◌%◌, Bool, true, false, cond, List, ◌∷◌, [], length, take, drop, get_or, nat_eq, Ok, refl, sym, arith}
+use Rattle.std.proofs.Common.{◌≡◌, ℕ, ◌-◌, ◌^◌, ◌<◌, ◌≤◌, ◌%◌, Bool, true, false, cond, List, ◌∷◌, [], length, take, drop, get_or, nat_eq, Ok}
+use Rattle.std.proofs.Common.{refl, sym, ap, ◌∙◌, arith, inl, inr}
+use Rattle.std.specs.Prelude.{◌==◌}
+use Rattle.std.specs.Int.{from_bool}
+use Rattle.std.proofs.lemmas.Bool.{cases_Bool}
 use Rattle.std.proofs.lemmas.Bool.Decides.{nat_tests}
 use Rattle.std.proofs.lemmas.List.{take_all}
 use Rattle.std.specs.List.{prefix_len, starts_with}
 use Rattle.line_text.specs.Lines.{is_digit, decimal_number}
 use Rattle.picture.specs.Reading.{behind, is_plain, numeral_at, pixel_of, pixel_then, plain_at}
+
+-- a sign that is passed, where one stands in front
+pub sign-passed : (text unsigned : List ℕ) (negative : Bool) (count : ℕ) → 1 ≤ length text → negative ≡ (get_or text 0 0 == 45) → count ≡ from_bool negative
+    → unsigned ≡ drop count text → numeral_at text ≡ plain_at negative unsigned
+unfolding numeral_at
+sign-passed [] unsigned negative count some is c d = absurd (omega (arith, some))
+sign-passed (byte ∷ text) unsigned negative count some is c d =
+    elim (cases_Bool (byte == 45)) [
+      | inl minus ↦
+          let sign : negative ≡ true = is ∙ minus in
+          let one : count ≡ 1 = c ∙ ap from_bool sign in
+          let rest : unsigned ≡ text = d ∙ ap (λ (n : ℕ). drop n (byte ∷ text)) one in
+          rw (minus, sign, rest) refl
+      | inr other ↦
+          let sign : negative ≡ false = is ∙ other in
+          let none : count ≡ 0 = c ∙ ap from_bool sign in
+          let rest : unsigned ≡ byte ∷ text = d ∙ ap (λ (n : ℕ). drop n (byte ∷ text)) none in
+          rw (other, sign, rest) refl
+    ]
 
 -- digits that spell a number below 2^31
 few_digits : (negative : Bool) (digits : List ℕ) → decimal_number digits < 10 ^ 8

@@ -167,7 +167,12 @@ fn short_number(text: &[u8]) -> Option<(u32, usize)>
 fn short_pixel_then<'a>(word: &[u8], text: &'a [u8]) -> Option<(u32, &'a [u8])>
     ensures { IfSome result (λ pixel. spec.pixel_then word.now text.now ≡ Ok (pixel.0, pixel.1.now)) }
 {
-    let (negative, unsigned) = sign_at(text);
+    let [front, ..] = text else {
+        return None;
+    };
+    // Passed without a branch, since which pixels are below 0 can't be foreseen.
+    let negative = *front == b'-';
+    let (_, unsigned) = text.split_at(usize::from(negative));
     let (size, len) = short_number(unsigned)?;
     let (digits, after) = unsigned.split_at(len);
     let [separator] = word else {
@@ -183,13 +188,22 @@ fn short_pixel_then<'a>(word: &[u8], text: &'a [u8]) -> Option<(u32, &'a [u8])>
 }
 
 /// A pixel and this word behind it, and what stands behind both.
-#[tactic(auto, unfolding(crate::specs::Reading::pixel_then))]
 fn pixel_then<'a>(word: &[u8], text: &'a [u8]) -> Result<(u32, &'a [u8]), PictureFault>
     ensures { spec.Shows (λ pixel. (pixel.0, pixel.1.now)) result (spec.pixel_then word.now text.now) }
 {
-    if let Some(short) = short_pixel_then(word, text) {
-        return Ok(short);
+    match short_pixel_then(word, text) {
+        Some(short) => Ok(short),
+        None => any_pixel_then(word, text),
     }
+}
+
+/// The same, of any number of digits, and with the faults.
+#[cold]
+#[inline(never)]
+#[tactic(auto, unfolding(crate::specs::Reading::pixel_then))]
+fn any_pixel_then<'a>(word: &[u8], text: &'a [u8]) -> Result<(u32, &'a [u8]), PictureFault>
+    ensures { spec.Shows (λ pixel. (pixel.0, pixel.1.now)) result (spec.pixel_then word.now text.now) }
+{
     let (negative, digits, after_number) = numeral_at(text)?;
     let pixel = pixel_of(negative, digits)?;
     let rest = behind(word, after_number)?;
