@@ -163,6 +163,7 @@ fn is_known(invocation: &Invocation) -> bool
 }
 
 // What a subcommand and its arguments ask for.
+#[inline(never)]
 fn asked_for<'a>(
     alloc: Global,
     name: &str,
@@ -173,6 +174,7 @@ fn asked_for<'a>(
         ≡ Some (asked_by invocation)) }
 {
     match name {
+        "compile" => compile_asked(alloc, given),
         "replay" => Ok(replay_asked(given)),
         "debug" => Ok(debug_asked(given)),
         "blame" => Ok(blame_asked(given)),
@@ -180,7 +182,6 @@ fn asked_for<'a>(
         "dis" => Ok(dis_asked(given)),
         "renew" => Ok(renew_asked(given)),
         "picture" => picture_asked(alloc, given),
-        "compile" => compile_asked(alloc, given),
         "map" => Ok(map_asked(given)),
         "run" => Ok(run_asked(given)),
         "explain" => Ok(explain_asked(given)),

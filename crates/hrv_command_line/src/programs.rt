@@ -50,6 +50,7 @@ impl<'a> Grown<'a> {
 
 /// A command that answers to these words as the program's does: with the subcommand that they begin with alone, since a
 /// command is built as a whole before it reads any word; with all, where they begin with none.
+#[inline(never)]
 pub(crate) fn program_for<'a>(alloc: Global, words: &[&str]) -> Result<Command<'a>, AllocError>
     ensures { IfOk result (AnswersAsWhole (texts words.now)) }
 {
@@ -69,11 +70,16 @@ pub(crate) fn program_for<'a>(alloc: Global, words: &[&str]) -> Result<Command<'
     }
 }
 
+// Subcommands are built by functions of their own, so that no frame has room for several: a command is large. `compile`
+// stands first, as it does where commands are done.
+
 // The subcommand of a name.
+#[inline(never)]
 fn named_command<'a>(alloc: Global, name: &str) -> Result<Option<Command<'a>>, AllocError>
     ensures { IfOk result (λ found. IfSome found (IsNamed name.now)) }
 {
     let command = match name {
+        "compile" => compile_command(alloc)?,
         "replay" => replay_command(alloc)?,
         "debug" => debug_command(alloc)?,
         "blame" => blame_command(alloc)?,
@@ -81,7 +87,6 @@ fn named_command<'a>(alloc: Global, name: &str) -> Result<Option<Command<'a>>, A
         "dis" => dis_command(alloc)?,
         "renew" => renew_command(alloc)?,
         "picture" => picture_command(alloc)?,
-        "compile" => compile_command(alloc)?,
         "map" => map_command(alloc)?,
         "run" => run_command(alloc)?,
         "explain" => explain_command(alloc)?,
@@ -167,6 +172,7 @@ fn bare_program<'a>(alloc: Global) -> Result<Grown<'a>, AllocError>
 }
 
 // `replay IMAGE LOG`
+#[inline(never)]
 fn replay_command<'a>(alloc: Global) -> Result<Command<'a>, AllocError>
     ensures { IfOk result (Makes replay_app) }
 {
@@ -177,6 +183,7 @@ fn replay_command<'a>(alloc: Global) -> Result<Command<'a>, AllocError>
 }
 
 // `debug IMAGE LOG`
+#[inline(never)]
 fn debug_command<'a>(alloc: Global) -> Result<Command<'a>, AllocError>
     ensures { IfOk result (Makes debug_app) }
 {
@@ -187,6 +194,7 @@ fn debug_command<'a>(alloc: Global) -> Result<Command<'a>, AllocError>
 }
 
 // `blame IMAGE LOG [X] [Y] --address A --turns`
+#[inline(never)]
 fn blame_command<'a>(alloc: Global) -> Result<Command<'a>, AllocError>
     ensures { IfOk result (Makes blame_app) }
 {
@@ -196,6 +204,7 @@ fn blame_command<'a>(alloc: Global) -> Result<Command<'a>, AllocError>
 }
 
 // `blame IMAGE LOG [X] [Y]`
+#[inline(never)]
 fn blame_pixel_command<'a>(alloc: Global) -> Result<Command<'a>, AllocError>
     ensures { IfOk result (Makes blame_pixel_app) }
 {
@@ -209,6 +218,7 @@ fn blame_pixel_command<'a>(alloc: Global) -> Result<Command<'a>, AllocError>
 }
 
 // `blame` with its files alone.
+#[inline(never)]
 fn blame_files_command<'a>(alloc: Global) -> Result<Command<'a>, AllocError>
     ensures { IfOk result (Makes blame_files_app) }
 {
@@ -219,6 +229,7 @@ fn blame_files_command<'a>(alloc: Global) -> Result<Command<'a>, AllocError>
 }
 
 // `asm SOURCE IMAGE`
+#[inline(never)]
 fn asm_command<'a>(alloc: Global) -> Result<Command<'a>, AllocError>
     ensures { IfOk result (Makes asm_app) }
 {
@@ -229,6 +240,7 @@ fn asm_command<'a>(alloc: Global) -> Result<Command<'a>, AllocError>
 }
 
 // `dis IMAGE --addresses`
+#[inline(never)]
 fn dis_command<'a>(alloc: Global) -> Result<Command<'a>, AllocError>
     ensures { IfOk result (Makes dis_app) }
 {
@@ -239,6 +251,7 @@ fn dis_command<'a>(alloc: Global) -> Result<Command<'a>, AllocError>
 }
 
 // `renew OLD NEW`
+#[inline(never)]
 fn renew_command<'a>(alloc: Global) -> Result<Command<'a>, AllocError>
     ensures { IfOk result (Makes renew_app) }
 {
@@ -249,6 +262,7 @@ fn renew_command<'a>(alloc: Global) -> Result<Command<'a>, AllocError>
 }
 
 // `picture ALGORITHM [INPUT..]`
+#[inline(never)]
 fn picture_command<'a>(alloc: Global) -> Result<Command<'a>, AllocError>
     ensures { IfOk result (Makes picture_app) }
 {
@@ -259,6 +273,7 @@ fn picture_command<'a>(alloc: Global) -> Result<Command<'a>, AllocError>
 }
 
 // `compile ALGORITHM SCHEDULE IMAGE [INPUT..]`
+#[inline(never)]
 fn compile_command<'a>(alloc: Global) -> Result<Command<'a>, AllocError>
     ensures { IfOk result (Makes compile_app) }
 {
@@ -268,6 +283,7 @@ fn compile_command<'a>(alloc: Global) -> Result<Command<'a>, AllocError>
 }
 
 // `compile` with its texts alone.
+#[inline(never)]
 fn compile_texts_command<'a>(alloc: Global) -> Result<Command<'a>, AllocError>
     ensures { IfOk result (Makes compile_texts_app) }
 {
@@ -282,6 +298,7 @@ fn compile_texts_command<'a>(alloc: Global) -> Result<Command<'a>, AllocError>
 }
 
 // `map ALGORITHM SCHEDULE`
+#[inline(never)]
 fn map_command<'a>(alloc: Global) -> Result<Command<'a>, AllocError>
     ensures { IfOk result (Makes map_app) }
 {
@@ -292,6 +309,7 @@ fn map_command<'a>(alloc: Global) -> Result<Command<'a>, AllocError>
 }
 
 // `run IMAGE LOG --harts N --turns L --from OLD`
+#[inline(never)]
 fn run_command<'a>(alloc: Global) -> Result<Command<'a>, AllocError>
     ensures { IfOk result (Makes run_app) }
 {
@@ -299,6 +317,7 @@ fn run_command<'a>(alloc: Global) -> Result<Command<'a>, AllocError>
 }
 
 // `run IMAGE LOG --harts N --turns L`
+#[inline(never)]
 fn run_numbers_command<'a>(alloc: Global) -> Result<Command<'a>, AllocError>
     ensures { IfOk result (Makes run_numbers_app) }
 {
@@ -308,6 +327,7 @@ fn run_numbers_command<'a>(alloc: Global) -> Result<Command<'a>, AllocError>
 }
 
 // `run` with its files alone.
+#[inline(never)]
 fn run_files_command<'a>(alloc: Global) -> Result<Command<'a>, AllocError>
     ensures { IfOk result (Makes run_files_app) }
 {
@@ -322,6 +342,7 @@ fn run_files_command<'a>(alloc: Global) -> Result<Command<'a>, AllocError>
 }
 
 // `explain FAMILY [CODE]`
+#[inline(never)]
 fn explain_command<'a>(alloc: Global) -> Result<Command<'a>, AllocError>
     ensures { IfOk result (Makes explain_app) }
 {
@@ -336,6 +357,7 @@ fn explain_command<'a>(alloc: Global) -> Result<Command<'a>, AllocError>
 }
 
 // `version`
+#[inline(never)]
 fn version_command<'a>(alloc: Global) -> Command<'a>
     ensures { Makes version_app result }
 {
