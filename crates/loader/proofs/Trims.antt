@@ -165,6 +165,10 @@ lost_behind (byte ∷ front) zeros none = ap (in_front byte) (lost_behind front 
 all_zeros : (last : List ℕ) → length last ≡ 8 → ((i : ℕ) → get_or last i 0 < 256) → from_le_bytes w64 last ≡ 0 → trimmed last ≡ []
 all_zeros last len small is = ap trimmed (sym (le_bytes_8 last 0 len small (sym is)))
 
+-- zeros that are put behind bytes are lost again
+pub trimmed_front : (size : ℕ) (front : List ℕ) → trimmed (padded size front) ≡ trimmed front
+trimmed_front size front = lost_behind front (replicate (size - length front) 0) (trimmed_zeros (size - length front))
+
 -- the last eight bytes are lost where they spell 0
 pub eight_behind : (bytes front last : List ℕ) → IsBytes bytes
     → (front ≡ take (length bytes - 8) bytes) × (last ≡ drop (length bytes - 8) bytes) × (length front + 8 ≡ length bytes)

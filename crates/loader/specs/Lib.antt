@@ -1,4 +1,5 @@
 pub mod Fault
 pub mod Image
 pub mod Loading
+pub mod Parts
 pub mod Spelling

@@ -4,12 +4,14 @@ ghost use Rattle.std.specs.Prelude.{◌≡◌, ◌+◌, ◌*◌, ◌<◌, ◌≤
 ghost use Rattle.std.specs.Prelude.{vec_len, vec_capacity};
 ghost use Rattle.std.specs.Int.{w32, to_le_bytes};
 ghost use Rattle.loader.specs.Image.{ImageContents, IsImage};
-ghost use Rattle.loader.specs.Spelling.{spelled, spelled_numbers, output_fields, spelled_start, spelled_header, stored};
+ghost use Rattle.loader.specs.Parts.{AreParts, image_with};
+ghost use Rattle.loader.specs.Spelling.{spelled, spelled_numbers, output_fields, spelled_start};
 ghost use Rattle.loader.specs.Spelling.{trimmed};
 
 use crate::formats::Format;
 use crate::images::Image;
 use crate::outputs::Output;
+use crate::parts::ImageParts;
 use byteorder::{ByteOrder, LittleEndian};
 use std::alloc::AllocError;
 
@@ -58,17 +60,18 @@ fn push_numbers(out: &mut Vec<u8>, numbers: &[u32])
 }
 
 /// Appends the part of a header that both formats have, where there is room for it.
-fn push_start(out: &mut Vec<u8>, image: &Image)
-    requires { vec_len out.old + 32 ≤ vec_capacity out.old }
-    ensures items { out.new.items ≡ out.old.items ++ spelled_start Format.Hrv2 image.now }
+fn push_start(out: &mut Vec<u8>, parts: &ImageParts)
+    requires room { vec_len out.old + 32 ≤ vec_capacity out.old }
+    requires parts { AreParts parts.now }
+    ensures items { out.new.items ≡ out.old.items ++ spelled_start Format.Hrv2 (image_with parts.now) }
     ensures len { vec_len out.new ≡ vec_len out.old + 32 }
     ensures capacity { vec_capacity out.old ≤ vec_capacity out.new }
 {
     push_bytes(out, &Format::Hrv2.magic());
-    push_number(out, image.entry());
-    push_number(out, image.words().len() as u32);
-    push_number(out, image.data().len() as u32);
-    push_numbers(out, &output_fields(image.output()));
+    push_number(out, parts.entry);
+    push_number(out, parts.words.len() as u32);
+    push_number(out, parts.size);
+    push_numbers(out, &output_fields(parts.output));
 }
 
 /// The bytes in front of the last eight, where those are zeros.
@@ -102,22 +105,39 @@ fn trimmed(bytes: &[u8]) -> &[u8]
     kept
 }
 
+/// Appends the bytes of an image that has these parts, in the second format. Whether they keep the rules on entry and
+/// output isn't asked. Refused, with what `out` held unchanged, only where it has no room for them and memory runs out.
+pub fn store_parts(parts: &ImageParts, out: &mut Vec<u8>) -> Result<(), AllocError>
+    requires { AreParts parts.now }
+    ensures ok { OnOk result (out.new.items ≡ out.old.items ++ spelled Format.Hrv2 (image_with parts.now)) }
+    ensures err { OnErr result (out.new.items ≡ out.old.items) }
+    ensures full { OnErr result
+        (vec_capacity out.old < vec_len out.old + length (spelled Format.Hrv2 (image_with parts.now))) }
+{
+    let stored = trimmed(parts.front);
+    out.reserve(Format::Hrv2.header_len() + 4 * parts.words.len() + stored.len())?;
+    push_start(out, parts);
+    push_number(out, stored.len() as u32);
+    push_numbers(out, parts.words);
+    push_bytes(out, stored);
+    Ok(())
+}
+
 /// Appends an image's bytes, in the second format. Refused, with what `out` held unchanged, only where it has no room
 /// for them and memory runs out.
-#[tactic(auto, using(crate::proofs::Joined::joined), unfolding(crate::specs::Spelling::spelled, crate::specs::Spelling::spelled_header))]
 pub fn store(image: &Image, out: &mut Vec<u8>) -> Result<(), AllocError>
     ensures ok { OnOk result (out.new.items ≡ out.old.items ++ spelled Format.Hrv2 image.now) }
     ensures err { OnErr result (out.new.items ≡ out.old.items) }
     ensures full { OnErr result (vec_capacity out.old < vec_len out.old + length (spelled Format.Hrv2 image.now)) }
 {
-    let words = image.words();
-    let stored = trimmed(image.data());
-    out.reserve(Format::Hrv2.header_len() + 4 * words.len() + stored.len())?;
-    push_start(out, image);
-    push_number(out, stored.len() as u32);
-    push_numbers(out, words);
-    push_bytes(out, stored);
-    Ok(())
+    let parts = ImageParts {
+        entry: image.entry(),
+        words: image.words(),
+        front: image.data(),
+        size: image.data().len() as u32,
+        output: image.output(),
+    };
+    store_parts(&parts, out)
 }
 
 /// A law: in each format an image has one spelling, and no spelling begins another.
