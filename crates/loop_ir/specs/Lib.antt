@@ -4,6 +4,7 @@ pub mod Counters
 pub mod Depths
 pub mod Expressions
 pub mod Needs
+pub mod Parts
 pub mod Running
 pub mod Sizes
 pub mod Soundness

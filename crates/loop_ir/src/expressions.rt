@@ -5,8 +5,10 @@ ghost use Rattle.halide_pipeline.specs.Words as word;
 ghost use Rattle.loop_ir.specs.Counters as spec;
 ghost use Rattle.loop_ir.specs.Counters.{Values};
 ghost use Rattle.loop_ir.specs.Expressions.{linear_value};
+ghost use Rattle.loop_ir.specs.Parts.{expression_of};
 
 use crate::linear::take_away;
+use crate::parts::ExprParts;
 use halide_pipeline::{Operation, Source, words};
 use schedule_lines::stages::{LoopId, same_id};
 use sqlite_items::{Boxed, Items};
@@ -151,6 +153,23 @@ impl Drop for Expr {
                 drop(x);
                 drop(y);
             }
+        }
+    }
+}
+
+impl Expr {
+    /// Its parts.
+    pub fn into_parts(self) -> ExprParts
+        ensures { self ≡ expression_of result }
+    {
+        match self {
+            Expr::Number(number) => ExprParts::Number(number),
+            Expr::Linear(own) => ExprParts::Linear(own),
+            Expr::Binary(operation, a, b) => ExprParts::Binary(operation, a, b),
+            Expr::Divide(a, divisor) => ExprParts::Divide(a, divisor),
+            Expr::Remainder(a, divisor) => ExprParts::Remainder(a, divisor),
+            Expr::Select(c, a, b) => ExprParts::Select(c, a, b),
+            Expr::Load(source, x, y) => ExprParts::Load(source, x, y),
         }
     }
 }

@@ -6,6 +6,7 @@
 //!   counters stand around a store: `specs/Depths.antt`; how many registers expressions need: `specs/Needs.antt`; how
 //!   many words of code a statement may ask for: `specs/Sizes.antt`. Whether one writes and loads only points that are
 //!   there: `specs/Soundness.antt`; whether the rounds of vectorized loops may be done at once: `specs/Rounds.antt`.
+//! - [`parts`]: expressions and statements that are taken apart (`specs/Parts.antt`).
 //! - [`buffers`]: pixels of inputs and Funcs (`specs/Buffers.antt`).
 //! - [`running`]: **what a statement and a phase do to the buffers** (`specs/Running.antt`). Running one takes no
 //!   memory.
@@ -17,5 +18,6 @@ pub mod buffers;
 pub mod expressions;
 pub mod laws;
 mod linear;
+pub mod parts;
 pub mod running;
 pub mod statements;

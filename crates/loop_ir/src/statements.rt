@@ -1,6 +1,10 @@
 //! Statements.
 
+ghost use Rattle.std.specs.Prelude.{◌≡◌};
+ghost use Rattle.loop_ir.specs.Parts.{statement_of, store_of};
+
 use crate::expressions::{Counter, Expr};
+use crate::parts::{StmtParts, StoreParts};
 use sqlite_items::{Boxed, Items};
 
 /// How the rounds of a loop are to be made. They do the same in each of these ways.
@@ -33,6 +37,16 @@ impl Drop for Store {
         drop(x);
         drop(y);
         drop(value);
+    }
+}
+
+impl Store {
+    /// Its parts.
+    pub fn into_parts(self) -> StoreParts
+        ensures { self ≡ store_of result }
+    {
+        let Store { func, x, y, value } = self;
+        StoreParts { func, x, y, value }
     }
 }
 
@@ -69,6 +83,20 @@ impl Drop for Stmt {
             }
             Stmt::For(_, _, _, body) => drop(body),
             Stmt::Bind(_, _, _, body) => drop(body),
+        }
+    }
+}
+
+impl Stmt {
+    /// Its parts.
+    pub fn into_parts(self) -> StmtParts
+        ensures { self ≡ statement_of result }
+    {
+        match self {
+            Stmt::Store(store) => StmtParts::Store(store),
+            Stmt::Sequence(first, second) => StmtParts::Sequence(first, second),
+            Stmt::For(counter, count, kind, body) => StmtParts::For(counter, count, kind, body),
+            Stmt::Bind(counter, own, extent, body) => StmtParts::Bind(counter, own, extent, body),
         }
     }
 }

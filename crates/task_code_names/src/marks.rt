@@ -25,32 +25,12 @@ pub(crate) struct Mark {
     pub standing: Standing,
 }
 
-impl Mark {
-    /// How many nodes the part has, if it has a name itself. Else it is 0, which no named expression has.
-    pub(crate) fn named_nodes(&self) -> usize {
-        if self.standing == Standing::IsNamed {
-            self.nodes as usize
-        } else {
-            0
-        }
-    }
-}
-
 /// The marks of a store's parts.
 #[derive(Debug, Drop)]
 pub(crate) struct StoreMarks {
     pub x: Vec<Mark>,
     pub y: Vec<Mark>,
     pub value: Vec<Mark>,
-}
-
-impl StoreMarks {
-    /// Whether some part has a name.
-    pub(crate) fn have_name(&self) -> bool {
-        has_name(self.x.as_slice())
-            || has_name(self.y.as_slice())
-            || has_name(self.value.as_slice())
-    }
 }
 
 /// How many marks there is room for at first: for those of most expressions.
@@ -70,8 +50,8 @@ pub(crate) fn behind(marks: &[Mark]) -> &[Mark] {
     }
 }
 
-/// Whether some part of the expression that has these marks has a name.
-fn has_name(marks: &[Mark]) -> bool {
+/// Whether the expression that has these marks or some part of it has a name.
+pub(crate) fn has_name(marks: &[Mark]) -> bool {
     match marks {
         [] => false,
         [first, ..] => first.standing != Standing::HasNone,

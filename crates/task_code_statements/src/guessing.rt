@@ -9,13 +9,14 @@ use crate::statements::{is_laid_out, made_store};
 use crate::staying::{add, is_among, is_same_in_all, may_stay_in, staying};
 use crate::vectorizing::is_at_once;
 use loop_ir::expressions::{Counter, Expr, Linear};
+use loop_ir::parts::StmtParts;
 use loop_ir::statements::{LoopKind, Stmt, Store, Whole};
 use sqlite_items::Boxed;
 use std::alloc::{AllocError, Global};
 use task_code_loops::bounds::Bound;
 use task_code_names::copies::copy_of;
 use task_code_names::names::{Named, new_named};
-use task_code_names::renaming::{renamed_store, store_by_names};
+use task_code_names::renaming::renamed_store;
 use task_code_registers::scopes::Form;
 use task_code_registers::terms::with_room;
 use task_code_scalar::CodeFault;
@@ -57,7 +58,7 @@ fn ready_loop(
         return Ok(Stmt::For(own.counter, own.count, kind, made));
     }
     let names = new_names(alloc, all.as_slice(), named)?;
-    let body = part_by_names(alloc, names.as_slice(), made.get())?;
+    let body = part_by_names(alloc, names.as_slice(), made)?;
     Ok(Stmt::For(own.counter, own.count, kind, body))
 }
 
@@ -172,37 +173,33 @@ fn new_names(alloc: Global, all: &[Expr], named: &mut Vec<Expr>) -> Result<Vec<N
 fn part_by_names(
     alloc: Global,
     names: &[Named],
-    statement: &Stmt,
+    statement: Boxed<Stmt>,
 ) -> Result<Boxed<Stmt>, AllocError> {
-    let made = statement_by_names(alloc, names, statement)?;
+    let made = statement_by_names(alloc, names, statement.into_inner())?;
     let boxed = Boxed::new(alloc, made)?;
     Ok(boxed)
 }
 
 /// A statement with names in place of the parts of its stores that have one.
 #[cycle(renaming)]
-fn statement_by_names(
-    alloc: Global,
-    names: &[Named],
-    statement: &Stmt,
-) -> Result<Stmt, AllocError> {
-    match statement {
-        Stmt::Store(store) => {
-            let own = store_by_names(alloc, names, store)?;
+fn statement_by_names(alloc: Global, names: &[Named], statement: Stmt) -> Result<Stmt, AllocError> {
+    match statement.into_parts() {
+        StmtParts::Store(store) => {
+            let own = renamed_store(alloc, names, store)?;
             Ok(Stmt::Store(own))
         }
-        Stmt::Sequence(first, second) => {
-            let one = part_by_names(alloc, names, first.get())?;
-            let other = part_by_names(alloc, names, second.get())?;
+        StmtParts::Sequence(first, second) => {
+            let one = part_by_names(alloc, names, first)?;
+            let other = part_by_names(alloc, names, second)?;
             Ok(Stmt::Sequence(one, other))
         }
-        Stmt::For(counter, count, kind, body) => {
-            let made = part_by_names(alloc, names, body.get())?;
-            Ok(Stmt::For(*counter, *count, *kind, made))
+        StmtParts::For(counter, count, kind, body) => {
+            let made = part_by_names(alloc, names, body)?;
+            Ok(Stmt::For(counter, count, kind, made))
         }
-        Stmt::Bind(counter, whole, extent, body) => {
-            let made = part_by_names(alloc, names, body.get())?;
-            Ok(Stmt::Bind(*counter, *whole, *extent, made))
+        StmtParts::Bind(counter, whole, extent, body) => {
+            let made = part_by_names(alloc, names, body)?;
+            Ok(Stmt::Bind(counter, whole, extent, made))
         }
     }
 }
@@ -277,7 +274,7 @@ impl Guess {
         if !named.is_empty() {
             return Ok(None);
         }
-        let body = part_by_names(alloc, names, body.get())?;
+        let body = part_by_names(alloc, names, body)?;
         Ok(Some(Guess { body, named }))
     }
 }
