@@ -179,12 +179,7 @@ fn gather_parts(
                 }
             }
         }
-        Expr::Divide(a, divisor) => {
-            gather_expr(alloc, places, a.get(), found)?;
-            count_divisor(alloc, *divisor, found)?;
-            Ok(None)
-        }
-        Expr::Remainder(a, divisor) => {
+        Expr::Divide(a, divisor) | Expr::Remainder(a, divisor) => {
             gather_expr(alloc, places, a.get(), found)?;
             count_divisor(alloc, *divisor, found)?;
             Ok(None)
@@ -374,14 +369,10 @@ fn gather(
     found: &mut Vec<Use>,
 ) -> Result<(), AllocError> {
     match statement {
-        Stmt::Store(store) => {
-            gather_store(alloc, places, store, found)?;
-            Ok(())
-        }
+        Stmt::Store(store) => gather_store(alloc, places, store, found),
         Stmt::Sequence(first, second) => {
             gather(alloc, places, bounds, lanes, first.get(), found)?;
-            gather(alloc, places, bounds, lanes, second.get(), found)?;
-            Ok(())
+            gather(alloc, places, bounds, lanes, second.get(), found)
         }
         Stmt::For(counter, count, kind, body) => {
             let mut within = bounds.to_vec(alloc)?;
@@ -390,17 +381,10 @@ fn gather(
                 count: *count,
             })?;
             let mut inner = Vec::new(alloc);
+            let all = within.as_slice();
             let lanes = lanes_of(*counter, *kind);
-            gather(
-                alloc,
-                places,
-                within.as_slice(),
-                lanes,
-                body.get(),
-                &mut inner,
-            )?;
-            count_at_zero(alloc, inner, *counter, found)?;
-            Ok(())
+            gather(alloc, places, all, lanes, body.get(), &mut inner)?;
+            count_at_zero(alloc, inner, *counter, found)
         }
         Stmt::Bind(counter, whole, extent, body) => {
             let mut inner = Vec::new(alloc);
@@ -408,8 +392,7 @@ fn gather(
             gather(alloc, places, bounds, along, body.get(), &mut inner)?;
             let known = split_sum(alloc, *counter, whole)?;
             count_by_others(alloc, inner, known.as_slice(), found)?;
-            count_tested(alloc, known.as_slice(), bounds, lanes, *extent, found)?;
-            Ok(())
+            count_tested(alloc, known.as_slice(), bounds, lanes, *extent, found)
         }
     }
 }

@@ -1,6 +1,6 @@
 //! What registers hold while code runs, and which of them are left.
 
-ghost use Rattle.std.specs.Prelude.{◌≡◌, [], ◌++◌, ◌<◌, ◌≤◌, ◌∷◌, ℕ, None, IfOk, IfSome, OnOk, true};
+ghost use Rattle.std.specs.Prelude.{◌≡◌, [], ◌++◌, ◌<◌, ◌≤◌, ◌∷◌, ℕ, None, IfOk, IfSome, OnOk, true, false};
 ghost use Rattle.task_code_registers.specs.Scopes as spec;
 ghost use Rattle.task_code_registers.specs.Scopes.{IsLeft};
 
@@ -185,6 +185,22 @@ fn last_left(scope: &[Held], end: u8) -> Option<u8>
     }
 }
 
+/// Whether more than so many registers below this one may still be given to forms. They are looked for from the last
+/// one on, as more are left there.
+#[tactic(auto, unfolding(crate::specs::Scopes::left_below))]
+fn has_more_left(scope: &[Held], end: u8, reserved: usize) -> bool
+    ensures yes { result ≡ true → reserved < spec.left_below scope.now end }
+    ensures no { result ≡ false → spec.left_below scope.now end ≤ reserved }
+{
+    if end == 0 {
+        return false;
+    }
+    if !is_left(scope, end - 1) {
+        return has_more_left(scope, end - 1, reserved);
+    }
+    reserved == 0 || has_more_left(scope, end - 1, reserved - 1)
+}
+
 /// How many registers may still be given to forms.
 pub fn left_count(scope: &[Held]) -> u8
     ensures { result ≡ spec.left_count scope.now }
@@ -198,7 +214,7 @@ pub fn free_register(scope: &[Held], reserved: usize) -> Option<u8>
     ensures none { result ≡ None → spec.left_count scope.now ≤ reserved }
 {
     let found = last_left(scope, FIRST_VALUE)?;
-    if usize::from(left_count(scope)) > reserved {
+    if has_more_left(scope, FIRST_VALUE, reserved) {
         Some(found)
     } else {
         None
