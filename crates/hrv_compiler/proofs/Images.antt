@@ -1,12 +1,14 @@
 -- The parts of an image keep the rules of images.
-use Rattle.std.proofs.Common.{◌≡◌, ℕ, ◌+◌, ◌-◌, ◌*◌, ◌%◌, ◌≤◌, Bool, true, false, cond, List, [], ◌++◌, map, length, replicate, Option, Some, None, refl, sym}
-use Rattle.std.proofs.Common.{ap, ◌∙◌, arith}
-use Rattle.std.specs.Prelude.{◌==◌, nat_le, nat_lt, not, slice_get, Result, Ok, Err}
+use Rattle.std.proofs.Common.{◌≡◌, ℕ, ◌+◌, ◌-◌, ◌*◌, ◌%◌, ◌<◌, ◌≤◌, ◌^◌, Bool, true, false, cond, List, [], ◌++◌, map, length, replicate, Option}
+use Rattle.std.proofs.Common.{Some, None, refl, sym, ap, ◌∙◌, arith}
+use Rattle.std.specs.Prelude.{◌==◌, nat_le, nat_lt, not, slice_get, IfSome, Result, Ok, Err}
 use Rattle.std.specs.Result.{IsOk}
 use Rattle.std.proofs.lemmas.Bool.{eq-eqb, eqb-true, le-leb, lt-ltb}
 use Rattle.std.proofs.Math.Nat.{add-mul, mul-le-mul_right, mul_comm, mul_left_comm}
 use Rattle.std.proofs.lemmas.Option.{get_or_from_slice_get}
 use Rattle.std.proofs.lemmas.List.{length-append, length-replicate}
+use Rattle.std.proofs.lemmas.List.Elements.{All-append, All-replicate}
+use Rattle.std.specs.List.{All}
 use Rattle.halide_pipeline.specs.declared.definitions.Input.{Input}
 use Rattle.halide_pipeline.specs.Contents.{PictureContents}
 use Rattle.memory.specs.Access.{data_start, text_start, most_words, most_bytes}
@@ -18,9 +20,11 @@ use Rattle.picture.specs.Evaluated.{are_sizes, hold_bytes, judged}
 use Rattle.picture.specs.declared.faults.EvalError.TheVariants as errors
 use Rattle.loader.specs.declared.faults.LoadFault.{LoadFault}
 use Rattle.loader.specs.declared.outputs.Output.{Output}
-use Rattle.loader.specs.Image.{ImageContents, is_within_limits, is_entry, is_output_or_none, most_pixels, judged as judged_image}
+use Rattle.loader.specs.declared.parts.ImageParts.{ImageParts}
+use Rattle.loader.specs.Parts.{AreParts, image_with}
+use Rattle.loader.specs.Image.{ImageContents, IsImage, IsInWords, is_within_limits, is_entry, is_output_or_none, most_pixels, judged as judged_image}
 use Rattle.loader.specs.Spelling.{padded}
-use Rattle.hrv_compiler.specs.Images.{inputs_data, image_data, ArePictures, image_of}
+use Rattle.hrv_compiler.specs.Images.{inputs_data, data_front, image_data, ArePictures, image_of}
 use Rattle.hrv_compiler.specs.Compiled.{CompiledContents, output_in, output_of}
 use Rattle.hrv_compiler.specs.Verdict.{IsCompiled}
 use Rattle.hrv_compiler.specs.inner.Held.{IsHeld}
@@ -139,6 +143,34 @@ module _ (own : CompiledContents) (rules : IsHeld own) (pictures : List PictureC
       let l : nat_lt text_start (text_start + 4 * length own.words) ≡ true = lt-ltb text_start (text_start + 4 * length own.words) (omega (arith, some)) in
       rw l refl
 
+  pub is-image : All (λ word. word < 2 ^ 32) own.words → All (λ byte. byte < 256) (data_front own.boxes.layout own.pipeline.inputs pictures)
+      → IfSome (output_of own.pipeline own.boxes) IsInWords → IsImage (image_of own pictures)
+  is-image words bytes output =
+      let front = data_front own.boxes.layout own.pipeline.inputs pictures in
+      let n = own.boxes.layout.size - length front in
+      record {
+        limits = limits;
+        entry = entry;
+        output = output_lies own rules.compiled pictures none are;
+        words_fit = words;
+        bytes_fit = All-append (λ byte. byte < 256) front (replicate n 0) bytes (All-replicate (λ byte. byte < 256) n 0 (omega arith));
+        output_fits = output;
+      }
+
+  -- the parts that are stored
+  pub are-parts : (parts : ImageParts) → parts.words.now ≡ own.words → parts.front.now ≡ data_front own.boxes.layout own.pipeline.inputs pictures
+      → parts.size ≡ own.boxes.layout.size → AreParts parts
+  are-parts parts words_are front_is size_is =
+      let few = rules.words_are.is_program.few in
+      let low = (lies_low own.pipeline own.schedule own.boxes rules.compiled.inferred_is).size in
+      let fit = room own.boxes.layout.size own.boxes.layout.phases own.pipeline.inputs pictures none are
+      (inputs_fit own.pipeline own.schedule own.boxes rules.compiled.inferred_is) in
+      record {
+        words = omega (arith, few, ap length words_are);
+        size = omega (arith, low, size_is);
+        front = omega (arith, fit, size_is, ap length front_is);
+      }
+
   pub passes : judged_image (image_of own pictures) ≡ Ok (image_of own pictures)
   passes = rw limits (rw entry (rw (output_lies own rules.compiled pictures none are) refl))
 
@@ -155,6 +187,12 @@ module _ (own : CompiledContents) (rules : IsHeld own) (pictures : List PictureC
             pictures;
         output = o;
       })) g ∙ passes))
+
+-- the image of such parts
+pub image-with : (own : CompiledContents) (pictures : List PictureContents) (parts : ImageParts) → parts.entry ≡ text_start → parts.words.now ≡ own.words
+    → parts.front.now ≡ data_front own.boxes.layout own.pipeline.inputs pictures → parts.size ≡ own.boxes.layout.size
+    → parts.output ≡ output_of own.pipeline own.boxes → image_with parts ≡ image_of own pictures
+image-with own pictures parts entry_is words_are front_is size_is output_is = rw (entry_is, words_are, front_is, size_is, output_is) refl
 
 pub is_ok : (answer : Result ImageContents LoadFault) (image : ImageContents) → answer ≡ Ok image → IsOk answer
 is_ok (Ok own) image e = refl

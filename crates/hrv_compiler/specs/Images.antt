@@ -34,8 +34,12 @@ inputs_data [] pictures = []
 inputs_data (input ∷ inputs) [] = []
 inputs_data (input ∷ inputs) (picture ∷ pictures) = input_data input picture ++ inputs_data inputs pictures
 
+-- the words by which harts share their work, and the inputs; all behind them are zeros
+abbrev pub data_front : Layout → List Input → List PictureContents → List ℕ
+data_front layout inputs pictures = replicate (8 * layout.phases) 0 ++ inputs_data inputs pictures
+
 abbrev pub image_data : Layout → List Input → List PictureContents → List ℕ
-image_data layout inputs pictures = padded layout.size (replicate (8 * layout.phases) 0 ++ inputs_data inputs pictures)
+image_data layout inputs pictures = padded layout.size (data_front layout inputs pictures)
 
 -- ---- images
 

@@ -1,11 +1,13 @@
 //! Compiled programs and their images.
 
-ghost use Rattle.std.specs.Prelude.{◌≡◌, ◌*◌, ◌<◌, ◌≤◌, IfErr, IfOk, None, Ok, Some, length, slice_get};
+ghost use Rattle.std.specs.Prelude.{◌≡◌, ◌*◌, ◌^◌, ◌<◌, ◌≤◌, IfErr, IfOk, None, Ok, Some, length, slice_get};
+ghost use Rattle.std.specs.List.{All};
 ghost use Rattle.std.specs.Option.{option_copied};
 ghost use Rattle.bounds.specs.Extents.{box_in};
 ghost use Rattle.bounds.specs.Verdict.{inferred};
 ghost use Rattle.halide_pipeline.specs.WellFormed.{IsWellFormed};
 ghost use Rattle.loader.specs.Image as images;
+ghost use Rattle.loader.specs.Spelling.{spelled};
 ghost use Rattle.memory.specs.Access.{text_start};
 ghost use Rattle.picture.specs.Evaluated.{judged};
 ghost use Rattle.schedule.specs.Accepted.{IsAccepted};
@@ -20,12 +22,12 @@ ghost use Rattle.hrv_compiler.specs.Outputs.{Holds};
 ghost use Rattle.hrv_compiler.specs.Runs.{WritesWholeRuns};
 ghost use Rattle.bounds.specs.Stages.{stages};
 
-use crate::data::image_data;
+use crate::data::{data_front, image_data};
 use bounds::boxes::extents_of;
 use bounds::{Boxes, Plan, SourceBox};
 use bounds_ranges::ranges::ORIGIN;
 use halide_pipeline::Pipeline;
-use loader::{Image, Output};
+use loader::{Format, Image, ImageParts, Output, store_parts};
 use lowering::consuming::box_at;
 use memory::{DATA_START, TEXT_START};
 use picture::{EvalError, Picture, judge};
@@ -107,6 +109,13 @@ fn output_in(at: u64, own: &SourceBox, width: u32, height: u32) -> Output
     }
 }
 
+/// A law: the numbers of an image's parts are such as their types hold.
+fn numbers_fit(words: &[u32], front: &[u8], output: Output)
+    ensures words { All (λ word. word < 2 ^ 32) words.now }
+    ensures front { All (λ byte. byte < 256) front.now }
+    ensures output { images.IsInWords output }
+{}
+
 impl Compiled {
     /// The image that computes the output of these input pictures, on 1 to 8 harts.
     ///
@@ -150,6 +159,47 @@ impl Compiled {
         Ok(Image::new(TEXT_START, words, data, Some(output)).unwrap())
     }
 
+    /// The bytes of the image that computes the output of these input pictures, in the second format: those that
+    /// [`loader::store`] appends for [`Compiled::image`], of which the same holds. The zeros of the data, which the
+    /// format leaves out, take no memory here, and the bytes can take that of the pictures.
+    ///
+    /// # Errors
+    ///
+    /// Those of [`Compiled::image`].
+    pub fn image_bytes(&self, alloc: Global, pictures: Vec<Picture>) -> Result<Vec<u8>, EvalError>
+        ensures judged { IfOk result (λ bytes. judged self.now.pipeline.inputs pictures.items ≡ None) }
+        ensures pictures { IfOk result (λ bytes. ArePictures pictures.items) }
+        ensures is { IfOk result (λ bytes. bytes.items ≡ spelled Format.Hrv2 (image_of self.now pictures.items)) }
+        ensures rules { IfOk result (λ bytes. images.IsImage (image_of self.now pictures.items)) }
+        ensures correct { IfOk result (λ bytes. Correct self.now.pipeline pictures.items self.now.boxes.layout.phases
+            (image_of self.now pictures.items)) }
+        ensures assigned { IfOk result (λ bytes. IsAssigned self.now.pipeline self.now.schedule self.now.boxes
+            pictures.items (image_of self.now pictures.items)) }
+        ensures stages { IfOk result (λ bytes. length (stages self.now.pipeline self.now.schedule self.now.boxes)
+            ≡ self.now.boxes.layout.phases) }
+        ensures runs { IfOk result (λ bytes. WritesWholeRuns self.now (image_of self.now pictures.items)) }
+        ensures err { IfErr result (IsRefusedInput (judged self.now.pipeline.inputs pictures.items)) }
+    {
+        if let Some(error) = judge(self.pipeline.inputs(), &pictures) {
+            return Err(error);
+        }
+        let front = data_front(alloc, &self.boxes.layout, self.pipeline.inputs(), &pictures)?;
+        drop(pictures);
+        let words = self.words.as_slice();
+        let output = self.output();
+        numbers_fit(words, front.as_slice(), output);
+        let parts = ImageParts {
+            entry: TEXT_START,
+            words,
+            front: front.as_slice(),
+            size: self.size(),
+            output: Some(output),
+        };
+        let mut bytes = Vec::new(alloc);
+        store_parts(&parts, &mut bytes)?;
+        Ok(bytes)
+    }
+
     /// Where the output's picture lies in the data.
     fn output(&self) -> Output
         ensures { Some result ≡ output_of self.now.pipeline self.now.boxes }
@@ -158,6 +208,13 @@ impl Compiled {
         let at = self.boxes.layout.roots.get(output.func).unwrap();
         let own = box_at(self.boxes.funcs.as_slice(), output.func).unwrap();
         output_in(*at, own, output.width, output.height)
+    }
+
+    /// How many bytes data has.
+    fn size(&self) -> u32
+        ensures { result ≡ self.now.boxes.layout.size }
+    {
+        self.boxes.layout.size as u32
     }
 
     /// How many phases there are.

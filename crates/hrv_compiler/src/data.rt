@@ -1,6 +1,6 @@
 //! The data of an image.
 
-ghost use Rattle.std.specs.Prelude.{◌≡◌, ◌≤◌, ◌+◌, ◌*◌, ◌++◌, true, IfOk, None, OnOk};
+ghost use Rattle.std.specs.Prelude.{◌≡◌, ◌≤◌, ◌+◌, ◌*◌, ◌++◌, true, IfOk, None, OnOk, []};
 ghost use Rattle.std.specs.Prelude.{length, map, min, nat_lt, replicate};
 ghost use Rattle.std.specs.List.{list_all};
 ghost use Rattle.halide_pipeline.specs.Picture.{IsPicture};
@@ -75,8 +75,9 @@ fn push_input(bytes: &mut Vec<u8>, input: &Input, picture: &Picture) -> Result<(
 {
     let pixels = picture.pixels();
     if input.is_bytes {
-        push_bytes(bytes, pixels)?;
         let whole = (pixels.len() + 3) / 4 * 4;
+        bytes.reserve(whole)?;
+        push_bytes(bytes, pixels)?;
         bytes.extend_from_slice(zeros(whole - pixels.len()))?;
     } else {
         push_words(bytes, pixels)?;
@@ -125,6 +126,42 @@ fn pad(bytes: &mut Vec<u8>, size: usize) -> Result<(), AllocError>
     Ok(())
 }
 
+/// Appends the first bytes of the data of an image with these input pictures: the words by which harts share their
+/// work, and the inputs. All behind them are zeros.
+fn push_front(
+    bytes: &mut Vec<u8>,
+    layout: &Layout,
+    inputs: &[Input],
+    pictures: &[Picture],
+) -> Result<(), AllocError>
+    requires empty { bytes.old.items ≡ [] }
+    requires low { LiesLow layout.now }
+    requires judged { judged inputs.now pictures.now ≡ None }
+    ensures is { OnOk result (bytes.new.items ≡ spec.data_front layout.now inputs.now pictures.now) }
+    ensures rules { OnOk result (ArePictures pictures.now) }
+{
+    pad(bytes, 8 * layout.phases as usize)?;
+    push_inputs(bytes, inputs, pictures)?;
+    Ok(())
+}
+
+/// The first bytes of the data of an image with these input pictures. All behind them are zeros.
+pub(crate) fn data_front(
+    alloc: Global,
+    layout: &Layout,
+    inputs: &[Input],
+    pictures: &[Picture],
+) -> Result<Vec<u8>, AllocError>
+    requires low { LiesLow layout.now }
+    requires judged { judged inputs.now pictures.now ≡ None }
+    ensures is { IfOk result (λ bytes. bytes.items ≡ spec.data_front layout.now inputs.now pictures.now) }
+    ensures rules { IfOk result (λ bytes. ArePictures pictures.now) }
+{
+    let mut bytes = Vec::new(alloc);
+    push_front(&mut bytes, layout, inputs, pictures)?;
+    Ok(bytes)
+}
+
 /// The data of an image with these input pictures: zeros, but for the pixels.
 pub(crate) fn image_data(
     alloc: Global,
@@ -140,8 +177,7 @@ pub(crate) fn image_data(
 {
     let size = layout.size as usize;
     let mut bytes = Vec::with_capacity(alloc, size)?;
-    pad(&mut bytes, 8 * layout.phases as usize)?;
-    push_inputs(&mut bytes, inputs, pictures)?;
+    push_front(&mut bytes, layout, inputs, pictures)?;
     pad(&mut bytes, size)?;
     Ok(bytes)
 }

@@ -3,7 +3,8 @@
 //! - [`compile`]: the program of two texts, or the first fault that stands (`specs/Verdict.antt`,
 //!   `specs/Compiled.antt`).
 //! - [`Compiled::image`]: an image of it with these input pictures (`specs/Images.antt`), which does what
-//!   `specs/Correct.antt`, `specs/Assigned.antt` and `specs/Runs.antt` say.
+//!   `specs/Correct.antt`, `specs/Assigned.antt` and `specs/Runs.antt` say. [`Compiled::image_bytes`]: its bytes, as
+//!   `hrv compile` stores them.
 //! - [`faults`]: why nothing is compiled.
 //! - [`places`]: where buffers lie.
 #![tactic(auto)]

@@ -6,7 +6,7 @@ use Rattle.halide_pipeline.specs.Contents.{PictureContents}
 use Rattle.picture.specs.Evaluated.{judged}
 use Rattle.picture.specs.declared.faults.EvalError.{EvalError}
 use Rattle.picture.specs.declared.faults.EvalError.TheVariants as eval
-use Rattle.loader.specs.Image.{ImageContents, IsImage}
+use Rattle.loader.specs.Image.{IsImage}
 use Rattle.loader.specs.Spelling.{spelled}
 use Rattle.loader.specs.declared.formats.Format.TheVariants.{Hrv2}
 use Rattle.hrv_compiler.specs.Assigned.{IsAssigned}
@@ -26,31 +26,25 @@ use Rattle.hrv_engines.specs.Refusals.{fault_of_input}
 use Rattle.hrv_engines.proofs.Steps.{judges_not, passed}
 
 -- what is compiled, from pictures that were read
-pub compiled : (alloc : Global) (texts : Texts) (own : CompiledContents) (pictures given : List PictureContents) (image : ImageContents) (bytes : List ℕ)
-    → first_fault alloc texts ≡ None
-    → Means alloc texts.0.0 texts.0.1 own → IsCompiled own → pictures_of texts.1 ≡ Ok pictures → given ≡ pictures → judged own.pipeline.inputs given ≡ None
-    → image ≡ image_of own given → IsImage image
-    → Correct own.pipeline given own.boxes.layout.phases image → IsAssigned own.pipeline own.schedule own.boxes given image → WritesWholeRuns own image
-    → bytes ≡ spelled Hrv2 image
-    → IsCompilation alloc texts bytes
-compiled alloc texts own pictures given image bytes faultless means rules read same asked is passes correct assigned runs spells =
-    let made = is ∙ ap (image_of own) same in
-    record {
-      program = own;
-      pictures = pictures;
-      is_faultless = faultless;
-      is_program = means;
-      is_compiled = rules;
-      are_inputs = read;
-      are_asked_for = subst (λ (p : List PictureContents). judged own.pipeline.inputs p ≡ None) same asked;
-      is_image = subst IsImage made passes;
-      is_correct = subst (λ (i : ImageContents). Correct own.pipeline pictures own.boxes.layout.phases i) made
-          (subst (λ (p : List PictureContents). Correct own.pipeline p own.boxes.layout.phases image) same correct);
-      is_assigned = subst (λ (i : ImageContents). IsAssigned own.pipeline own.schedule own.boxes pictures i) made
-          (subst (λ (p : List PictureContents). IsAssigned own.pipeline own.schedule own.boxes p image) same assigned);
-      writes_runs = subst (WritesWholeRuns own) made runs;
-      is_spelled = spells ∙ ap (spelled Hrv2) made;
-    }
+pub compiled : (alloc : Global) (texts : Texts) (own : CompiledContents) (pictures : List PictureContents) (bytes : List ℕ) → first_fault alloc texts ≡ None
+    → Means alloc texts.0.0 texts.0.1 own → IsCompiled own → pictures_of texts.1 ≡ Ok pictures → judged own.pipeline.inputs pictures ≡ None
+    → IsImage (image_of own pictures) → Correct own.pipeline pictures own.boxes.layout.phases (image_of own pictures)
+    → IsAssigned own.pipeline own.schedule own.boxes pictures (image_of own pictures) → WritesWholeRuns own (image_of own pictures)
+    → bytes ≡ spelled Hrv2 (image_of own pictures) → IsCompilation alloc texts bytes
+compiled alloc texts own pictures bytes faultless means rules read asked passes correct assigned runs spells = record {
+  program = own;
+  pictures = pictures;
+  is_faultless = faultless;
+  is_program = means;
+  is_compiled = rules;
+  are_inputs = read;
+  are_asked_for = asked;
+  is_image = passes;
+  is_correct = correct;
+  is_assigned = assigned;
+  writes_runs = runs;
+  is_spelled = spells;
+}
 
 -- pictures that aren't those that are asked for
 pub wrong_inputs : {X : Type 0} (value : X → List ℕ) (alloc : Global) (texts : Texts) (own : CompiledContents) (pictures : List PictureContents)

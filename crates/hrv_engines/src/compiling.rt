@@ -11,7 +11,6 @@ use crate::devices::{Sink, Source, read_algorithm, read_text, write_all};
 use crate::drawing::{read_pictures, read_texts};
 use crate::faults::Fault;
 use hrv_compiler::compile;
-use loader::store;
 use std::alloc::Global;
 
 /// Reads an algorithm, a schedule and input pictures, and writes the image of the program that they mean. All files are
@@ -40,8 +39,8 @@ pub fn compile_bytes<A: Source, S: Source, I: Source, O: Sink>(
     write_all(alloc, image, &bytes)
 }
 
-/// The bytes of the image that texts mean, or the first refusal. Texts and pictures are dropped as soon as they have
-/// been read, so that what is made next can take their memory.
+/// The bytes of the image that texts mean, or the first refusal. Input texts are dropped as soon as they have been
+/// read, and pictures as soon as the image's data have their pixels, so that what is made next can take their memory.
 fn compilation_of(
     alloc: Global,
     algorithm: &str,
@@ -54,9 +53,6 @@ fn compilation_of(
     let program = compile(algorithm, schedule, alloc)?;
     let pictures = read_pictures(alloc, &inputs)?;
     drop(inputs);
-    let image = program.image(alloc, &pictures)?;
-    drop(pictures);
-    let mut bytes = Vec::new(alloc);
-    store(&image, &mut bytes)?;
+    let bytes = program.image_bytes(alloc, pictures)?;
     Ok(bytes)
 }
