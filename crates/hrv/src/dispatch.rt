@@ -50,6 +50,9 @@ pub trait Devices<'a> {
         ensures fresh { Self.Printed.failed result ≡ 0 };
 }
 
+// What is named first lies first in the program: so all that `compile` needs lies on few pages. Commands are functions
+// of their own, so that no command's frame has room for what the others need.
+
 /// Does what an invocation asks for.
 pub fn obey<'a, R: Threads + Wait + Sync, D: Devices<'a>>(
     threads: &R,
@@ -65,6 +68,12 @@ pub fn obey<'a, R: Threads + Wait + Sync, D: Devices<'a>>(
 {
     let resources = Resources { threads, alloc };
     match invocation {
+        Invocation::Compile {
+            algorithm,
+            schedule,
+            image,
+            inputs,
+        } => compile(alloc, devices, algorithm, schedule, image, inputs),
         Invocation::Asm { source, image } => assemble(alloc, devices, source, image),
         Invocation::Dis { image } => list(alloc, devices, image),
         Invocation::DisAddresses { image } => list_addresses(alloc, devices, image),
@@ -75,12 +84,6 @@ pub fn obey<'a, R: Threads + Wait + Sync, D: Devices<'a>>(
         Invocation::Picture { algorithm, inputs } => {
             draw(threads, alloc, devices, algorithm, inputs)
         }
-        Invocation::Compile {
-            algorithm,
-            schedule,
-            image,
-            inputs,
-        } => compile(alloc, devices, algorithm, schedule, image, inputs),
         Invocation::Map {
             algorithm,
             schedule,
@@ -103,6 +106,7 @@ pub fn obey<'a, R: Threads + Wait + Sync, D: Devices<'a>>(
 }
 
 /// `asm SOURCE IMAGE`
+#[inline(never)]
 fn assemble<'a, D: Devices<'a>>(
     alloc: Global,
     devices: &D,
@@ -122,6 +126,7 @@ fn assemble<'a, D: Devices<'a>>(
 }
 
 /// `dis IMAGE`
+#[inline(never)]
 fn list<'a, D: Devices<'a>>(alloc: Global, devices: &D, image: &'a str) -> Result<(), Fault>
     ensures { Does D.Read.place D.Read.failed D.Read.gave D.Read.ended
         D.Written.place D.Written.failed D.Written.took
@@ -132,6 +137,7 @@ fn list<'a, D: Devices<'a>>(alloc: Global, devices: &D, image: &'a str) -> Resul
 }
 
 /// `dis IMAGE --addresses`
+#[inline(never)]
 fn list_addresses<'a, D: Devices<'a>>(
     alloc: Global,
     devices: &D,
@@ -146,6 +152,7 @@ fn list_addresses<'a, D: Devices<'a>>(
 }
 
 /// `renew OLD NEW`
+#[inline(never)]
 fn renew<'a, D: Devices<'a>>(
     alloc: Global,
     devices: &D,
@@ -161,6 +168,7 @@ fn renew<'a, D: Devices<'a>>(
 }
 
 /// `replay IMAGE LOG`
+#[inline(never)]
 fn replay<'a, D: Devices<'a>>(
     alloc: Global,
     devices: &D,
@@ -178,6 +186,7 @@ fn replay<'a, D: Devices<'a>>(
 }
 
 /// `debug IMAGE LOG`
+#[inline(never)]
 fn debug<'a, D: Devices<'a>>(
     alloc: Global,
     devices: &D,
@@ -201,6 +210,7 @@ fn debug<'a, D: Devices<'a>>(
 }
 
 /// `blame IMAGE LOG [X Y] --address A --turns`
+#[inline(never)]
 fn blame<'a, D: Devices<'a>>(
     alloc: Global,
     devices: &D,
@@ -234,6 +244,7 @@ fn blame<'a, D: Devices<'a>>(
 }
 
 /// `picture ALGORITHM [INPUT..]`
+#[inline(never)]
 fn draw<'a, R: Threads + Sync, D: Devices<'a>>(
     threads: &R,
     alloc: Global,
@@ -258,6 +269,7 @@ fn draw<'a, R: Threads + Sync, D: Devices<'a>>(
 }
 
 /// `compile ALGORITHM SCHEDULE IMAGE [INPUT..]`
+#[inline(never)]
 fn compile<'a, D: Devices<'a>>(
     alloc: Global,
     devices: &D,
@@ -285,6 +297,7 @@ fn compile<'a, D: Devices<'a>>(
 }
 
 /// `map ALGORITHM SCHEDULE`
+#[inline(never)]
 fn show_map<'a, D: Devices<'a>>(
     alloc: Global,
     devices: &D,
@@ -302,6 +315,7 @@ fn show_map<'a, D: Devices<'a>>(
 }
 
 /// `run IMAGE LOG --harts N --turns L`
+#[inline(never)]
 fn run<'a, R: Threads + Wait + Sync, D: Devices<'a>>(
     resources: &Resources<'_, R>,
     devices: &D,
@@ -328,6 +342,7 @@ fn run<'a, R: Threads + Wait + Sync, D: Devices<'a>>(
 }
 
 /// `run IMAGE LOG --turns L --from OLD`
+#[inline(never)]
 fn resume<'a, R: Threads + Wait + Sync, D: Devices<'a>>(
     resources: &Resources<'_, R>,
     devices: &D,
@@ -357,6 +372,7 @@ fn resume<'a, R: Threads + Wait + Sync, D: Devices<'a>>(
 }
 
 /// `explain FAMILY [CODE]`
+#[inline(never)]
 fn explain<'a, D: Devices<'a>>(
     alloc: Global,
     devices: &D,
@@ -372,6 +388,7 @@ fn explain<'a, D: Devices<'a>>(
 }
 
 /// `version`
+#[inline(never)]
 fn tell_version<'a, D: Devices<'a>>(alloc: Global, devices: &D) -> Result<(), Fault>
     ensures { Does D.Read.place D.Read.failed D.Read.gave D.Read.ended
         D.Written.place D.Written.failed D.Written.took
