@@ -10,14 +10,16 @@ use hrv_engines::Sink;
 use std::alloc::{AllocError, Global};
 use std::fs::{OpenFile, OpenOptions, Permissions};
 use std::io::{Seek, Write};
+use std::os::unix::fs::{OpenOptionsExt, PermissionsExt};
 use std::rt::Files;
 use std::{fs, io};
 
 /// A file to be written. It is made at its first write, so that where nothing is written no file is made or touched.
 ///
 /// The bytes go into a new file in the folder of the path, which takes the place of what stands there once all of them
-/// are written: a write that fails leaves everything as it was. What is no regular file, as a terminal, a pipe or a
-/// symbolic link, is written where it stands, and so is a file where memory for the path of a new one is wanting.
+/// are on the disk: a write that fails leaves everything as it was. What is no regular file, as a terminal, a pipe or a
+/// symbolic link, is written where it stands; and so is a file where its folder takes no new one, or memory for a new
+/// one's path is wanting.
 #[derive(Drop)]
 pub struct FileSink<'a, R: Files> {
     rt: &'a R,
@@ -65,10 +67,7 @@ impl<'a, R: Files> FileSink<'a, R> {
         ensures failures { self.new.failures ≡ self.old.failures }
     {
         let standing = what_stands(self.rt, self.path)?;
-        let beside = match standing {
-            Standing::Other => None,
-            _ => new_beside(self.rt, self.alloc, self.path)?,
-        };
+        let beside = new_beside(self.rt, self.alloc, self.path, &standing)?;
         let Some((mut file, draft)) = beside else {
             let (file, count) = begin_in_place(self.rt, self.path, bytes)?;
             self.file = Some(file);
@@ -83,16 +82,22 @@ impl<'a, R: Files> FileSink<'a, R> {
         Ok(count)
     }
 
-    /// Puts the new file in the place of what stands at the path, if there is a new file.
+    /// Has the disk take what was written, and puts the new file in the place of what stands at the path, if there is a
+    /// new file.
     fn try_finish(&mut self) -> io::Result<()>
         ensures path { self.new.path.now ≡ self.old.path.now }
         ensures failures { self.new.failures ≡ self.old.failures }
     {
-        if let Some(draft) = &self.draft {
-            fs::rename(self.rt, draft.as_str(), self.path)?;
+        if let Some(file) = &self.file {
+            sync(file)?;
         }
+        self.file = None;
+        let Some(draft) = &self.draft else {
+            return Ok(());
+        };
+        replace(self.rt, draft.as_str(), self.path)?;
         self.draft = None;
-        Ok(())
+        sync_folder(self.rt, self.path)
     }
 
     /// Counts a failure, and removes the new file.
@@ -169,16 +174,60 @@ fn cut<F: OpenFile>(file: &F, length: u64) -> io::Result<()> {
     Ok(())
 }
 
-/// How many names of new files are tried in a folder.
-const NAMES: u32 = 1_000;
+/// Waits until the disk has what was written to a file. What is no regular file, as a terminal or a pipe, has no disk.
+fn sync<F: OpenFile>(file: &F) -> io::Result<()> {
+    if file.metadata()?.is_file() {
+        file.sync_all()?;
+    }
+    Ok(())
+}
 
-/// A new file in the folder of a path, with its own path: the first of its names that is free. None where memory for
-/// one is wanting.
+/// Puts a new file in the place of what stands at a path. A file that is a mount of its own can't be replaced: it takes
+/// the bytes of the new one, which then goes.
+fn replace<R: Files>(rt: &R, draft: &str, path: &str) -> io::Result<()> {
+    match fs::rename(rt, draft, path) {
+        Err(error) if error.kind() == io::ErrorKind::ResourceBusy => {
+            fs::copy(rt, draft, path)?;
+            sync(&OpenOptions::new().write(true).open(rt, path)?)?;
+            fs::remove_file(rt, draft)
+        }
+        replaced => replaced,
+    }
+}
+
+/// Waits until the disk has the names in the folder of a path, where that may be read and its file system can do so.
+fn sync_folder<R: Files>(rt: &R, path: &str) -> io::Result<()> {
+    let folder = match path.rsplit_once('/') {
+        Some(("", _)) => "/",
+        Some((folder, _)) => folder,
+        None => ".",
+    };
+    let Ok(opened) = fs::open(rt, folder) else {
+        return Ok(());
+    };
+    match opened.sync_all() {
+        Err(error) if error.kind() == io::ErrorKind::InvalidInput => Ok(()),
+        synced => synced,
+    }
+}
+
+/// How many names of new files are tried in a folder: more than killed commands leave there.
+const NAMES: u32 = 1_000_000;
+
+/// A new file in the folder of a path, with its own path: the first of its names that is free. It has no right that the
+/// file hasn't which stands at the path. None where that is to be written in its place: where it is no regular file, the
+/// folder takes no new file, or memory for a path is wanting.
 fn new_beside<R: Files>(
     rt: &R,
     alloc: Global,
     path: &str,
+    standing: &Standing,
 ) -> io::Result<Option<(R::File, String)>> {
+    let mode = match standing {
+        Standing::Nothing => NEW_FILE,
+        Standing::File(permissions) => permissions.mode(),
+        Standing::Other => return Ok(None),
+    };
     for number in 0..NAMES {
         let Ok(draft) = draft_path(alloc, path, number) else {
             return Ok(None);
@@ -186,14 +235,29 @@ fn new_beside<R: Files>(
         let opened = OpenOptions::new()
             .write(true)
             .create_new(true)
+            .mode(mode)
             .open(rt, draft.as_str());
         match opened {
             Ok(file) => return Ok(Some((file, draft))),
             Err(error) if error.kind() == io::ErrorKind::AlreadyExists => {}
+            Err(error) if takes_no_file(&error) && matches!(standing, Standing::File(_)) => {
+                return Ok(None);
+            }
             Err(error) => return Err(error),
         }
     }
     Err(io::Error::from(io::ErrorKind::AlreadyExists))
+}
+
+/// The rights of a file where none stood, before the system takes some away.
+const NEW_FILE: u32 = 0o666;
+
+/// Whether an error says that nothing new may be made in a folder.
+fn takes_no_file(error: &io::Error) -> bool {
+    matches!(
+        error.kind(),
+        io::ErrorKind::PermissionDenied | io::ErrorKind::ReadOnlyFilesystem
+    )
 }
 
 /// The path of a new file in the folder of a path, by its number.

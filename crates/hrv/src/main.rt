@@ -7,6 +7,7 @@
 //!   `specs/Dispatch.antt`.
 //! - [`files`], [`file_sinks`]: the system's files and standard input and output, as devices.
 //! - [`limits`]: the limit on the size of files, asked before each write.
+//! - [`outputs`]: outputs that aren't inputs.
 //! - [`streams`]: what stands where a standard stream is closed.
 //! - [`failures`]: why the program gives no answer, and its exit status.
 #![tactic(auto)]
@@ -16,12 +17,14 @@ mod failures;
 mod file_sinks;
 mod files;
 mod limits;
+mod outputs;
 mod streams;
 
 use crate::dispatch::obey;
 use crate::failures::Failure;
 use crate::files::System;
 use crate::limits::{Stream, admit_standard, line_length};
+use crate::outputs::keep_inputs;
 use crate::streams::open_closed_streams;
 use hrv_command_line::{CommandLineFault, command};
 use std::process::ExitCode;
@@ -57,6 +60,7 @@ fn run<R: Files + Env + Input + Print + AllocGlobal + Threads + Wait + Sync>(
     let arguments: Vec<String> = env::args(rt).map_err(word_fault)?.skip(1).collect(alloc)?;
     let words: Vec<&str> = arguments.iter().map(|word| word.as_str()).collect(alloc)?;
     let invocation = command(alloc, &words)?;
+    keep_inputs(rt, alloc, &invocation)?;
     obey(rt, alloc, &System::new(rt, alloc), invocation)?;
     Ok(())
 }

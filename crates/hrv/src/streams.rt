@@ -9,6 +9,9 @@ use std::os::fd::AsRawFd;
 /// The null device.
 const NULL: &str = "/dev/null";
 
+/// A folder that there always is.
+const ROOT: &str = "/";
+
 /// The number of standard input, the first of three.
 const INPUT: i32 = 0;
 
@@ -17,11 +20,12 @@ const ERROR: i32 = 2;
 
 /// Opens the null device in the place of each standard stream that is closed, since the next file that is opened would
 /// take its number, and its bytes. Standard input is open to be written there and the others to be read, so that what
-/// the program does with them fails, as it would where they are closed. They stay as long as what this gives.
+/// the program does with them fails, as it would where they are closed. They stay as long as what this gives. Where
+/// none is closed the null device isn't opened.
 ///
 /// # Errors
 ///
-/// The null device can't be opened; memory ran out.
+/// The null device is wanted and can't be opened; memory ran out.
 pub fn open_closed_streams(rt: &HostRuntime, alloc: Global) -> Result<Vec<File>, Fault> {
     let path = String::from_str(alloc, NULL)?;
     match null_streams(rt, alloc) {
@@ -33,6 +37,9 @@ pub fn open_closed_streams(rt: &HostRuntime, alloc: Global) -> Result<Vec<File>,
 
 /// The null device in the place of each stream that is closed. The system gives a file the least number that is free.
 fn null_streams(rt: &HostRuntime, alloc: Global) -> io::Result<Vec<File>> {
+    if File::open(rt, ROOT)?.as_raw_fd() > ERROR {
+        return Ok(Vec::new(alloc));
+    }
     let mut streams = Vec::with_capacity(alloc, 3)?;
     for _ in INPUT..=ERROR {
         let mut stream = File::open(rt, NULL)?;

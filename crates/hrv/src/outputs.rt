@@ -1,0 +1,61 @@
+//! Outputs that aren't inputs: a command that would write over what it reads is refused before it reads.
+
+use hrv_command_line::Invocation;
+use hrv_engines::Fault;
+use std::alloc::Global;
+use std::fs;
+use std::os::unix::fs::MetadataExt;
+use std::rt::Files;
+
+/// Lets a command go on whose output is none of its inputs, by its name or by the file that it leads to. What `renew`
+/// and `run --from` write may be the file that they replace.
+///
+/// # Errors
+///
+/// The output's path; memory ran out.
+pub fn keep_inputs<R: Files>(
+    rt: &R,
+    alloc: Global,
+    invocation: &Invocation<'_>,
+) -> Result<(), Fault> {
+    match invocation {
+        Invocation::Asm { source, image } => keep(rt, alloc, image, &[*source]),
+        Invocation::Run { image, log, .. } | Invocation::Resume { image, log, .. } => {
+            keep(rt, alloc, log, &[*image])
+        }
+        Invocation::Compile {
+            algorithm,
+            schedule,
+            image,
+            inputs,
+        } => {
+            keep(rt, alloc, image, &[*algorithm, *schedule])?;
+            keep(rt, alloc, image, inputs)
+        }
+        _ => Ok(()),
+    }
+}
+
+/// Refuses an output that is one of these inputs.
+fn keep<R: Files>(rt: &R, alloc: Global, output: &str, inputs: &[&str]) -> Result<(), Fault> {
+    if are_apart(rt, output, inputs) {
+        return Ok(());
+    }
+    Err(Fault::File(String::from_str(alloc, output)?))
+}
+
+/// Whether an output is none of these inputs. A pipe or a terminal may be both.
+fn are_apart<R: Files>(rt: &R, output: &str, inputs: &[&str]) -> bool {
+    let Ok(written) = fs::metadata(rt, output) else {
+        return true;
+    };
+    !written.is_file() || inputs.iter().all(|input| !leads_to(rt, input, &written))
+}
+
+/// Whether a path leads to a file.
+fn leads_to<R: Files>(rt: &R, path: &str, file: &fs::Metadata) -> bool {
+    match fs::metadata(rt, path) {
+        Ok(found) => found.dev() == file.dev() && found.ino() == file.ino(),
+        Err(_) => false,
+    }
+}
