@@ -4,16 +4,16 @@
 /// A line for each family, and for each of its codes as often as it has causes, in the order in which they are judged.
 /// Below it stand, behind two blanks, what the family says, and the cause with what helps.
 #[rattlefmt::skip]
-pub static REFUSALS: [u8; 8482] = *b"\
+pub static REFUSALS: [u8; 8553] = *b"\
 file\n\
-\x20\x20cause: a file can't be read or written, or a text isn't UTF-8; here `-` is standard input or output, or a file of that name\n\
+\x20\x20cause: a file can't be read or written, an output is one of the inputs, or a text isn't UTF-8; here `-` is standard input or output, or a file of that name\n\
 \x20\x20cure: look at the path, its rights, the disk; a word left out moves the words behind it\n\
 memory\n\
 \x20\x20cause: the system gave no memory\n\
 \x20\x20cure: a smaller picture or log, a larger machine\n\
 thread\n\
 \x20\x20cause: of `hrv run`: a hart got no thread, or it didn't start for more than a second; no turn is made\n\
-\x20\x20cure: a limit on processes, `ulimit -u`\n\
+\x20\x20cure: a limit on processes or on memory, `ulimit -u`, `ulimit -v`; more memory\n\
 load\n\
 \x20\x20IMAGE, or OLD of `renew`, is no image\n\
 load 2\n\
