@@ -5,9 +5,10 @@
 //! line feed. Where `in pieces` stands behind the part's name, each line is `COUNT TEXT` and means the text so many
 //! times, without a line feed; in the text `\n`, `\r`, `\t`, `\s`, `\0` and `\\` stand for a line feed, a carriage
 //! return, a tab, a space, a zero byte and a backslash. A text may stand in hexadecimal too, with `in hexadecimal`
-//! behind the part's name.
+//! behind the part's name. The last part of each case is named `answer`, and is what the rules say of the case.
 //!
 //! - [`read_cases`]: the cases of a file's text.
+//! - [`Case::difference`]: an answer beside the one that stands in the file.
 #![tactic(auto)]
 
 mod faults;
@@ -38,6 +39,31 @@ enum Form {
     Pieces,
     /// The text is the digits of bytes.
     Hexadecimal,
+}
+
+impl Case {
+    /// The parts that ask, and the answer.
+    pub fn asked(&self) -> Result<(&[Part], &str), CaseFault> {
+        match self.parts.as_slice() {
+            [asked @ .., answer] => Ok((asked, answer.named("answer")?)),
+            [] => Err(CaseFault::Malformed("a case without an answer")),
+        }
+    }
+
+    /// The case's heading with both answers, where this is another than the wanted one.
+    pub fn difference(
+        &self,
+        alloc: Global,
+        wanted: &str,
+        found: &str,
+    ) -> Result<Option<String>, AllocError> {
+        if wanted == found {
+            return Ok(None);
+        }
+        let Case { kind, name, .. } = self;
+        let text = format!(in alloc; "== {kind} {name}\n-- wanted\n{wanted}-- found\n{found}")?;
+        Ok(Some(text))
+    }
 }
 
 impl Part {

@@ -1,4 +1,4 @@
-"""Case files and their answers: `stdout` has a line `file NAME` for each file, and below it the answers to its cases."""
+"""Case files: each case with its answer behind it. `stdout` has a line for each file, with the number of its cases."""
 
 import os
 
@@ -6,19 +6,17 @@ FOLDER = os.path.dirname(os.path.dirname(os.path.abspath(__file__)))
 
 
 class File:
-    """The cases of a file, and their answers."""
+    """The cases of a file, with their answers."""
 
     def __init__(self, name, *comments):
         self.name, self.names = name, set()
         self.lines = [f"# {comment}" for comment in comments]
-        self.answers = [f"file {name}"]
 
     def case(self, kind, name, parts, answer):
         assert name not in self.names, name
         self.names.add(name)
         self.lines.append(f"== {kind} {name}")
-        self.answers += [f"== {kind} {name}"] + answer
-        for part, lines in parts:
+        for part, lines in (*parts, ("answer", answer)):
             self.lines += [f"-- {part}"] + lines
 
     def write(self):
@@ -27,7 +25,7 @@ class File:
 
 
 def read_cases(name):
-    """The cases of a file: kind, name, and parts of a name and a text each."""
+    """The cases of a file: kind, name, parts of a name and a text each, and the answer's lines."""
     cases = []
     with open(os.path.join(FOLDER, "data", name), newline="\n") as file:
         for line in file.read().split("\n")[:-1]:
@@ -39,7 +37,7 @@ def read_cases(name):
             elif cases and cases[-1][2]:
                 part = cases[-1][2][-1]
                 part[1] += piece(line) if part[2] else line + "\n"
-    return [(kind, name, [(heading, text) for heading, text, _ in parts]) for kind, name, parts in cases]
+    return [(kind, name, [(heading, text) for heading, text, _ in parts[:-1]], parts[-1][1].split("\n")[:-1]) for kind, name, parts in cases]
 
 
 def piece(line):
@@ -60,28 +58,11 @@ def arguments():
         return file.read().split()
 
 
-def read_stdout():
-    """The lines below each `file NAME`, and the names in their order."""
-    sections = {}
-    with open(os.path.join(FOLDER, "stdout"), newline="\n") as file:
-        for line in file.read().split("\n")[:-1]:
-            if line.startswith("file "):
-                sections[line[5:]] = []
-            list(sections.values())[-1].append(line)
-    return sections
-
-
-def answers_of(lines):
-    """The answer to each case of a section, by the case's heading."""
-    answers = {}
-    for line in lines[1:]:
-        if line.startswith("== "):
-            answers[line[3:]] = []
-        elif answers:
-            list(answers.values())[-1].append(line)
-    return answers
-
-
-def write_stdout(sections):
-    with open(os.path.join(FOLDER, "stdout"), "w", newline="\n") as file:
-        file.writelines(line + "\n" for lines in sections.values() for line in lines)
+def write_stdout():
+    """Writes what the program prints where all answers are as the files say."""
+    lines = []
+    for name in arguments():
+        count = len(read_cases(name))
+        lines.append(f"file {name}: {count} cases" if count else f"file {name}: malformed: a line before the first case")
+    with open(os.path.join(FOLDER, "stdout"), "w") as file:
+        file.writelines(line + "\n" for line in [*lines, "0 answers differ"])

@@ -102,6 +102,4 @@ if __name__ == "__main__":
     for name, algorithm, schedule, says in chosen(sys.argv[1], int(sys.argv[2])):
         file.case("map", f"random {name}", [("algorithm", algorithm), ("schedule", schedule)], lines_of(algorithm, schedule, says))
     file.write()
-    sections = cases.read_stdout()
-    sections[file.name] = file.answers
-    cases.write_stdout({name: sections[name] for name in cases.arguments()})
+    cases.write_stdout()

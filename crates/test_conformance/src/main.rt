@@ -1,8 +1,12 @@
 //! `test_conformance`: what the libraries and the engines answer to cases that lie in files.
 //!
-//! The program reads the files that its arguments name (`test_cases`), and prints each case's kind and name and below
-//! it the answer. `stdout` holds what the rules say of the cases in `data/`; none of it was copied from this program.
-//! What algorithms under schedules come to stands beside it (`test_trials`).
+//! The program reads the files that its arguments name (`test_cases`), answers each case, and prints those whose answer
+//! is another than the rules' own, which stands behind the case; none of these was copied from this program.
+//! What algorithms under schedules come to stands beside it (`test_trials`). `generate/make` makes the files that say so
+//! in their first line; the others were worked out by hand, or come from another reading of the rules.
+//!
+//! To add a case, write it with its answer into a file of `data/`, and count it in `stdout`. To run one file without
+//! proofs: `rt try -- data/talks.txt`.
 //!
 //! | Kind | Parts | Answer |
 //! |---|---|---|
@@ -86,51 +90,76 @@ use std::rt::{Env, Files};
 use std::sync::Wait;
 use std::thread::Threads;
 use std::{env, fs, io};
-use test_cases::{Case, read_cases};
+use test_cases::{Case, Part, read_cases};
 
 fn main(rt: HostRuntime) -> io::Result<()> {
+    let mut differ: u64 = 0;
     for path in env::args(&rt)?.skip(1) {
-        print_file(&rt, path.as_str())?;
+        differ = differ.saturating_add(judge_file(&rt, path.as_str())?);
     }
-    Ok(())
+    println!(rt; "{differ} answers differ")
 }
 
-/// Prints what is answered to the cases of a file.
-fn print_file<R: Files + Print + AllocGlobal + Threads + Wait + Sync>(
+/// Answers the cases of a file, prints those whose answer is another than the file says, and says how many these are.
+fn judge_file<R: Files + Print + AllocGlobal + Threads + Wait + Sync>(
     rt: &R,
     path: &str,
-) -> io::Result<()> {
+) -> io::Result<u64> {
     let alloc = rt.alloc();
     let text = fs::read_to_string(rt, path)?;
-    println!(rt; "file {path}")?;
     match read_cases(alloc, text.as_str()) {
-        Ok(cases) => print_cases(rt, &cases),
-        Err(fault) => println!(rt; "{fault}"),
+        Ok(cases) => {
+            let differ = judge_cases(rt, &cases)?;
+            let count = cases.len();
+            println!(rt; "file {path}: {count} cases")?;
+            Ok(differ)
+        }
+        Err(fault) => {
+            println!(rt; "file {path}: {fault}")?;
+            Ok(0)
+        }
     }
 }
 
-/// Prints what is answered to each case.
-fn print_cases<R: Print + AllocGlobal + Threads + Wait + Sync>(
+/// Prints the cases whose answer is another than they say, and says how many these are.
+fn judge_cases<R: Print + AllocGlobal + Threads + Wait + Sync>(
     rt: &R,
     cases: &[Case],
-) -> io::Result<()> {
+) -> io::Result<u64> {
+    let mut differ: u64 = 0;
     for case in cases {
-        let text = answer(rt, rt.alloc(), case)?;
-        print!(rt; "{text}")?;
+        if let Some(difference) = judge(rt, rt.alloc(), case)? {
+            print!(rt; "{difference}")?;
+            differ = differ.saturating_add(1);
+        }
     }
-    Ok(())
+    Ok(differ)
 }
 
-/// A case's heading and the answer to it, or what stands in its place.
-fn answer(
+/// A case whose answer is another than it says, with both answers.
+fn judge(
     rt: &(impl Threads + Wait + Sync),
     alloc: Global,
     case: &Case,
+) -> Result<Option<String>, AllocError> {
+    match case.asked() {
+        Ok((parts, wanted)) => {
+            let found = answer(rt, alloc, case.kind.as_str(), parts)?;
+            case.difference(alloc, wanted, found.as_str())
+        }
+        Err(fault) => Ok(Some(format!(in alloc; "{fault}\n")?)),
+    }
+}
+
+/// The answer to a case of a kind, or what stands in its place.
+fn answer(
+    rt: &(impl Threads + Wait + Sync),
+    alloc: Global,
+    kind: &str,
+    parts: &[Part],
 ) -> Result<String, AllocError> {
     let mut text = String::new(alloc);
-    let Case { kind, name, .. } = case;
-    writeln!(text, "== {kind} {name}")?;
-    if let Err(failure) = push_answer(rt, alloc, case, &mut text) {
+    if let Err(failure) = push_answer(rt, alloc, kind, parts, &mut text) {
         writeln!(text, "{failure}")?;
     }
     Ok(text)
@@ -140,11 +169,11 @@ fn answer(
 fn push_answer(
     rt: &(impl Threads + Wait + Sync),
     alloc: Global,
-    case: &Case,
+    kind: &str,
+    parts: &[Part],
     out: &mut String,
 ) -> Result<(), Failure> {
-    let parts = case.parts.as_slice();
-    match case.kind.as_str() {
+    match kind {
         "parse" => push_verdict(alloc, parts, out),
         "draw" => push_drawing(rt, alloc, parts, out),
         "read" => push_reading(alloc, parts, out),

@@ -106,9 +106,7 @@ class Accepted:
 
 def accepted():
     """The accepted cases of data/boxes.txt."""
-    found = cases.answers_of(cases.read_stdout()["boxes.txt"])
-    for kind, name, parts in cases.read_cases("boxes.txt"):
-        says = found[f"{kind} {name}"]
+    for _, name, parts, says in cases.read_cases("boxes.txt"):
         if says[0].startswith("data "):
             yield Accepted(name, *(text for _, text in parts), says)
 

@@ -1,7 +1,7 @@
 //! `test_trials`: whether an algorithm under a schedule leaves the reference picture, whichever way it is computed.
 //!
-//! The program reads the files that its arguments name (`test_cases`), and prints each case's kind and name and below
-//! it the answer. `stdout` holds what the rules say of the cases in `data/`; none of it was copied from this program.
+//! The program reads the files that its arguments name (`test_cases`), answers each case, and prints those whose answer
+//! is another than the rules' own, which stands behind the case; none of these was copied from this program.
 //!
 //! | Kind | Parts |
 //! |---|---|
@@ -53,44 +53,73 @@ use std::alloc::{AllocError, Global};
 use std::rt::{Env, Files};
 use std::thread::Threads;
 use std::{env, fs, io};
-use test_cases::{Case, read_cases};
+use test_cases::{Case, Part, read_cases};
 
 fn main(rt: HostRuntime) -> io::Result<()> {
+    let mut differ: u64 = 0;
     for path in env::args(&rt)?.skip(1) {
-        print_file(&rt, path.as_str())?;
+        differ = differ.saturating_add(judge_file(&rt, path.as_str())?);
     }
-    Ok(())
+    println!(rt; "{differ} answers differ")
 }
 
-/// Prints what is answered to the cases of a file.
-fn print_file<R: Files + Print + AllocGlobal + Threads + Sync>(
+/// Answers the cases of a file, prints those whose answer is another than the file says, and says how many these are.
+fn judge_file<R: Files + Print + AllocGlobal + Threads + Sync>(
     rt: &R,
     path: &str,
-) -> io::Result<()> {
+) -> io::Result<u64> {
     let alloc = rt.alloc();
     let text = fs::read_to_string(rt, path)?;
-    println!(rt; "file {path}")?;
     match read_cases(alloc, text.as_str()) {
-        Ok(cases) => print_cases(rt, &cases),
-        Err(fault) => println!(rt; "{fault}"),
+        Ok(cases) => {
+            let differ = judge_cases(rt, &cases)?;
+            let count = cases.len();
+            println!(rt; "file {path}: {count} cases")?;
+            Ok(differ)
+        }
+        Err(fault) => {
+            println!(rt; "file {path}: {fault}")?;
+            Ok(0)
+        }
     }
 }
 
-/// Prints what is answered to each case.
-fn print_cases<R: Print + AllocGlobal + Threads + Sync>(rt: &R, cases: &[Case]) -> io::Result<()> {
+/// Prints the cases whose answer is another than they say, and says how many these are.
+fn judge_cases<R: Print + AllocGlobal + Threads + Sync>(rt: &R, cases: &[Case]) -> io::Result<u64> {
+    let mut differ: u64 = 0;
     for case in cases {
-        let text = answer(rt, rt.alloc(), case)?;
-        print!(rt; "{text}")?;
+        if let Some(difference) = judge(rt, rt.alloc(), case)? {
+            print!(rt; "{difference}")?;
+            differ = differ.saturating_add(1);
+        }
     }
-    Ok(())
+    Ok(differ)
 }
 
-/// A case's heading and the answer to it, or what stands in its place.
-fn answer(rt: &(impl Threads + Sync), alloc: Global, case: &Case) -> Result<String, AllocError> {
+/// A case whose answer is another than it says, with both answers.
+fn judge(
+    rt: &(impl Threads + Sync),
+    alloc: Global,
+    case: &Case,
+) -> Result<Option<String>, AllocError> {
+    match case.asked() {
+        Ok((parts, wanted)) => {
+            let found = answer(rt, alloc, case.kind.as_str(), parts)?;
+            case.difference(alloc, wanted, found.as_str())
+        }
+        Err(fault) => Ok(Some(format!(in alloc; "{fault}\n")?)),
+    }
+}
+
+/// The answer to a case of a kind, or what stands in its place.
+fn answer(
+    rt: &(impl Threads + Sync),
+    alloc: Global,
+    kind: &str,
+    parts: &[Part],
+) -> Result<String, AllocError> {
     let mut text = String::new(alloc);
-    let Case { kind, name, .. } = case;
-    writeln!(text, "== {kind} {name}")?;
-    if let Err(failure) = push_answer(rt, alloc, case, &mut text) {
+    if let Err(failure) = push_answer(rt, alloc, kind, parts, &mut text) {
         writeln!(text, "{failure}")?;
     }
     Ok(text)
@@ -100,11 +129,11 @@ fn answer(rt: &(impl Threads + Sync), alloc: Global, case: &Case) -> Result<Stri
 fn push_answer(
     rt: &(impl Threads + Sync),
     alloc: Global,
-    case: &Case,
+    kind: &str,
+    parts: &[Part],
     out: &mut String,
 ) -> Result<(), Failure> {
-    let parts = case.parts.as_slice();
-    match case.kind.as_str() {
+    match kind {
         "boxes" => push_boxes(alloc, parts, out),
         "trial" => push_trial(rt, alloc, parts, out),
         "assign" => push_assignment(alloc, parts, out),
