@@ -6,3 +6,4 @@ pub mod Passes
 pub mod Places
 pub mod Refusing
 pub mod Stopping
+pub mod Watching

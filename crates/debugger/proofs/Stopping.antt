@@ -24,7 +24,7 @@ breaks-end session place next = ap (λ o. list_any (stands_on (state_at session 
 
 -- ---- watches
 
-same-itself : (word : Option ℕ) → option_eq ◌==◌ word word ≡ true
+pub same-itself : (word : Option ℕ) → option_eq ◌==◌ word word ≡ true
 same-itself None = refl
 same-itself (Some n) = eq-eqb n n refl
 

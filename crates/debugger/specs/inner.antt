@@ -2,3 +2,4 @@ pub mod Held
 pub mod Kept
 pub mod Passing
 pub mod Steps
+pub mod Watching

@@ -22,6 +22,7 @@ mod sessions;
 mod stops;
 mod turns;
 mod walking;
+mod watches;
 
 pub use crate::refusals::Refusal;
 pub use crate::sessions::Session;

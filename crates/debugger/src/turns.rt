@@ -13,8 +13,8 @@ ghost use Rattle.debugger.specs.inner.Steps.{IsQuietUntil, steps_of};
 ghost use Rattle.debugger.specs.Stops.{differs};
 
 use crate::kept::KEPT_EVERY;
+use crate::watches::may_write;
 use debugger_pages::turn_marking;
-use debugger_stores::store_at;
 use hart_core::Status;
 use multi_hart::Machine;
 use rv_insn::{Insn, Outcome};
@@ -199,7 +199,7 @@ struct Watched {
 }
 
 /// Makes a turn of a hart, and says whether a word at one of the addresses is then another than before. Words are read
-/// where the instruction stores, and no other turn changes any. It takes no memory.
+/// where the instruction may store to one of them, and no other turn changes any. It takes no memory.
 fn turn_watched(
     machine: &mut Machine,
     insns: &[Option<Insn>],
@@ -215,7 +215,7 @@ fn turn_watched(
     ensures changed { result.changed ≡ list_any (differs machine.old machine.new) watches.now }
     ensures marks { Marks machine.old.memory machine.new.memory written.old written.new }
 {
-    if !watches.is_empty() && store_at(insns, machine.pc(hart)).is_some() {
+    if may_write(machine, insns, hart, watches) {
         return turn_compared(machine, insns, written, hart, watches);
     }
     let told = turn_marking(machine, insns, hart, written);
