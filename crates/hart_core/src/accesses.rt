@@ -7,6 +7,18 @@ ghost use Rattle.hart_core.specs.Scalar.{load_size, loaded, store_size, kept};
 use memory::{Bytes, read_u8, read_u16, read_u32, write_u8, write_u16, write_u32};
 use rv_insn::{LoadOp, StoreOp, Trap};
 
+/// How many bytes a load reads.
+#[inline]
+pub fn count_of(op: LoadOp) -> u32
+    ensures { result ≡ bytes_in (load_size op) }
+{
+    match op {
+        LoadOp::Lb | LoadOp::Lbu => 1,
+        LoadOp::Lh | LoadOp::Lhu => 2,
+        LoadOp::Lw => 4,
+    }
+}
+
 /// What a load of an address gives, or the trap that it makes.
 #[inline]
 pub fn load<M: Bytes>(op: LoadOp, memory: &M, address: u32) -> Result<u32, Trap>

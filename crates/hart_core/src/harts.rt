@@ -147,11 +147,13 @@ impl Hart {
         Outcome::Stepped
     }
 
-    /// Goes on at an address.
-    pub(crate) fn go_to(&mut self, pc: u32)
-        ensures { self.new ≡ at_pc self.old pc }
+    /// Goes on at an address, and answers it.
+    pub(crate) fn go_to(&mut self, pc: u32) -> u32
+        ensures hart { self.new ≡ at_pc self.old pc }
+        ensures pc { result ≡ pc }
     {
         self.pc = pc;
+        pc
     }
 
     /// Stops for good, as ECALL does.

@@ -14,6 +14,7 @@ mod execution;
 pub mod harts;
 mod meanings;
 mod pieces;
+mod scalars;
 mod vectors;
 
 pub use crate::harts::{Hart, Status};

@@ -104,8 +104,9 @@ impl Bytes for Memory {
 
     #[inline(always)]
     fn covers_store(&self, address: u32, count: u32) -> bool {
-        let end = address as usize + count as usize;
-        address >= DATA_START && end <= DATA_START as usize + self.bytes.len()
+        // an address before the data comes to one far behind its end
+        let at = address.wrapping_sub(DATA_START) as usize;
+        at + count as usize <= self.bytes.len()
     }
 
     fn read(&self, address: u32) -> u8 {

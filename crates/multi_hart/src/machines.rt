@@ -1,6 +1,6 @@
 //! Harts over one memory, stepped one at a time.
 
-ghost use Rattle.std.specs.Prelude.{◌≡◌, ◌+◌, ◌-◌, ◌*◌, ◌/◌, ◌%◌, ◌^◌, ◌<◌, ◌≤◌, ℕ, List, length, map, option_map};
+ghost use Rattle.std.specs.Prelude.{◌≡◌, ◌≢◌, ◌+◌, ◌-◌, ◌*◌, ◌/◌, ◌%◌, ◌^◌, ◌<◌, ◌≤◌, ℕ, List, length, map, option_map};
 ghost use Rattle.std.specs.Prelude.{take, replicate, slice_index, OnOk, IfOk, IfErr, All, IsTrue};
 ghost use Rattle.memory.specs.Access.{most_words, most_bytes, text_start, is_text_word, fetched};
 ghost use Rattle.rv_encoding.specs.Decoding.{decoded};
@@ -180,7 +180,7 @@ impl Machine {
         ensures outcome { result ≡ outcome self.old hart }
     {
         let running = &mut self.harts[hart];
-        step_meant(running, &mut self.memory, &self.meanings)
+        run_alone(running, &mut self.memory, &self.meanings, 1).last
     }
 
     /// How many harts there are.
@@ -267,7 +267,9 @@ impl Machine {
 
 /// Turns of a hart that runs, over a memory whose words mean this, until one doesn't step or so many are made: it runs
 /// on exactly where a turn steps, so that its status is never read. Hart, memory and meanings are found once for all
-/// turns.
+/// turns, and the program counter is held beside the hart. All turns are made here, so that the table of the
+/// instructions is laid in once.
+#[inline(never)]
 fn run_alone(hart: &mut Hart, memory: &mut Memory, meanings: &[Meaning], most: u64) -> Stretch
     requires runs { hart.old.status ≡ Status.Running }
     requires meant { meanings.now ≡ map word_meaning memory.old.text }
@@ -278,31 +280,48 @@ fn run_alone(hart: &mut Hart, memory: &mut Memory, meanings: &[Meaning], most: u
     ensures stretch { IsStretch (alone memory.old hart.old) 0 most result.made result.last }
 {
     let mut made = 1;
+    let mut pc = hart.pc();
     loop {
-        let last = step_meant(hart, memory, meanings);
-        let Outcome::Stepped = last else {
-            return Stretch { made, last };
-        };
+        match step_meant(hart, pc, memory, meanings) {
+            Ok(next) => pc = next,
+            Err(last) => return Stretch { made, last },
+        }
         if made == most {
-            return Stretch { made, last };
+            return Stretch {
+                made,
+                last: Outcome::Stepped,
+            };
         }
         made += 1;
     }
 }
 
-/// One turn of a hart that runs, over a memory whose words mean this.
+/// One turn of a hart that runs and stands there, over a memory whose words mean this: where it goes on, or the turn's
+/// outcome, where it doesn't step.
 #[inline(always)]
-fn step_meant(hart: &mut Hart, memory: &mut Memory, meanings: &[Meaning]) -> Outcome
+fn step_meant(
+    hart: &mut Hart,
+    pc: u32,
+    memory: &mut Memory,
+    meanings: &[Meaning],
+) -> Result<u32, Outcome>
     requires runs { hart.old.status ≡ Status.Running }
+    requires here { pc ≡ hart.old.pc }
     requires meant { meanings.now ≡ map word_meaning memory.old.text }
     requires few { length meanings.now ≤ most_words }
     ensures state { alone memory.new hart.new ≡ turn (alone memory.old hart.old) 0 }
     ensures text { memory.new.text ≡ memory.old.text }
-    ensures outcome { result ≡ outcome (alone memory.old hart.old) 0 }
+    ensures next { IfOk result (λ next. next ≡ hart.new.pc) }
+    ensures stepped { OnOk result (outcome (alone memory.old hart.old) 0 ≡ Outcome.Stepped) }
+    ensures outcome { IfErr result (λ last. last ≡ outcome (alone memory.old hart.old) 0) }
+    ensures ended { IfErr result (λ last. last ≢ Outcome.Stepped) }
 {
-    match meaning_at(meanings, hart.pc()) {
-        Some(meaning) => hart.step_running(memory, meaning),
-        None => hart.step(memory),
+    match meaning_at(meanings, pc) {
+        Some(meaning) => hart.step_from(pc, memory, meaning),
+        None => {
+            let outcome = hart.step(memory);
+            hart.came_to(outcome)
+        }
     }
 }
 

@@ -5,15 +5,16 @@ use Rattle.multi_hart.specs.Stretches.{StepsOn}
 use Rattle.multi_hart.specs.inner.Alone.{alone}
 use Rattle.multi_hart.proofs.machines.run_alone.Given as goal
 
-abbrev pub invariant-loop-made : goal.invariant-loop-made
-invariant-loop-made l = record {
+abbrev pub invariant-loop-next : goal.invariant-loop-next
+invariant-loop-next l = record {
   some : 1 ≤ l.made;
   few : l.made ≤ l.fn.most;
   state : alone l.memory l.hart ≡ run (alone l.fn.memory l.fn.hart) (replicate (l.made - 1) 0);
   text : l.memory.text ≡ l.fn.memory.text;
   runs : l.hart.status ≡ Running;
+  pc : l.pc ≡ l.hart.pc;
   steps : StepsOn (alone l.fn.memory l.fn.hart) 0 (l.made - 1);
 }
 
-abbrev pub decreases-loop-made : goal.decreases-loop-made
-decreases-loop-made l = l.fn.most - l.made
+abbrev pub decreases-loop-next : goal.decreases-loop-next
+decreases-loop-next l = l.fn.most - l.made
