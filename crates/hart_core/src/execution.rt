@@ -2,6 +2,7 @@
 
 ghost use Rattle.std.specs.Prelude.{◌≡◌, ◌≢◌, false, None, Some, length, IfOk, OnOk, IfErr, OnErr};
 ghost use Rattle.rv_insn.specs.declared.instructions.Insn.TheVariants as insns;
+ghost use Rattle.hart_core.specs.Scalar.{jump_fault, linked};
 ghost use Rattle.hart_core.specs.Meanings.{insn_of};
 ghost use Rattle.hart_core.specs.Turn.{step, step_with, fault, IsDone};
 ghost use Rattle.hart_core.specs.inner.Meanings.{IsScalar, IsLeft, IsDoneBy, fault_by};
@@ -9,6 +10,7 @@ ghost use Rattle.hart_core.specs.inner.Meanings.{IsScalar, IsLeft, IsDoneBy, fau
 use crate::accesses::{load, store};
 use crate::harts::{Hart, Status};
 use crate::meanings::Meaning;
+use crate::scalars::target;
 use memory::{Bytes, read_for_amo, write_u32};
 use rv_encoding::decode;
 use rv_insn::{Imm12, Insn, LoadOp, Outcome, Reg, StoreOp, Trap, VectorInsn};
@@ -89,6 +91,10 @@ impl Hart {
             self.old (insn_of meaning.now)).outcome) }
         ensures ended { IfErr result (λ outcome. outcome ≢ Outcome.Stepped) }
     {
+        if let Meaning::Vector(ref insn) = *meaning {
+            let outcome = self.step_vector(memory, insn);
+            return self.came_to(outcome);
+        }
         if let Some(next) = self.execute(pc, memory, meaning) {
             return Ok(next);
         }
@@ -109,10 +115,13 @@ impl Hart {
         }
     }
 
-    /// A turn of what `execute` left: apart, so that all that stays in a loop of turns is short.
+    /// A turn of what `execute` left and means no vector instruction: apart, so that all that stays in a loop of turns
+    /// is short.
+    #[cold]
     #[inline(never)]
     fn step_apart<M: Bytes>(&mut self, memory: &mut M, meaning: &Meaning) -> Outcome
         requires runs { self.old.status ≡ Status.Running }
+        requires scalar { IsScalar meaning.now }
         requires left { IsLeft (insn_of meaning.now) self.old }
         ensures hart { self.new ≡ (step_with (M.text memory.old) (M.memory memory.old) self.old
             (insn_of meaning.now)).hart }
@@ -122,9 +131,6 @@ impl Hart {
         ensures outcome { result ≡ (step_with (M.text memory.old) (M.memory memory.old) self.old
             (insn_of meaning.now)).outcome }
     {
-        if let Meaning::Vector(ref insn) = *meaning {
-            return self.step_vector(memory, insn);
-        }
         match self.execute_apart(memory, meaning) {
             Ok(outcome) => outcome,
             Err(trap) => self.trap(trap),
@@ -170,7 +176,11 @@ impl Hart {
             Meaning::Nothing => Err(Trap::IllegalInstruction),
             Meaning::Ebreak => Err(Trap::Breakpoint),
             Meaning::Ecall => Ok(self.finish()),
-            Meaning::Jal { .. } | Meaning::Jalr { .. } => Err(Trap::MisalignedTarget),
+            Meaning::Jal { rd, offset } => self.jump_and_link(
+                rd,
+                target(self.pc(), offset.bytes()),
+            ),
+            Meaning::Jalr { rd, rs1, imm } => self.jump_and_link(rd, self.address(rs1, imm) & !1),
             Meaning::Beq { .. } | Meaning::Bne { .. } => Err(Trap::MisalignedTarget),
             Meaning::Blt { .. } | Meaning::Bge { .. } => Err(Trap::MisalignedTarget),
             Meaning::Bltu { .. } | Meaning::Bgeu { .. } => Err(Trap::MisalignedTarget),
@@ -250,5 +260,22 @@ impl Hart {
         let old = read_for_amo(memory, address)?;
         write_u32(memory, address, old.wrapping_add(self.register(rs2)))?;
         Ok(self.give(rd, old))
+    }
+
+    /// Jumps, with the address of the next instruction in `rd`; where the target traps, no link is
+    /// written.
+    fn jump_and_link(&mut self, rd: Reg, target: u32) -> Result<Outcome, Trap>
+        ensures ok { IfOk result (λ outcome. outcome ≡ Outcome.Stepped) }
+        ensures allowed { OnOk result (jump_fault (Some target) ≡ None) }
+        ensures hart { OnOk result (self.new ≡ linked self.old rd target) }
+        ensures err { IfErr result (λ trap. jump_fault (Some target) ≡ Some trap) }
+        ensures unchanged { OnErr result (self.new ≡ self.old) }
+    {
+        let link = self.pc().wrapping_add(4);
+        let Some(_) = self.jump(target) else {
+            return Err(Trap::MisalignedTarget);
+        };
+        self.set_register(rd, link);
+        Ok(Outcome::Stepped)
     }
 }

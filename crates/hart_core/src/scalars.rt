@@ -4,7 +4,7 @@ ghost use Rattle.std.specs.Prelude.{◌≡◌, None, Some, IfSome, OnSome, IfNon
 ghost use Rattle.rv_insn.specs.declared.instructions.Insn.TheVariants as insns;
 ghost use Rattle.hart_core.specs.Scalar.{plus, extended, computed as computed_of};
 ghost use Rattle.hart_core.specs.Scalar.{computed_with_immediate as computed_with_immediate_of, shifted as shifted_of};
-ghost use Rattle.hart_core.specs.Scalar.{jump_fault, jump_of, jumped, linked};
+ghost use Rattle.hart_core.specs.Scalar.{jump_fault, jump_of, jumped};
 ghost use Rattle.hart_core.specs.HartState.{register, at_pc, given};
 ghost use Rattle.hart_core.specs.Meanings.{insn_of};
 ghost use Rattle.hart_core.specs.Turn.{IsDone};
@@ -22,7 +22,7 @@ use rv_insn::{
 
 impl Hart {
     /// Does what most words mean, and answers where the hart goes on; or leaves it, with nothing changed: what needs
-    /// more than a few steps, what traps, and loads of text. It is the table of the instructions, with one jump, and
+    /// more than a few steps, jumps with a link, what traps, and loads of text. It is the table of the instructions, with one jump, and
     /// each line lays in what it does: so it is one match, however long. The program counter is passed on, since a turn
     /// that reads it back has to wait for the turn before.
     #[inline(always)]
@@ -42,130 +42,53 @@ impl Hart {
         ensures text { M.text memory.new ≡ M.text memory.old }
     {
         match *meaning {
-            Meaning::Lui { rd, imm } => Some(self.give_from(pc, rd, imm.value() << 12)),
-            Meaning::Auipc { rd, imm } => {
-                Some(self.give_from(pc, rd, pc.wrapping_add(imm.value() << 12)))
-            }
-            Meaning::Jal { rd, offset } => self.jump_and_link(pc, rd, target(pc, offset.bytes())),
-            Meaning::Jalr { rd, rs1, imm } => {
-                self.jump_and_link(pc, rd, self.address(rs1, imm) & !1)
-            }
+            Meaning::Lui { rd, imm } => self.give_from(pc, rd, imm.value() << 12),
+            Meaning::Auipc { rd, imm } => self.give_from(
+                pc,
+                rd,
+                pc.wrapping_add(imm.value() << 12),
+            ),
             Meaning::Beq { rs1, rs2, offset } => self.branch(pc, BranchOp::Beq, rs1, rs2, offset),
             Meaning::Bne { rs1, rs2, offset } => self.branch(pc, BranchOp::Bne, rs1, rs2, offset),
             Meaning::Blt { rs1, rs2, offset } => self.branch(pc, BranchOp::Blt, rs1, rs2, offset),
             Meaning::Bge { rs1, rs2, offset } => self.branch(pc, BranchOp::Bge, rs1, rs2, offset),
             Meaning::Bltu { rs1, rs2, offset } => self.branch(pc, BranchOp::Bltu, rs1, rs2, offset),
             Meaning::Bgeu { rs1, rs2, offset } => self.branch(pc, BranchOp::Bgeu, rs1, rs2, offset),
-            Meaning::Lb { rd, rs1, imm } => self.load_data(pc, LoadOp::Lb, rd, rs1, imm, memory),
-            Meaning::Lh { rd, rs1, imm } => self.load_data(pc, LoadOp::Lh, rd, rs1, imm, memory),
-            Meaning::Lw { rd, rs1, imm } => self.load_data(pc, LoadOp::Lw, rd, rs1, imm, memory),
-            Meaning::Lbu { rd, rs1, imm } => self.load_data(pc, LoadOp::Lbu, rd, rs1, imm, memory),
-            Meaning::Lhu { rd, rs1, imm } => self.load_data(pc, LoadOp::Lhu, rd, rs1, imm, memory),
-            Meaning::Sb { rs1, rs2, imm } => self.store_data(
-                pc,
-                StoreOp::Sb,
-                rs1,
-                rs2,
-                imm,
-                memory,
-            ),
-            Meaning::Sh { rs1, rs2, imm } => self.store_data(
-                pc,
-                StoreOp::Sh,
-                rs1,
-                rs2,
-                imm,
-                memory,
-            ),
-            Meaning::Sw { rs1, rs2, imm } => self.store_data(
-                pc,
-                StoreOp::Sw,
-                rs1,
-                rs2,
-                imm,
-                memory,
-            ),
-            Meaning::Addi { rd, rs1, imm } => Some(self.with_immediate(
-                pc,
-                AluImmOp::Addi,
-                rd,
-                rs1,
-                imm,
-            )),
-            Meaning::Slti { rd, rs1, imm } => Some(self.with_immediate(
-                pc,
-                AluImmOp::Slti,
-                rd,
-                rs1,
-                imm,
-            )),
-            Meaning::Sltiu { rd, rs1, imm } => Some(self.with_immediate(
-                pc,
-                AluImmOp::Sltiu,
-                rd,
-                rs1,
-                imm,
-            )),
-            Meaning::Xori { rd, rs1, imm } => Some(self.with_immediate(
-                pc,
-                AluImmOp::Xori,
-                rd,
-                rs1,
-                imm,
-            )),
-            Meaning::Ori { rd, rs1, imm } => Some(self.with_immediate(
-                pc,
-                AluImmOp::Ori,
-                rd,
-                rs1,
-                imm,
-            )),
-            Meaning::Andi { rd, rs1, imm } => Some(self.with_immediate(
-                pc,
-                AluImmOp::Andi,
-                rd,
-                rs1,
-                imm,
-            )),
-            Meaning::Slli { rd, rs1, amount } => Some(self.shift(
-                pc,
-                ShiftOp::Slli,
-                rd,
-                rs1,
-                amount,
-            )),
-            Meaning::Srli { rd, rs1, amount } => Some(self.shift(
-                pc,
-                ShiftOp::Srli,
-                rd,
-                rs1,
-                amount,
-            )),
-            Meaning::Srai { rd, rs1, amount } => Some(self.shift(
-                pc,
-                ShiftOp::Srai,
-                rd,
-                rs1,
-                amount,
-            )),
-            Meaning::Add { rd, rs1, rs2 } => Some(self.operate(pc, AluOp::Add, rd, rs1, rs2)),
-            Meaning::Sub { rd, rs1, rs2 } => Some(self.operate(pc, AluOp::Sub, rd, rs1, rs2)),
-            Meaning::Sll { rd, rs1, rs2 } => Some(self.operate(pc, AluOp::Sll, rd, rs1, rs2)),
-            Meaning::Slt { rd, rs1, rs2 } => Some(self.operate(pc, AluOp::Slt, rd, rs1, rs2)),
-            Meaning::Sltu { rd, rs1, rs2 } => Some(self.operate(pc, AluOp::Sltu, rd, rs1, rs2)),
-            Meaning::Xor { rd, rs1, rs2 } => Some(self.operate(pc, AluOp::Xor, rd, rs1, rs2)),
-            Meaning::Srl { rd, rs1, rs2 } => Some(self.operate(pc, AluOp::Srl, rd, rs1, rs2)),
-            Meaning::Sra { rd, rs1, rs2 } => Some(self.operate(pc, AluOp::Sra, rd, rs1, rs2)),
-            Meaning::Or { rd, rs1, rs2 } => Some(self.operate(pc, AluOp::Or, rd, rs1, rs2)),
-            Meaning::And { rd, rs1, rs2 } => Some(self.operate(pc, AluOp::And, rd, rs1, rs2)),
-            Meaning::Mul { rd, rs1, rs2 } => Some(self.operate(pc, AluOp::Mul, rd, rs1, rs2)),
-            Meaning::Mulh { rd, rs1, rs2 } => Some(self.operate(pc, AluOp::Mulh, rd, rs1, rs2)),
-            Meaning::Mulhsu { rd, rs1, rs2 } => Some(self.operate(pc, AluOp::Mulhsu, rd, rs1, rs2)),
-            Meaning::Mulhu { rd, rs1, rs2 } => Some(self.operate(pc, AluOp::Mulhu, rd, rs1, rs2)),
-            Meaning::Div { rd, rs1, rs2 } => Some(self.operate(pc, AluOp::Div, rd, rs1, rs2)),
-            Meaning::Divu { rd, rs1, rs2 } => Some(self.operate(pc, AluOp::Divu, rd, rs1, rs2)),
-            Meaning::Rem { rd, rs1, rs2 } => Some(self.operate(pc, AluOp::Rem, rd, rs1, rs2)),
-            Meaning::Remu { rd, rs1, rs2 } => Some(self.operate(pc, AluOp::Remu, rd, rs1, rs2)),
+            Meaning::Lb { rd, rs1, imm } => self.read(pc, LoadOp::Lb, rd, rs1, imm, memory),
+            Meaning::Lh { rd, rs1, imm } => self.read(pc, LoadOp::Lh, rd, rs1, imm, memory),
+            Meaning::Lw { rd, rs1, imm } => self.read(pc, LoadOp::Lw, rd, rs1, imm, memory),
+            Meaning::Lbu { rd, rs1, imm } => self.read(pc, LoadOp::Lbu, rd, rs1, imm, memory),
+            Meaning::Lhu { rd, rs1, imm } => self.read(pc, LoadOp::Lhu, rd, rs1, imm, memory),
+            Meaning::Sb { rs1, rs2, imm } => self.write(pc, StoreOp::Sb, rs1, rs2, imm, memory),
+            Meaning::Sh { rs1, rs2, imm } => self.write(pc, StoreOp::Sh, rs1, rs2, imm, memory),
+            Meaning::Sw { rs1, rs2, imm } => self.write(pc, StoreOp::Sw, rs1, rs2, imm, memory),
+            Meaning::Addi { rd, rs1, imm } => self.operate_with(pc, AluImmOp::Addi, rd, rs1, imm),
+            Meaning::Slti { rd, rs1, imm } => self.operate_with(pc, AluImmOp::Slti, rd, rs1, imm),
+            Meaning::Sltiu { rd, rs1, imm } => self.operate_with(pc, AluImmOp::Sltiu, rd, rs1, imm),
+            Meaning::Xori { rd, rs1, imm } => self.operate_with(pc, AluImmOp::Xori, rd, rs1, imm),
+            Meaning::Ori { rd, rs1, imm } => self.operate_with(pc, AluImmOp::Ori, rd, rs1, imm),
+            Meaning::Andi { rd, rs1, imm } => self.operate_with(pc, AluImmOp::Andi, rd, rs1, imm),
+            Meaning::Slli { rd, rs1, amount } => self.shift(pc, ShiftOp::Slli, rd, rs1, amount),
+            Meaning::Srli { rd, rs1, amount } => self.shift(pc, ShiftOp::Srli, rd, rs1, amount),
+            Meaning::Srai { rd, rs1, amount } => self.shift(pc, ShiftOp::Srai, rd, rs1, amount),
+            Meaning::Add { rd, rs1, rs2 } => self.operate(pc, AluOp::Add, rd, rs1, rs2),
+            Meaning::Sub { rd, rs1, rs2 } => self.operate(pc, AluOp::Sub, rd, rs1, rs2),
+            Meaning::Sll { rd, rs1, rs2 } => self.operate(pc, AluOp::Sll, rd, rs1, rs2),
+            Meaning::Slt { rd, rs1, rs2 } => self.operate(pc, AluOp::Slt, rd, rs1, rs2),
+            Meaning::Sltu { rd, rs1, rs2 } => self.operate(pc, AluOp::Sltu, rd, rs1, rs2),
+            Meaning::Xor { rd, rs1, rs2 } => self.operate(pc, AluOp::Xor, rd, rs1, rs2),
+            Meaning::Srl { rd, rs1, rs2 } => self.operate(pc, AluOp::Srl, rd, rs1, rs2),
+            Meaning::Sra { rd, rs1, rs2 } => self.operate(pc, AluOp::Sra, rd, rs1, rs2),
+            Meaning::Or { rd, rs1, rs2 } => self.operate(pc, AluOp::Or, rd, rs1, rs2),
+            Meaning::And { rd, rs1, rs2 } => self.operate(pc, AluOp::And, rd, rs1, rs2),
+            Meaning::Mul { rd, rs1, rs2 } => self.operate(pc, AluOp::Mul, rd, rs1, rs2),
+            Meaning::Mulh { rd, rs1, rs2 } => self.operate(pc, AluOp::Mulh, rd, rs1, rs2),
+            Meaning::Mulhsu { rd, rs1, rs2 } => self.operate(pc, AluOp::Mulhsu, rd, rs1, rs2),
+            Meaning::Mulhu { rd, rs1, rs2 } => self.operate(pc, AluOp::Mulhu, rd, rs1, rs2),
+            Meaning::Div { rd, rs1, rs2 } => self.operate(pc, AluOp::Div, rd, rs1, rs2),
+            Meaning::Divu { rd, rs1, rs2 } => self.operate(pc, AluOp::Divu, rd, rs1, rs2),
+            Meaning::Rem { rd, rs1, rs2 } => self.operate(pc, AluOp::Rem, rd, rs1, rs2),
+            Meaning::Remu { rd, rs1, rs2 } => self.operate(pc, AluOp::Remu, rd, rs1, rs2),
             Meaning::Fence => Some(self.go_to(pc.wrapping_add(4))),
             _ => None,
         }
@@ -173,42 +96,42 @@ impl Hart {
 
     /// Writes a register, and goes on behind the program counter.
     #[inline(always)]
-    fn give_from(&mut self, pc: u32, rd: Reg, value: u32) -> u32
+    fn give_from(&mut self, pc: u32, rd: Reg, value: u32) -> Option<u32>
         requires { pc ≡ self.old.pc }
         ensures hart { self.new ≡ given self.old rd value }
-        ensures next { result ≡ self.new.pc }
+        ensures next { result ≡ Some self.new.pc }
     {
         self.set_register(rd, value);
-        self.go_to(pc.wrapping_add(4))
+        Some(self.go_to(pc.wrapping_add(4)))
     }
 
     /// Writes what an operation comes to, which is known where this is laid in: so no turn asks which it is.
     #[inline(always)]
-    fn operate(&mut self, pc: u32, op: AluOp, rd: Reg, rs1: Reg, rs2: Reg) -> u32
+    fn operate(&mut self, pc: u32, op: AluOp, rd: Reg, rs1: Reg, rs2: Reg) -> Option<u32>
         requires { pc ≡ self.old.pc }
         ensures hart { self.new ≡ given self.old rd (computed_of op (register self.old rs1) (register self.old rs2)) }
-        ensures next { result ≡ self.new.pc }
+        ensures next { result ≡ Some self.new.pc }
     {
         self.give_from(pc, rd, computed(op, self.register(rs1), self.register(rs2)))
     }
 
     /// The same of a register and an immediate.
     #[inline(always)]
-    fn with_immediate(&mut self, pc: u32, op: AluImmOp, rd: Reg, rs1: Reg, imm: Imm12) -> u32
+    fn operate_with(&mut self, pc: u32, op: AluImmOp, rd: Reg, rs1: Reg, imm: Imm12) -> Option<u32>
         requires { pc ≡ self.old.pc }
         ensures hart { self.new ≡ given self.old rd (computed_with_immediate_of op (register self.old rs1)
             (extended imm)) }
-        ensures next { result ≡ self.new.pc }
+        ensures next { result ≡ Some self.new.pc }
     {
         self.give_from(pc, rd, computed_with_immediate(op, self.register(rs1), imm))
     }
 
     /// The same of a shift by an amount in the word.
     #[inline(always)]
-    fn shift(&mut self, pc: u32, op: ShiftOp, rd: Reg, rs1: Reg, amount: ShiftAmount) -> u32
+    fn shift(&mut self, pc: u32, op: ShiftOp, rd: Reg, rs1: Reg, amount: ShiftAmount) -> Option<u32>
         requires { pc ≡ self.old.pc }
         ensures hart { self.new ≡ given self.old rd (shifted_of op (register self.old rs1) amount) }
-        ensures next { result ≡ self.new.pc }
+        ensures next { result ≡ Some self.new.pc }
     {
         self.give_from(pc, rd, shifted(op, self.register(rs1), amount))
     }
@@ -216,7 +139,7 @@ impl Hart {
     /// A load of data, which is left where it traps. That all of it is data is asked first, so that a load asks nothing
     /// of text.
     #[inline(always)]
-    fn load_data<M: Bytes>(
+    fn read<M: Bytes>(
         &mut self,
         pc: u32,
         op: LoadOp,
@@ -236,14 +159,14 @@ impl Hart {
             return None;
         }
         match load(op, memory, address) {
-            Ok(value) => Some(self.give_from(pc, rd, value)),
+            Ok(value) => self.give_from(pc, rd, value),
             Err(_) => None,
         }
     }
 
     /// A store, which is left where it traps.
     #[inline(always)]
-    fn store_data<M: Bytes>(
+    fn write<M: Bytes>(
         &mut self,
         pc: u32,
         op: StoreOp,
@@ -301,7 +224,7 @@ impl Hart {
 
     /// Goes on at the target, unless that is no multiple of 4.
     #[inline(always)]
-    fn jump(&mut self, target: u32) -> Option<u32>
+    pub(crate) fn jump(&mut self, target: u32) -> Option<u32>
         ensures allowed { OnSome result (jump_fault (Some target) ≡ None) }
         ensures hart { OnSome result (self.new ≡ at_pc self.old target) }
         ensures next { IfSome result (λ next. next ≡ target) }
@@ -313,26 +236,10 @@ impl Hart {
         }
         Some(self.go_to(target))
     }
-
-    /// Jumps, with the address of the next instruction in `rd`; where the target is misaligned, no link is
-    /// written.
-    #[inline(always)]
-    fn jump_and_link(&mut self, pc: u32, rd: Reg, target: u32) -> Option<u32>
-        requires { pc ≡ self.old.pc }
-        ensures allowed { OnSome result (jump_fault (Some target) ≡ None) }
-        ensures hart { OnSome result (self.new ≡ linked self.old rd target) }
-        ensures next { IfSome result (λ next. next ≡ self.new.pc) }
-        ensures misaligned { IfNone result (jump_fault (Some target) ≡ Some Trap.MisalignedTarget) }
-        ensures unchanged { IfNone result (self.new ≡ self.old) }
-    {
-        let next = self.jump(target)?;
-        self.set_register(rd, pc.wrapping_add(4));
-        Some(next)
-    }
 }
 
 /// So many bytes from a program counter, modulo 2^32.
-fn target(pc: u32, offset: i32) -> u32
+pub(crate) fn target(pc: u32, offset: i32) -> u32
     ensures { result ≡ plus pc offset }
 {
     pc.wrapping_add(offset.cast_unsigned())

@@ -267,9 +267,7 @@ impl Machine {
 
 /// Turns of a hart that runs, over a memory whose words mean this, until one doesn't step or so many are made: it runs
 /// on exactly where a turn steps, so that its status is never read. Hart, memory and meanings are found once for all
-/// turns, and the program counter is held beside the hart. All turns are made here, so that the table of the
-/// instructions is laid in once.
-#[inline(never)]
+/// turns, and the program counter is held beside the hart.
 fn run_alone(hart: &mut Hart, memory: &mut Memory, meanings: &[Meaning], most: u64) -> Stretch
     requires runs { hart.old.status ≡ Status.Running }
     requires meant { meanings.now ≡ map word_meaning memory.old.text }
@@ -279,20 +277,38 @@ fn run_alone(hart: &mut Hart, memory: &mut Memory, meanings: &[Meaning], most: u
     ensures text { memory.new.text ≡ memory.old.text }
     ensures stretch { IsStretch (alone memory.old hart.old) 0 most result.made result.last }
 {
-    let mut made = 1;
+    let (left, last) = run_down(hart, memory, meanings, most);
+    Stretch {
+        made: most - (left - 1),
+        last,
+    }
+}
+
+/// The same, with how many turns were left before the last one. A loop that counts them down keeps nothing else of
+/// them; and all turns are made in it, so that the table of the instructions is laid in once.
+#[inline(never)]
+fn run_down(hart: &mut Hart, memory: &mut Memory, meanings: &[Meaning], most: u64) -> (u64, Outcome)
+    requires runs { hart.old.status ≡ Status.Running }
+    requires meant { meanings.now ≡ map word_meaning memory.old.text }
+    requires few { length meanings.now ≤ most_words }
+    requires some { 1 ≤ most }
+    ensures within { (1 ≤ result.0) × (result.0 ≤ most) }
+    ensures state { alone memory.new hart.new
+        ≡ run (alone memory.old hart.old) (replicate (most - (result.0 - 1)) 0) }
+    ensures text { memory.new.text ≡ memory.old.text }
+    ensures stretch { IsStretch (alone memory.old hart.old) 0 most (most - (result.0 - 1)) result.1 }
+{
+    let mut left = most;
     let mut pc = hart.pc();
     loop {
         match step_meant(hart, pc, memory, meanings) {
             Ok(next) => pc = next,
-            Err(last) => return Stretch { made, last },
+            Err(last) => return (left, last),
         }
-        if made == most {
-            return Stretch {
-                made,
-                last: Outcome::Stepped,
-            };
+        left -= 1;
+        if left == 0 {
+            return (1, Outcome::Stepped);
         }
-        made += 1;
     }
 }
 

@@ -26,11 +26,12 @@ fault_by (Some insn) words bytes hart = fault words bytes insn hart
 abbrev pub IsScalar : Meaning → Type 0
 IsScalar meaning = (insn : VectorInsn) → meaning ≢ meanings.Vector insn
 
--- What the turns of a loop leave: jumps that are misaligned, and whatever may trap otherwise, isn't scalar, or ends the hart.
+-- What the table of the instructions leaves: branches that are misaligned, and whatever else may trap, jumps with a link, isn't scalar,
+-- or ends the hart.
 abbrev pub IsLeft : Option Insn → HartState → Type 0
 IsLeft None hart = ⊤
-IsLeft (Some (insns.Jal rd offset)) hart = jump_fault (jump_of (insns.Jal rd offset) hart) ≡ Some MisalignedTarget
-IsLeft (Some (insns.Jalr rd rs1 imm)) hart = jump_fault (jump_of (insns.Jalr rd rs1 imm) hart) ≡ Some MisalignedTarget
+IsLeft (Some (insns.Jal rd offset)) hart = ⊤
+IsLeft (Some (insns.Jalr rd rs1 imm)) hart = ⊤
 IsLeft (Some (insns.Branch op rs1 rs2 offset)) hart = jump_fault (jump_of (insns.Branch op rs1 rs2 offset) hart) ≡ Some MisalignedTarget
 IsLeft (Some (insns.Load op rd rs1 imm)) hart = ⊤
 IsLeft (Some (insns.Store op rs1 rs2 imm)) hart = ⊤
