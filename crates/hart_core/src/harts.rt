@@ -1,6 +1,6 @@
 //! The state of one hart.
 
-ghost use Rattle.std.specs.Prelude.{◌≡◌, ◌<◌, ◌≤◌, ◌^◌, ◌&&◌, not, ℕ, None, true, false, slice_index, OnOk, OnErr};
+ghost use Rattle.std.specs.Prelude.{◌≡◌, ◌<◌, ◌≤◌, ◌^◌, ◌&&◌, not, None, true, false, slice_index, OnOk, OnErr};
 ghost use Rattle.std.specs.Prelude.{IfOk, IfErr};
 ghost use Rattle.vector_unit.specs.Vector.{configured, has_vill, is_illegal_configuration};
 ghost use Rattle.vector_unit.specs.Vector.{bits_of, is_own, is_refused, vector_after, scalar_given, number_of};
@@ -217,18 +217,18 @@ impl Hart {
         self.unit.execute(insn, scalar)
     }
 
-    /// Executes an instruction on single registers of words, and answers whether it was one that is legal here. With
-    /// any other nothing is changed.
+    /// Executes an instruction on whole groups of words, and answers whether it was one that is legal here. With any
+    /// other nothing is changed.
     #[inline(always)]
-    pub(crate) fn compute_on_words(&mut self, insn: &VectorInsn) -> bool
+    pub(crate) fn compute_on_wholes(&mut self, insn: &VectorInsn, scalar: u32) -> bool
         ensures own { result ≡ true → is_own insn.now ≡ true }
         ensures legal { result ≡ true → is_refused insn.now (vectors_of self.old) ≡ false }
-        ensures state { result ≡ true → (x : ℕ → ℕ)
-            → self.new ≡ with_vectors self.old (vector_after insn.now x (vectors_of self.old)) }
+        ensures state { result ≡ true
+            → self.new ≡ with_vectors self.old (vector_after insn.now (λ r. scalar) (vectors_of self.old)) }
         ensures given { result ≡ true → scalar_given insn.now (vectors_of self.old) ≡ None }
         ensures unchanged { result ≡ false → self.new ≡ self.old }
     {
-        self.unit.execute_on_words(insn)
+        self.unit.execute_on_wholes(insn, scalar)
     }
 
     /// Writes numbers to the active elements of a vector register or group.

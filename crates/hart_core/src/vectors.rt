@@ -70,7 +70,8 @@ impl Hart {
             } => {
                 self.check_legal(insn)?;
                 let access = self.access(Group { width, v: vd }, vm, rs1, addressing);
-                self.load_vector(memory, &access)
+                self.load_vector(memory, &access)?;
+                Ok(Outcome::Stepped)
             }
             VectorInsn::StoreElements {
                 width,
@@ -81,7 +82,8 @@ impl Hart {
             } => {
                 self.check_legal(insn)?;
                 let access = self.access(Group { width, v: vs3 }, vm, rs1, addressing);
-                self.store_vector(memory, &access)
+                self.store_vector(memory, &access)?;
+                Ok(Outcome::Stepped)
             }
             _ => self.execute_on_registers(insn),
         }
@@ -130,6 +132,7 @@ impl Hart {
     }
 
     /// Executes an instruction that neither configures the unit nor touches memory.
+    #[inline(always)]
     fn execute_on_registers(&mut self, insn: &VectorInsn) -> Result<Outcome, Trap>
         ensures own { OnOk result (is_own insn.now ≡ true) }
         ensures legal { OnOk result (is_refused insn.now (vectors_of self.old) ≡ false) }
@@ -139,15 +142,32 @@ impl Hart {
         ensures trap { IfErr result (λ trap. trap ≡ Trap.IllegalInstruction) }
         ensures unchanged { OnErr result (self.new ≡ self.old) }
     {
-        if self.compute_on_words(insn) {
+        let scalar = self.scalar_of(insn);
+        if self.compute_on_wholes(insn, scalar) {
             return Ok(self.advance());
         }
+        self.execute_in_parts(insn)?;
+        Ok(Outcome::Stepped)
+    }
+
+    /// The same of those that work on parts of groups, on other elements than words, or on single elements. It is a
+    /// function of its own, so that the others need no room.
+    #[inline(never)]
+    fn execute_in_parts(&mut self, insn: &VectorInsn) -> Result<(), Trap>
+        ensures own { OnOk result (is_own insn.now ≡ true) }
+        ensures legal { OnOk result (is_refused insn.now (vectors_of self.old) ≡ false) }
+        ensures hart { OnOk result (self.new ≡ computed_by insn.now self.old) }
+        ensures illegal { OnErr result (is_own insn.now && not (is_refused insn.now (vectors_of self.old)) ≡ false) }
+        ensures trap { IfErr result (λ trap. trap ≡ Trap.IllegalInstruction) }
+        ensures unchanged { OnErr result (self.new ≡ self.old) }
+    {
         let scalar = self.scalar_of(insn);
         let given = self.compute(insn, scalar)?;
         if let (Some(number), VectorInsn::MoveToScalar { rd, .. }) = (given, *insn) {
             self.set_register(rd, number);
         }
-        Ok(self.advance())
+        self.advance();
+        Ok(())
     }
 
     /// How the elements of a load or store lie.
@@ -187,15 +207,14 @@ impl Hart {
     }
 
     /// Loads the active elements of a register, or says which trap the first that can't be loaded makes.
-    #[inline(always)]
-    fn load_vector<M: Bytes>(&mut self, memory: &M, access: &VectorAccess) -> Result<Outcome, Trap>
+    #[inline(never)]
+    fn load_vector<M: Bytes>(&mut self, memory: &M, access: &VectorAccess) -> Result<(), Trap>
         requires { has_vill (vectors_of self.old) ≡ false }
         ensures fits { OnOk result (first_fault (length (M.text memory.now)) (length (M.memory memory.now)) Reads
             (accesses_of self.old access.now) ≡ None) }
         ensures hart { OnOk result (self.new ≡ advanced (with_vectors self.old (loaded (vectors_of self.old)
             access.now.group.width access.now.group.v access.now.vm
             (map (number_at (M.text memory.now) (M.memory memory.now)) (accesses_of self.old access.now))))) }
-        ensures outcome { IfOk result (λ outcome. outcome ≡ Outcome.Stepped) }
         ensures err { IfErr result (λ trap. first_fault (length (M.text memory.now)) (length (M.memory memory.now))
             Reads (accesses_of self.old access.now) ≡ Some trap) }
         ensures unchanged { OnErr result (self.new ≡ self.old) }
@@ -211,7 +230,8 @@ impl Hart {
             base,
         ) {
             self.load_group(memory, group, base);
-            return Ok(self.advance());
+            self.advance();
+            return Ok(());
         }
         self.load_each(memory, *access)
     }
@@ -219,14 +239,13 @@ impl Hart {
     /// The same, each element judged on its own. It is a function of its own, so that accesses in one piece need no
     /// room for addresses.
     #[inline(never)]
-    fn load_each<M: Bytes>(&mut self, memory: &M, access: VectorAccess) -> Result<Outcome, Trap>
+    fn load_each<M: Bytes>(&mut self, memory: &M, access: VectorAccess) -> Result<(), Trap>
         requires { has_vill (vectors_of self.old) ≡ false }
         ensures fits { OnOk result (first_fault (length (M.text memory.now)) (length (M.memory memory.now)) Reads
             (accesses_of self.old access) ≡ None) }
         ensures hart { OnOk result (self.new ≡ advanced (with_vectors self.old (loaded (vectors_of self.old)
             access.group.width access.group.v access.vm
             (map (number_at (M.text memory.now) (M.memory memory.now)) (accesses_of self.old access))))) }
-        ensures outcome { IfOk result (λ outcome. outcome ≡ Outcome.Stepped) }
         ensures err { IfErr result (λ trap. first_fault (length (M.text memory.now)) (length (M.memory memory.now))
             Reads (accesses_of self.old access) ≡ Some trap) }
         ensures unchanged { OnErr result (self.new ≡ self.old) }
@@ -240,17 +259,14 @@ impl Hart {
         let addresses = self.addresses(spacing, vm, rs1);
         let numbers = read_numbers(width, memory, addresses.as_slice())?;
         self.load_elements(width, vd, vm, numbers.as_slice());
-        Ok(self.advance())
+        self.advance();
+        Ok(())
     }
 
     /// Stores the active elements of a register, or says which trap the first that can't be stored makes and
     /// writes nothing.
-    #[inline(always)]
-    fn store_vector<M: Bytes>(
-        &mut self,
-        memory: &mut M,
-        access: &VectorAccess,
-    ) -> Result<Outcome, Trap>
+    #[inline(never)]
+    fn store_vector<M: Bytes>(&mut self, memory: &mut M, access: &VectorAccess) -> Result<(), Trap>
         requires { has_vill (vectors_of self.old) ≡ false }
         ensures fits { OnOk result (first_fault (length (M.text memory.old)) (length (M.memory memory.old)) Writes
             (accesses_of self.old access.now) ≡ None) }
@@ -259,7 +275,6 @@ impl Hart {
             ≡ put (M.memory memory.old) (touched (accesses_of self.old access.now))
             (spread (accesses_of self.old access.now)
             (active_numbers (vectors_of self.old) access.now.group.width access.now.group.v access.now.vm))) }
-        ensures outcome { IfOk result (λ outcome. outcome ≡ Outcome.Stepped) }
         ensures err { IfErr result (λ trap. first_fault (length (M.text memory.old)) (length (M.memory memory.old))
             Writes (accesses_of self.old access.now) ≡ Some trap) }
         ensures unchanged { OnErr result (self.new ≡ self.old) }
@@ -277,18 +292,15 @@ impl Hart {
             base,
         ) {
             store_group(memory, self.vectors(), group, base);
-            return Ok(self.advance());
+            self.advance();
+            return Ok(());
         }
         self.store_each(memory, *access)
     }
 
     /// The same, each element judged on its own.
     #[inline(never)]
-    fn store_each<M: Bytes>(
-        &mut self,
-        memory: &mut M,
-        access: VectorAccess,
-    ) -> Result<Outcome, Trap>
+    fn store_each<M: Bytes>(&mut self, memory: &mut M, access: VectorAccess) -> Result<(), Trap>
         requires { has_vill (vectors_of self.old) ≡ false }
         ensures fits { OnOk result (first_fault (length (M.text memory.old)) (length (M.memory memory.old)) Writes
             (accesses_of self.old access) ≡ None) }
@@ -297,7 +309,6 @@ impl Hart {
             ≡ put (M.memory memory.old) (touched (accesses_of self.old access))
             (spread (accesses_of self.old access)
             (active_numbers (vectors_of self.old) access.group.width access.group.v access.vm))) }
-        ensures outcome { IfOk result (λ outcome. outcome ≡ Outcome.Stepped) }
         ensures err { IfErr result (λ trap. first_fault (length (M.text memory.old)) (length (M.memory memory.old))
             Writes (accesses_of self.old access) ≡ Some trap) }
         ensures unchanged { OnErr result (self.new ≡ self.old) }
@@ -314,6 +325,7 @@ impl Hart {
         check_stores(width, memory, addresses.as_slice())?;
         let numbers = self.vectors().active_numbers(width, vs3, vm);
         write_numbers(width, memory, addresses.as_slice(), numbers.as_slice());
-        Ok(self.advance())
+        self.advance();
+        Ok(())
     }
 }

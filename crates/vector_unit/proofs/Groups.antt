@@ -59,11 +59,11 @@ cut_by state (inl e) l = cut_8 state e (group state) l refl
 cut_by state (inr (inl e)) l = cut_16 state e (group state) l refl
 cut_by state (inr (inr e)) l = cut_32 state e (group state) l refl
 
-is_cut : (state : Vectors) → has_vill state ≡ false → IsCut state
+pub is_cut : (state : Vectors) → has_vill state ≡ false → IsCut state
 is_cut state e = cut_by state (is_width state e) (is_small state e)
 
 -- a part of a group lies in it
-within : (state : Vectors) → IsCut state → (part : ℕ) → part < group state → part * own_count state + own_count state ≤ count state
+pub within : (state : Vectors) → IsCut state → (part : ℕ) → part < group state → part * own_count state + own_count state ≤ count state
 within state cut part l =
     let n = own_count state in
     let le : suc part * n ≤ group state * n = mul-le-mul_right n l in
@@ -76,7 +76,7 @@ own : (state : Vectors) → IsCut state → (v part i : ℕ) → i < own_count s
     → element_from state (width state) v (part * own_count state + i) ≡ element (width state) (register state (v + part)) i
 own state cut v part i l = let place = cut.place part i l in rw (place.0, place.1) refl
 
-part-group : (state : Vectors) → IsCut state → (v part : ℕ) → part < group state → part_of (own_count state) part (of_group state v)
+pub part-group : (state : Vectors) → IsCut state → (v part : ℕ) → part < group state → part_of (own_count state) part (of_group state v)
     ≡ register_part state v part
 unfolding elements
 part-group state cut v part l =
@@ -84,7 +84,7 @@ part-group state cut v part l =
     ∙ same-below (λ i. element_from state (width state) v (part * own_count state + i)) (element (width state) (register state (v + part))) (own_count state)
     (λ i low. own state cut v part i low)
 
-part-operand : (state : Vectors) → IsCut state → (other : Operand) (part : ℕ) → part < group state
+pub part-operand : (state : Vectors) → IsCut state → (other : Operand) (part : ℕ) → part < group state
     → part_of (own_count state) part (operand_elements state other) ≡ operand_part state other part
 part-operand state cut (Register v) part l = part-group state cut v part l
 part-operand state cut (Number n) part l = part-replicate _ (own_count state) part (count state) (within state cut part l)
@@ -132,7 +132,7 @@ part-new state cut (Bytes vs2) part l = part-range (slice_index (register state 
 
 -- ---- elements
 
-next_part : {A : Type 0} (n part : ℕ) (xs : List A) → drop n (drop (part * n) xs) ≡ drop ((part + 1) * n) xs
+pub next_part : {A : Type 0} (n part : ℕ) (xs : List A) → drop n (drop (part * n) xs) ≡ drop ((part + 1) * n) xs
 next_part n part xs =
     let one : part + 1 ≡ suc part = omega arith in
     let more : part * n + n ≡ (part + 1) * n = rw one (sym (suc-mul part n)) in
@@ -155,7 +155,7 @@ in_parts state cut vd vm new (suc others) part l =
     rw (next_part n part all, after) (in_parts state cut vd vm new others (part + 1) (omega arith)) in
     rw (here, there) refl
 
-from_none : (n : ℕ) → 0 * n ≡ 0
+pub from_none : (n : ℕ) → 0 * n ≡ 0
 from_none n = omega arith
 
 pub written : (state : Vectors) → has_vill state ≡ false → (vd : ℕ) (vm : Bool) (new : NewElements)

@@ -4,3 +4,4 @@ pub mod Configurations
 pub mod Groups
 pub mod Parts
 pub mod Zips
+pub mod Whole

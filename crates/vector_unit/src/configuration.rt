@@ -2,7 +2,8 @@
 
 ghost use Rattle.std.specs.Prelude.{◌≡◌, true, false, OnOk, OnErr, IfOk, IfErr};
 ghost use Rattle.rv_insn.specs.declared.outcomes.Trap.TheVariants.{IllegalInstruction};
-ghost use Rattle.vector_unit.specs.Vector.{asked_by, configured, is_illegal_configuration};
+ghost use Rattle.vector_unit.specs.Vector.{asked_by, configured, is_illegal_configuration, is_supported};
+ghost use Rattle.vector_unit.specs.inner.Wholes.{is_whole_of};
 
 use crate::states::{VILL, VILL_COUNT, VectorState};
 use crate::vtypes::{is_supported, most_elements};
@@ -51,6 +52,7 @@ impl VectorState {
             self.vtype = VILL;
             self.count = VILL_COUNT;
             self.is_configured = false;
+            self.is_whole = false;
             return Ok(0);
         }
         let most = most_elements(vtype);
@@ -68,6 +70,15 @@ impl VectorState {
         self.vtype = vtype;
         self.count = most;
         self.is_configured = true;
+        self.is_whole = is_whole(vtype, vl);
         Ok(vl)
     }
+}
+
+/// Whether elements are words under a supported vtype, and so many are all of a group.
+fn is_whole(vtype: u32, vl: u32) -> bool
+    requires { is_supported vtype ≡ true }
+    ensures { result ≡ is_whole_of vtype vl }
+{
+    vtype / 8 % 8 == 2 && most_elements(vtype) <= vl
 }

@@ -59,7 +59,7 @@ impl VectorState {
 
     /// Whether a register doesn't begin a group.
     #[inline(always)]
-    fn is_inside(&self, v: VReg) -> bool
+    pub(crate) fn is_inside(&self, v: VReg) -> bool
         ensures { result ≡ not (v % group self.now == 0) }
     {
         v.number() as usize % self.group() != 0

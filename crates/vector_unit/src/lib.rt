@@ -19,9 +19,11 @@ mod execution;
 mod numbers;
 mod operands;
 mod operations;
+mod pair_operations;
 mod singles;
 mod states;
 mod vtypes;
+mod wholes;
 
 pub use crate::accesses::Spacing;
 pub use crate::configuration::Asked;

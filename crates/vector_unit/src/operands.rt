@@ -74,7 +74,7 @@ impl Pair {
 }
 
 /// The word of 32 bits whose low bits an immediate is, at each width.
-fn word_of(imm: Imm5) -> u32
+pub(crate) fn word_of(imm: Imm5) -> u32
     ensures bytes { result % 2 ^ 8 ≡ wrapped 8 imm }
     ensures halves { result % 2 ^ 16 ≡ wrapped 16 imm }
     ensures words { result % 2 ^ 32 ≡ wrapped 32 imm }

@@ -1,8 +1,9 @@
 //! The vector state of a hart.
 
-ghost use Rattle.std.specs.Prelude.{◌≡◌, ◌<◌, ◌≤◌, ◌+◌, false, [], slice_index_or};
+ghost use Rattle.std.specs.Prelude.{◌≡◌, ◌<◌, ◌≤◌, ◌+◌, true, false, [], slice_index_or};
 ghost use Rattle.vector_unit.specs.Vector.{register, with_register, opening_vector_state, has_vill};
 ghost use Rattle.vector_unit.specs.Vector.{group};
+ghost use Rattle.vector_unit.specs.inner.Wholes.{IsWhole};
 
 use crate::vtypes::group_of;
 use rv_insn::VReg;
@@ -25,17 +26,21 @@ pub struct VectorState {
     pub(crate) count: u32,
     /// Whether the vtype is one of this machine's.
     pub(crate) is_configured: bool,
+    /// Whether elements are words, and instructions that aren't masked work on all of a group.
+    pub(crate) is_whole: bool,
 }
 
 impl Model for VectorState {
     ghost use Rattle.std.specs.Prelude.{◌≡◌};
     ghost use Rattle.vector_unit.specs.Vector.{Vectors, most_elements, is_supported};
+    ghost use Rattle.vector_unit.specs.inner.Wholes.{is_whole_of};
 
     ghost Value = { Vectors };
 
     ghost view = { λ s. record { registers = s.registers; vl = s.vl; vtype = s.vtype } };
 
-    ghost invariant = { λ s. (s.count ≡ most_elements s.vtype) × (s.is_configured ≡ is_supported s.vtype) };
+    ghost invariant = { λ s. (s.count ≡ most_elements s.vtype) × (s.is_configured ≡ is_supported s.vtype) ×
+        (s.is_whole ≡ is_whole_of s.vtype s.vl) };
 }
 
 impl VectorState {
@@ -49,6 +54,7 @@ impl VectorState {
             vtype: VILL,
             count: VILL_COUNT,
             is_configured: false,
+            is_whole: false,
         }
     }
 
@@ -62,6 +68,7 @@ impl VectorState {
             vtype: self.vtype,
             count: self.count,
             is_configured: self.is_configured,
+            is_whole: self.is_whole,
         }
     }
 
@@ -124,6 +131,14 @@ impl VectorState {
         ensures { result ≡ self.now.vtype }
     {
         self.vtype
+    }
+
+    /// Whether elements are words, and instructions that aren't masked work on all of a group.
+    #[tactic(auto, using(crate::proofs::Whole::known_whole))]
+    pub(crate) fn is_whole(&self) -> bool
+        ensures { result ≡ true → IsWhole self.now }
+    {
+        self.is_whole
     }
 
     /// Whether there is no configuration.
