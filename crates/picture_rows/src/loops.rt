@@ -6,8 +6,10 @@ ghost use Rattle.picture_rows.specs.Rows.{AreValues};
 
 use halide_pipeline::{Operation, words};
 
-/// What an operation makes of both words at each place, in place of the first.
-pub fn combine(operation: Operation, values: &mut [u32], others: &[u32])
+/// What this operation makes of both words at each place, in place of the first. Where it is put in place with a literal
+/// operation it is a loop over vectors.
+#[inline(always)]
+fn combine_as(operation: Operation, values: &mut [u32], others: &[u32])
     requires { length values.old ≡ length others.now }
     ensures { AreValues (length values.old) (λ at. word.applied operation (slice_index values.old at)
         (slice_index others.now at)) values.new }
@@ -17,13 +19,56 @@ pub fn combine(operation: Operation, values: &mut [u32], others: &[u32])
     }
 }
 
-/// What an operation makes of each word and this one, in its place.
-pub fn combine_with(operation: Operation, values: &mut [u32], other: u32)
+/// What an operation makes of both words at each place, in place of the first: a loop for each operation, so that none is
+/// told apart inside of it.
+pub fn combine(operation: Operation, values: &mut [u32], others: &[u32])
+    requires { length values.old ≡ length others.now }
+    ensures { AreValues (length values.old) (λ at. word.applied operation (slice_index values.old at)
+        (slice_index others.now at)) values.new }
+{
+    match operation {
+        Operation::Add => combine_as(Operation::Add, values, others),
+        Operation::Subtract => combine_as(Operation::Subtract, values, others),
+        Operation::Multiply => combine_as(Operation::Multiply, values, others),
+        Operation::Minimum => combine_as(Operation::Minimum, values, others),
+        Operation::Maximum => combine_as(Operation::Maximum, values, others),
+        Operation::Less => combine_as(Operation::Less, values, others),
+        Operation::LessOrEqual => combine_as(Operation::LessOrEqual, values, others),
+        Operation::Greater => combine_as(Operation::Greater, values, others),
+        Operation::GreaterOrEqual => combine_as(Operation::GreaterOrEqual, values, others),
+        Operation::Equal => combine_as(Operation::Equal, values, others),
+        Operation::NotEqual => combine_as(Operation::NotEqual, values, others),
+    }
+}
+
+/// What this operation makes of each word and this one, in its place; as [`combine_as`].
+#[inline(always)]
+fn combine_with_as(operation: Operation, values: &mut [u32], other: u32)
     ensures { AreValues (length values.old) (λ at. word.applied operation (slice_index values.old at) other)
         values.new }
 {
     for at in 0..values.len() {
         values[at] = operation.apply(values[at], other);
+    }
+}
+
+/// What an operation makes of each word and this one, in its place.
+pub fn combine_with(operation: Operation, values: &mut [u32], other: u32)
+    ensures { AreValues (length values.old) (λ at. word.applied operation (slice_index values.old at) other)
+        values.new }
+{
+    match operation {
+        Operation::Add => combine_with_as(Operation::Add, values, other),
+        Operation::Subtract => combine_with_as(Operation::Subtract, values, other),
+        Operation::Multiply => combine_with_as(Operation::Multiply, values, other),
+        Operation::Minimum => combine_with_as(Operation::Minimum, values, other),
+        Operation::Maximum => combine_with_as(Operation::Maximum, values, other),
+        Operation::Less => combine_with_as(Operation::Less, values, other),
+        Operation::LessOrEqual => combine_with_as(Operation::LessOrEqual, values, other),
+        Operation::Greater => combine_with_as(Operation::Greater, values, other),
+        Operation::GreaterOrEqual => combine_with_as(Operation::GreaterOrEqual, values, other),
+        Operation::Equal => combine_with_as(Operation::Equal, values, other),
+        Operation::NotEqual => combine_with_as(Operation::NotEqual, values, other),
     }
 }
 
