@@ -6,15 +6,17 @@ ghost use Rattle.halide_pipeline.specs.Pixel as spec;
 ghost use Rattle.halide_pipeline.specs.Words as word;
 ghost use Rattle.picture.specs.inner.Evaluation.{earlier_of, reads_in, AreTables, IsTable};
 ghost use Rattle.picture.specs.declared.scenes.State.TheVariants as states;
-ghost use Rattle.picture_rows.specs.Rows.{HasLength, IsRow, IsWindow, value_at};
+ghost use Rattle.halide_pipeline.specs.declared.expressions.Source.TheVariants as sources;
+ghost use Rattle.picture_rows.specs.Rows.{HasLength, IsRow, IsWindow, clamped, value_at};
 
+use crate::lookups::input_pixel;
 use crate::pictures::Picture;
 use crate::plain::read;
 use crate::points::product;
 use crate::scenes::{Scene, State, Table};
 use halide_pipeline::{Source, words};
 use picture_rows::windows::stretch;
-use picture_rows::{Row, Window};
+use picture_rows::{Clamp, Row, Window};
 use std::alloc::AllocError;
 
 /// The row of an input's pixels; nothing of it where the input has none.
@@ -58,7 +60,7 @@ pub(crate) fn table_window<'a>(table: &'a Table, y: u32) -> Window<'a>
 }
 
 /// The table of the Func at a place.
-fn table_at<'a>(tables: &'a [Table], place: usize) -> Option<&'a Table>
+pub(crate) fn table_at<'a>(tables: &'a [Table], place: usize) -> Option<&'a Table>
     ensures { option_copied result ≡ slice_get tables.now place }
 {
     tables.get(place)
@@ -179,6 +181,51 @@ fn read_stretch(
     Ok(row)
 }
 
+/// The pixels of a source in one row and in columns one beside the other that are clamped.
+fn read_clamped(
+    scene: &Scene,
+    own: usize,
+    source: Source,
+    clamp: Clamp,
+    y: u32,
+    width: usize,
+) -> Result<Row, AllocError>
+    requires tables { AreTables scene.now }
+    requires narrow { width < 2 ^ 32 }
+    ensures { IfOk result (IsRow width (λ at. reads_in scene.now own states.Earlier source (clamped clamp at) y)) }
+{
+    let known = window(scene, own, source, y);
+    if let Some(values) = known.clamped(scene.alloc, clamp, width)? {
+        return Ok(Row::Each(values));
+    }
+    let row = read_columns(scene, own, source, &Row::Clamped(clamp), y, width)?;
+    Ok(row)
+}
+
+/// The pixels of an input at points.
+fn read_inputs(
+    scene: &Scene,
+    own: usize,
+    place: usize,
+    x: &Row,
+    y: &Row,
+    width: usize,
+) -> Result<Row, AllocError>
+    requires columns { HasLength width x.now }
+    requires rows { HasLength width y.now }
+    requires narrow { width < 2 ^ 32 }
+    ensures { IfOk result (IsRow width (λ at. reads_in scene.now own states.Earlier (sources.Input place)
+        (value_at x.now at) (value_at y.now at))) }
+{
+    let mut values = vec![in scene.alloc; 0; width]?;
+    for at in 0..width {
+        let column = x.value_at(at, width);
+        let row = y.value_at(at, width);
+        values[at] = input_pixel(scene.pictures, place, column, row);
+    }
+    Ok(Row::Each(values))
+}
+
 /// The pixels of a source at points.
 fn read_points(
     scene: &Scene,
@@ -195,6 +242,10 @@ fn read_points(
     ensures { IfOk result (IsRow width (λ at. reads_in scene.now own states.Earlier source (value_at x.now at)
         (value_at y.now at))) }
 {
+    if let Source::Input(place) = source {
+        let row = read_inputs(scene, own, place, x, y, width)?;
+        return Ok(row);
+    }
     let mut values = vec![in scene.alloc; 0; width]?;
     for at in 0..width {
         let column = x.value_at(at, width);
@@ -227,6 +278,10 @@ pub(crate) fn read_row(
         }
         (Row::Step(first), Row::Same(y)) => {
             let row = read_stretch(scene, own, source, first, y, width)?;
+            Ok(row)
+        }
+        (Row::Clamped(clamp), Row::Same(y)) => {
+            let row = read_clamped(scene, own, source, clamp, y, width)?;
             Ok(row)
         }
         (Row::Each(columns), Row::Same(y)) => {

@@ -1,3 +1,4 @@
 pub mod InPlace
 pub mod Steps
 pub mod Columns
+pub mod BetweenBounds

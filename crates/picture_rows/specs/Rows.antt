@@ -2,6 +2,7 @@
 use Rattle.std.specs.Prelude.{◌≡◌, ◌<◌, ◌≤◌, ◌^◌, ℕ, List, length, slice_index}
 use Rattle.halide_pipeline.specs.Words as word
 use Rattle.picture_rows.specs.declared.rows.Row.{Row}
+use Rattle.picture_rows.specs.declared.clamps.Clamp.{Clamp}
 use Rattle.picture_rows.specs.declared.windows.Window.{Window}
 use Rattle.picture_rows.specs.declared.rows.Row.TheVariants as rows
 
@@ -10,16 +11,22 @@ pub record AreValues (width : ℕ) (says : ℕ → ℕ) (values : List ℕ) : Ty
   pub len : length values ≡ width
   pub each : (at : ℕ) → at < width → slice_index values at ≡ says at
 
+-- the word at a place, from the first one on, taken to the nearer one of two bounds that it lies outside of
+abbrev pub clamped : Clamp → ℕ → ℕ
+clamped clamp at = word.minimum (word.maximum (word.add clamp.first at) clamp.low) clamp.high
+
 -- the value at a place
 abbrev pub value_at : Row → ℕ → ℕ
 value_at (rows.Same value) at = value
 value_at (rows.Step first) at = word.add first at
+value_at (rows.Clamped clamp) at = clamped clamp at
 value_at (rows.Each values) at = slice_index values.items at
 
 -- where each value is written down, there are so many
 abbrev pub HasLength : ℕ → Row → Type 0
 HasLength width (rows.Same value) = Unit {0}
 HasLength width (rows.Step first) = Unit {0}
+HasLength width (rows.Clamped clamp) = Unit {0}
 HasLength width (rows.Each values) = length values.items ≡ width
 
 -- A row has these values at so many places.

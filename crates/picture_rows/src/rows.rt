@@ -4,7 +4,8 @@ ghost use Rattle.std.specs.Prelude.{◌≡◌, ◌==◌, ◌<◌, ◌^◌, if◌
 ghost use Rattle.halide_pipeline.specs.Words as word;
 ghost use Rattle.picture_rows.specs.Rows.{AreValues, HasLength, IsRow, value_at};
 
-use crate::loops::{choose, combine, combine_with, count_up, divide, remain};
+use crate::clamps::{Clamp, GREATEST, LEAST};
+use crate::loops::{choose, clamp_up, combine, combine_with, count_up, divide, remain};
 use halide_pipeline::{Operation, words};
 use std::alloc::{AllocError, Global};
 
@@ -15,6 +16,8 @@ pub enum Row {
     Same(u32),
     /// This word at place 0, and one more at each next place, as words.
     Step(u32),
+    /// The same, kept between two signed numbers.
+    Clamped(Clamp),
     /// A word for each place.
     Each(Vec<u32>),
 }
@@ -30,6 +33,7 @@ impl Row {
         match self {
             Row::Same(value) => *value,
             Row::Step(first) => words::add(*first, at as u32),
+            Row::Clamped(clamp) => clamp.value_at(at as u32),
             Row::Each(values) => values[at],
         }
     }
@@ -50,8 +54,13 @@ impl Row {
                 Ok(values)
             }
             Row::Step(first) => {
-                let mut values = vec![in alloc; 0; width]?;
+                let mut values = vec![in alloc; first; width]?;
                 count_up(&mut values, first);
+                Ok(values)
+            }
+            Row::Clamped(clamp) => {
+                let mut values = vec![in alloc; clamp.first; width]?;
+                clamp_up(&mut values, clamp);
                 Ok(values)
             }
             Row::Each(values) => Ok(values),
@@ -107,6 +116,20 @@ impl Row {
             (Row::Step(first), Operation::Subtract) => Ok(Row::Step(words::subtract(
                 first, second,
             ))),
+            (Row::Step(first), Operation::Maximum) => Ok(Row::Clamped(Clamp {
+                first,
+                low: second,
+                high: GREATEST,
+            })),
+            (Row::Step(first), Operation::Minimum) => Ok(Row::Clamped(Clamp {
+                first,
+                low: LEAST,
+                high: second,
+            })),
+            (Row::Clamped(clamp), Operation::Minimum) => Ok(Row::Clamped(Clamp {
+                high: words::minimum(clamp.high, second),
+                ..clamp
+            })),
             (row, _) => {
                 let mut values = row.into_values(alloc, width)?;
                 combine_with(operation, &mut values, second);
