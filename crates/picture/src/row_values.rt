@@ -1,6 +1,6 @@
 //! The pixels of Funcs row by row.
 
-ghost use Rattle.std.specs.Prelude.{◌<◌, ◌^◌, IfOk};
+ghost use Rattle.std.specs.Prelude.{◌<◌, ◌^◌, IfOk, IfSome};
 ghost use Rattle.halide_pipeline.specs.Words as word;
 ghost use Rattle.picture.specs.inner.Evaluation.{plane_of, AreTables};
 ghost use Rattle.picture_rows.specs.Rows.{AreValues};
@@ -8,6 +8,7 @@ ghost use Rattle.picture_rows.specs.Rows.{AreValues};
 use crate::in_place::{Stretch, is_func_quick, stage_pixels};
 use crate::lookups::func_at;
 use crate::plain::pixel;
+use crate::row_reads::{table_at, table_window};
 use crate::scenes::Scene;
 use halide_pipeline::words;
 use std::alloc::AllocError;
@@ -38,7 +39,31 @@ fn pixels_one_by_one(
     Ok(pixels)
 }
 
-/// So many pixels of the Func at a place in a row from a column on, at once where that is less work.
+/// So many pixels of the Func at a place in a row from a column on, where its table has them.
+fn tabled_stretch(
+    scene: &Scene,
+    place: usize,
+    left: u32,
+    y: u32,
+    width: usize,
+) -> Result<Option<Vec<u32>>, AllocError>
+    requires tables { AreTables scene.now }
+    requires narrow { width < 2 ^ 32 }
+    ensures { IfOk result (λ found. IfSome found (λ pixels. AreValues width (λ at. plane_of scene.now place
+        (word.add left at) y) pixels.items)) }
+{
+    let Some(table) = table_at(scene.tables, place) else {
+        return Ok(None);
+    };
+    let Some(pixels) = table_window(table, y).columns(left, width) else {
+        return Ok(None);
+    };
+    let pixels = Vec::from_slice(scene.alloc, pixels)?;
+    Ok(Some(pixels))
+}
+
+/// So many pixels of the Func at a place in a row from a column on, at once where that is less work, and not anew where
+/// there is a table of them.
 fn pixel_stretch(
     scene: &Scene,
     place: usize,
@@ -51,6 +76,9 @@ fn pixel_stretch(
     ensures { IfOk result (λ pixels. AreValues width (λ at. plane_of scene.now place (word.add left at) y)
         pixels.items) }
 {
+    if let Some(pixels) = tabled_stretch(scene, place, left, y, width)? {
+        return Ok(pixels);
+    }
     if width >= FEW
         && let Some(func) = func_at(scene.funcs, place)
         && is_func_quick(scene, place, func, y)
