@@ -1,13 +1,13 @@
 -- What is made of a whole group of words register by register is what the rows say of its elements.
-use Rattle.std.proofs.Common.{◌≡◌, ℕ, zero, suc, ◌+◌, ◌*◌, ◌/◌, ◌%◌, ◌^◌, ◌<◌, ◌≤◌, ◌==◌, ◌&&◌, ◌⊎◌, Bool, true, false, List, [], ◌∷◌, take, drop, length}
-use Rattle.std.proofs.Common.{refl, sym, ◌∙◌, ap, arith, inl, inr, if◌then◌else◌}
-use Rattle.std.specs.Prelude.{nat_le, nat_lt, not}
+use Rattle.std.proofs.Common.{◌≡◌, ℕ, zero, suc, ◌+◌, ◌*◌, ◌/◌, ◌%◌, ◌^◌, ◌<◌, ◌≤◌, ◌==◌, ◌&&◌, ◌⊎◌, true, false, List, [], ◌∷◌, take, drop, length}
+use Rattle.std.proofs.Common.{refl, sym, ◌∙◌, ap, arith, inl, inr}
+use Rattle.std.specs.Prelude.{nat_le, nat_lt, not, ℤ}
 use Rattle.std.proofs.lemmas.Bool.Decides.{nat_tests}
 use Rattle.std.proofs.Math.ListN.{replicate}
 use Rattle.std.proofs.lemmas.Bool.{and_parts, leb-true, not-false}
 use Rattle.std.proofs.lemmas.List.FromFn.{length-map-range_with_len}
 use Rattle.std.proofs.lemmas.List.{length-replicate}
-use Rattle.lanes.specs.Words.{elements, zip_with, merged}
+use Rattle.lanes.specs.Words.{elements, zip_with, merged, wrapped}
 use Rattle.vector_unit.specs.declared.operands.Operand.{Operand}
 use Rattle.vector_unit.specs.declared.operands.Operand.TheVariants.{Register, Number, Immediate, Amount}
 use Rattle.vector_unit.specs.Vector.{Vectors, register, with_registers, with_elements, is_supported, vsew_of, vlmul_of, most_elements}
@@ -16,7 +16,7 @@ use Rattle.vector_unit.specs.Operands.{operand_elements}
 use Rattle.vector_unit.specs.inner.Parts.{own_count, operand_part}
 use Rattle.vector_unit.specs.inner.Wholes.{IsWhole, is_whole_of, with_each, paired_words, words_of}
 use Rattle.vector_unit.proofs.Actives.{all_active}
-use Rattle.vector_unit.proofs.Groups.{IsCut, is_cut, part-group, part-operand, next_part, from_none}
+use Rattle.vector_unit.proofs.Groups.{is_cut, part-group, part-operand, next_part, from_none}
 use Rattle.vector_unit.proofs.Parts.{part_of, part-zip}
 
 -- ---- all are written
@@ -169,3 +169,10 @@ known_whole state e =
       words = of_words (vsew_of state.vtype) others.0;
       full = leb-true (most_elements state.vtype) state.vl others.1;
     }
+
+-- a number whose low bits are given at the width of words has them at that of a state
+pub low_bits : (state : Vectors) → IsWhole state → (n a : ℕ) → n % 2 ^ 32 ≡ a → n % 2 ^ width state ≡ a
+low_bits state whole n a e = rw whole.words e
+
+pub low_bits_of : (state : Vectors) → IsWhole state → (n : ℕ) (imm : ℤ) → n % 2 ^ 32 ≡ wrapped 32 imm → n % 2 ^ width state ≡ wrapped (width state) imm
+low_bits_of state whole n imm e = rw whole.words e

@@ -82,6 +82,13 @@ pub(crate) fn word_of(imm: Imm5) -> u32
     imm.value().cast_unsigned()
 }
 
+/// A shift amount as a word.
+pub(crate) fn word_of_amount(amount: ShiftAmount) -> u32
+    ensures { result % 2 ^ 32 ≡ amount }
+{
+    u32::from(amount.value())
+}
+
 impl VectorState {
     /// A part of an operand, as elements of 8 bits.
     pub(crate) fn bytes(&self, operand: Operand, part: usize) -> Lanes<u8, 16>

@@ -1,16 +1,19 @@
 //! Instructions on whole groups of words, the most that programs do: what an operation makes of a group is written
 //! register by register, with no test of widths, masks and old elements.
 
-ghost use Rattle.std.specs.Prelude.{◌≡◌, ◌<◌, ◌+◌, ◌%◌, ℕ, true, false, None, [], ◌∷◌};
+ghost use Rattle.std.specs.Prelude.{◌≡◌, ◌<◌, ◌+◌, ◌%◌, ℕ, true, false, None, [], ◌∷◌, replicate};
 ghost use Rattle.lanes.specs.Words.{zip_with, register_of};
 ghost use Rattle.vector_unit.specs.declared.operands.Operand.{Operand};
 ghost use Rattle.vector_unit.specs.declared.operands.Operand.TheVariants.{Register, Number};
-ghost use Rattle.vector_unit.specs.Vector.{group, has_vill, is_misplaced, is_own, is_refused, of_group, of_scalar};
+ghost use Rattle.vector_unit.specs.Vector.{count, group, has_vill, is_misplaced, is_own, is_refused, of_group};
+ghost use Rattle.vector_unit.specs.Vector.{of_immediate, of_scalar};
 ghost use Rattle.vector_unit.specs.Vector.{register, scalar_given, vector_after, with_elements, with_register, width};
 ghost use Rattle.vector_unit.specs.Operands.{operand_elements};
 ghost use Rattle.vector_unit.specs.Operations as op;
 ghost use Rattle.vector_unit.specs.inner.Wholes.{IsWhole, paired_words, with_each, words_in, words_of};
 
+use crate::operands::{word_of, word_of_amount};
+use crate::operations::{shift, with_immediate};
 use crate::pair_operations::{
     Addition, ArithmeticShift, Conjunction, Difference, Disjunction, GreatestSigned,
     GreatestUnsigned, HighProductMixed, HighProductSigned, HighProductUnsigned, LeastSigned,
@@ -19,7 +22,10 @@ use crate::pair_operations::{
 };
 use crate::states::VectorState;
 use lanes::Lanes;
-use rv_insn::{ArithmeticVvOp, ArithmeticVxOp, MultiplyOp, VReg, VectorInsn};
+use rv_insn::{
+    ArithmeticViOp, ArithmeticVvOp, ArithmeticVxOp, Imm5, MultiplyOp, ShiftAmount, ShiftViOp, VReg,
+    VectorInsn,
+};
 
 /// An operand of words beside `vs2`: a group, or a number in each word.
 pub(crate) trait WordOperand: Copy {
@@ -196,7 +202,8 @@ impl VectorState {
         requires vs2 { vs2 % group self.old ≡ 0 }
         requires other { other % group self.old ≡ 0 }
         ensures { self.new ≡ with_elements self.old vd true
-            (zip_with (op.arithmetic_vv operation (width self.old)) (of_group self.old vs2) (of_group self.old other)) }
+            (zip_with (op.arithmetic_vv operation (width self.old))
+            (of_group self.old vs2) (of_group self.old other)) }
     {
         match operation {
             ArithmeticVvOp::Vadd => self.compute_pairs::<Addition, VReg>(vd, vs2, other),
@@ -307,7 +314,8 @@ impl VectorState {
         ensures configured { result ≡ true → has_vill self.old ≡ false }
         ensures placed { result ≡ true → is_misplaced self.old (vd ∷ vs2 ∷ vs1 ∷ []) ≡ false }
         ensures state { result ≡ true → self.new ≡ with_elements self.old vd true
-            (zip_with (op.arithmetic_vv operation (width self.old)) (of_group self.old vs2) (of_group self.old vs1)) }
+            (zip_with (op.arithmetic_vv operation (width self.old))
+            (of_group self.old vs2) (of_group self.old vs1)) }
         ensures unchanged { result ≡ false → self.new ≡ self.old }
     {
         if !self.takes_three(vd, vs2, vs1) {
@@ -340,6 +348,78 @@ impl VectorState {
         true
     }
 
+    /// Writes what an operation makes of each word of a group and an immediate.
+    #[inline(always)]
+    fn compute_immediates(&mut self, operation: ArithmeticViOp, vd: VReg, vs2: VReg, imm: Imm5)
+        requires whole { IsWhole self.old }
+        requires vd { vd % group self.old ≡ 0 }
+        requires vs2 { vs2 % group self.old ≡ 0 }
+        ensures { self.new ≡ with_elements self.old vd true
+            (zip_with (op.arithmetic_vi operation (width self.old))
+            (of_group self.old vs2) (of_immediate self.old imm)) }
+    {
+        self.compute_numbers(with_immediate(operation), vd, vs2, word_of(imm));
+    }
+
+    /// Writes each word of a group, shifted by an amount.
+    #[inline(always)]
+    fn compute_shifts(&mut self, operation: ShiftViOp, vd: VReg, vs2: VReg, amount: ShiftAmount)
+        requires whole { IsWhole self.old }
+        requires vd { vd % group self.old ≡ 0 }
+        requires vs2 { vs2 % group self.old ≡ 0 }
+        ensures { self.new ≡ with_elements self.old vd true
+            (zip_with (op.shift_vi operation (width self.old))
+            (of_group self.old vs2) (replicate (count self.old) amount)) }
+    {
+        self.compute_numbers(shift(operation), vd, vs2, word_of_amount(amount));
+    }
+
+    /// Writes what an operation makes of each word of a whole group and an immediate, if it is that.
+    #[inline(always)]
+    fn arithmetic_on_immediates(
+        &mut self,
+        operation: ArithmeticViOp,
+        vd: VReg,
+        vs2: VReg,
+        imm: Imm5,
+    ) -> bool
+        ensures configured { result ≡ true → has_vill self.old ≡ false }
+        ensures placed { result ≡ true → is_misplaced self.old (vd ∷ vs2 ∷ []) ≡ false }
+        ensures state { result ≡ true → self.new ≡ with_elements self.old vd true
+            (zip_with (op.arithmetic_vi operation (width self.old))
+            (of_group self.old vs2) (of_immediate self.old imm)) }
+        ensures unchanged { result ≡ false → self.new ≡ self.old }
+    {
+        if !self.takes_two(vd, vs2) {
+            return false;
+        }
+        self.compute_immediates(operation, vd, vs2, imm);
+        true
+    }
+
+    /// Writes each word of a whole group, shifted by an amount, if it is that.
+    #[inline(always)]
+    fn shift_by_amount(
+        &mut self,
+        operation: ShiftViOp,
+        vd: VReg,
+        vs2: VReg,
+        amount: ShiftAmount,
+    ) -> bool
+        ensures configured { result ≡ true → has_vill self.old ≡ false }
+        ensures placed { result ≡ true → is_misplaced self.old (vd ∷ vs2 ∷ []) ≡ false }
+        ensures state { result ≡ true → self.new ≡ with_elements self.old vd true
+            (zip_with (op.shift_vi operation (width self.old))
+            (of_group self.old vs2) (replicate (count self.old) amount)) }
+        ensures unchanged { result ≡ false → self.new ≡ self.old }
+    {
+        if !self.takes_two(vd, vs2) {
+            return false;
+        }
+        self.compute_shifts(operation, vd, vs2, amount);
+        true
+    }
+
     /// Writes what a multiplication or division makes of each pair of two whole groups, if they are that.
     #[inline(always)]
     fn multiply_groups(&mut self, operation: MultiplyOp, vd: VReg, vs2: VReg, vs1: VReg) -> bool
@@ -362,7 +442,8 @@ impl VectorState {
         ensures configured { result ≡ true → has_vill self.old ≡ false }
         ensures placed { result ≡ true → is_misplaced self.old (vd ∷ vs2 ∷ []) ≡ false }
         ensures state { result ≡ true → self.new ≡ with_elements self.old vd true
-            (zip_with (op.multiply operation (width self.old)) (of_group self.old vs2) (of_scalar self.old number)) }
+            (zip_with (op.multiply operation (width self.old))
+            (of_group self.old vs2) (of_scalar self.old number)) }
         ensures unchanged { result ≡ false → self.new ≡ self.old }
     {
         if !self.takes_two(vd, vs2) {
@@ -397,6 +478,20 @@ impl VectorState {
                 vm: true,
                 ..
             } => self.arithmetic_on_numbers(op, vd, vs2, scalar),
+            VectorInsn::ArithmeticVi {
+                op,
+                vd,
+                vs2,
+                imm,
+                vm: true,
+            } => self.arithmetic_on_immediates(op, vd, vs2, imm),
+            VectorInsn::ShiftVi {
+                op,
+                vd,
+                vs2,
+                amount,
+                vm: true,
+            } => self.shift_by_amount(op, vd, vs2, amount),
             VectorInsn::MultiplyVv {
                 op,
                 vd,

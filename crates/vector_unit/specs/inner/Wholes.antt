@@ -4,7 +4,7 @@ use Rattle.lanes.specs.Words as word
 use Rattle.lanes.specs.Words.{elements, register_of, zip_with}
 use Rattle.vector_unit.specs.declared.operands.Operand.{Operand}
 use Rattle.vector_unit.specs.declared.operands.Operand.TheVariants.{Register, Number, Immediate, Amount}
-use Rattle.vector_unit.specs.Vector.{Vectors, register, with_register, has_vill, is_supported, vsew_of, most_elements, width, count, group}
+use Rattle.vector_unit.specs.Vector.{Vectors, register, with_register, has_vill, is_supported, vsew_of, most_elements, width, count}
 
 -- whether elements are words, and so many are all of a group
 abbrev pub is_whole_of : ℕ → ℕ → Bool
