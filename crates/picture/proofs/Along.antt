@@ -9,7 +9,6 @@ use Rattle.std.specs.Vec.{with_items}
 use Rattle.std.specs.declared.alloc.Global.{Global}
 use Rattle.halide_pipeline.specs.Words as word
 use Rattle.halide_pipeline.specs.Contents.{PictureContents, pixel_at}
-use Rattle.halide_pipeline.specs.declared.expressions.Expr.TheVariants as exprs
 use Rattle.halide_pipeline.specs.Pixel.{Plane, input_plane}
 use Rattle.picture.specs.declared.scenes.Table.{Table}
 use Rattle.picture.specs.inner.Evaluation.{IsTable}

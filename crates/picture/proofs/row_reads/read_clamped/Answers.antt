@@ -1,4 +1,4 @@
-use Rattle.std.proofs.Common.{ℕ, List, Vec, Option, IfSome, refl, subst}
+use Rattle.std.proofs.Common.{ℕ, Vec, Option, IfSome, refl, subst}
 use Rattle.std.specs.declared.alloc.Global.{Global}
 use Rattle.picture.specs.inner.Evaluation.{reads_in}
 use Rattle.picture.specs.declared.scenes.State.TheVariants as states
