@@ -1,10 +1,55 @@
-//! The operations on pairs of words, each as a type, so that what works on a group is made for each of them.
+//! The operations on pairs of words, and their other operand, each as a type, so that what works on a group is made for
+//! each of them.
 
-ghost use Rattle.std.specs.Prelude.{◌≡◌, ℕ};
+ghost use Rattle.std.specs.Prelude.{◌≡◌, ◌<◌, ◌%◌, ℕ};
 ghost use Rattle.lanes.specs.Words as word;
 ghost use Rattle.lanes.specs.Words.{zip_with};
+ghost use Rattle.vector_unit.specs.declared.operands.Operand.{Operand};
+ghost use Rattle.vector_unit.specs.declared.operands.Operand.TheVariants.{Register, Number};
+ghost use Rattle.vector_unit.specs.Vector.{group};
+ghost use Rattle.vector_unit.specs.inner.Wholes.{IsWhole, words_of};
 
+use crate::states::VectorState;
 use lanes::Lanes;
+use rv_insn::VReg;
+
+/// An operand of words beside `vs2`: a group, or a number in each word.
+pub(crate) trait WordOperand: Copy {
+    /// The operand that it is.
+    ghost operand: { Self → Operand };
+
+    /// Whether it begins where groups of so many registers do.
+    ghost IsPlaced: { Self → ℕ → Type 0 };
+
+    /// A register's worth of it.
+    fn words(self, state: &VectorState, part: usize) -> Lanes<u32, 4>
+        requires whole { IsWhole state.now }
+        requires placed { IsPlaced self (group state.now) }
+        requires part { part < group state.now }
+        ensures { result ≡ words_of state.now (operand self) part };
+}
+
+impl WordOperand for VReg {
+    ghost operand = { λ v. Register v };
+
+    ghost IsPlaced = { λ v size. v % size ≡ 0 };
+
+    #[inline(always)]
+    fn words(self, state: &VectorState, part: usize) -> Lanes<u32, 4> {
+        state.words_at(self, part)
+    }
+}
+
+impl WordOperand for u32 {
+    ghost operand = { λ n. Number n };
+
+    ghost IsPlaced = { λ n size. Unit {0} };
+
+    #[inline(always)]
+    fn words(self, state: &VectorState, part: usize) -> Lanes<u32, 4> {
+        Lanes::<u32, 4>::splat(self)
+    }
+}
 
 /// An operation on pairs of words.
 pub(crate) trait PairOperation {

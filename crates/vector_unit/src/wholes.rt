@@ -3,14 +3,12 @@
 
 ghost use Rattle.std.specs.Prelude.{◌≡◌, ◌<◌, ◌+◌, ◌%◌, ℕ, true, false, None, [], ◌∷◌, replicate};
 ghost use Rattle.lanes.specs.Words.{zip_with, register_of};
-ghost use Rattle.vector_unit.specs.declared.operands.Operand.{Operand};
-ghost use Rattle.vector_unit.specs.declared.operands.Operand.TheVariants.{Register, Number};
 ghost use Rattle.vector_unit.specs.Vector.{count, group, has_vill, is_misplaced, is_own, is_refused, of_group};
 ghost use Rattle.vector_unit.specs.Vector.{of_immediate, of_scalar};
 ghost use Rattle.vector_unit.specs.Vector.{register, scalar_given, vector_after, with_elements, with_register, width};
 ghost use Rattle.vector_unit.specs.Operands.{operand_elements};
 ghost use Rattle.vector_unit.specs.Operations as op;
-ghost use Rattle.vector_unit.specs.inner.Wholes.{IsWhole, paired_words, with_each, words_in, words_of};
+ghost use Rattle.vector_unit.specs.inner.Wholes.{IsWhole, paired_words, with_each, words_in};
 
 use crate::operands::{word_of, word_of_amount};
 use crate::operations::{shift, with_immediate};
@@ -19,6 +17,7 @@ use crate::pair_operations::{
     GreatestUnsigned, HighProductMixed, HighProductSigned, HighProductUnsigned, LeastSigned,
     LeastUnsigned, LeftShift, LogicalShift, PairOperation, Product, QuotientSigned,
     QuotientUnsigned, RemainderSigned, RemainderUnsigned, ReverseSubtraction, Subtraction,
+    WordOperand,
 };
 use crate::states::VectorState;
 use lanes::Lanes;
@@ -26,44 +25,6 @@ use rv_insn::{
     ArithmeticViOp, ArithmeticVvOp, ArithmeticVxOp, Imm5, MultiplyOp, ShiftAmount, ShiftViOp, VReg,
     VectorInsn,
 };
-
-/// An operand of words beside `vs2`: a group, or a number in each word.
-pub(crate) trait WordOperand: Copy {
-    /// The operand that it is.
-    ghost operand: { Self → Operand };
-
-    /// Whether it begins where groups of so many registers do.
-    ghost IsPlaced: { Self → ℕ → Type 0 };
-
-    /// A register's worth of it.
-    fn words(self, state: &VectorState, part: usize) -> Lanes<u32, 4>
-        requires whole { IsWhole state.now }
-        requires placed { IsPlaced self (group state.now) }
-        requires part { part < group state.now }
-        ensures { result ≡ words_of state.now (operand self) part };
-}
-
-impl WordOperand for VReg {
-    ghost operand = { λ v. Register v };
-
-    ghost IsPlaced = { λ v size. v % size ≡ 0 };
-
-    #[inline(always)]
-    fn words(self, state: &VectorState, part: usize) -> Lanes<u32, 4> {
-        state.words_at(self, part)
-    }
-}
-
-impl WordOperand for u32 {
-    ghost operand = { λ n. Number n };
-
-    ghost IsPlaced = { λ n size. Unit {0} };
-
-    #[inline(always)]
-    fn words(self, state: &VectorState, part: usize) -> Lanes<u32, 4> {
-        Lanes::<u32, 4>::splat(self)
-    }
-}
 
 impl VectorState {
     /// The bytes of a register of a group that lies in the registers.
@@ -87,7 +48,7 @@ impl VectorState {
     /// The words of a register of a group.
     #[tactic(auto, using(crate::proofs::Whole::place_inside))]
     #[inline(always)]
-    fn words_at(&self, v: VReg, part: usize) -> Lanes<u32, 4>
+    pub(crate) fn words_at(&self, v: VReg, part: usize) -> Lanes<u32, 4>
         requires whole { IsWhole self.now }
         requires placed { v % group self.now ≡ 0 }
         requires part { part < group self.now }
