@@ -1,9 +1,9 @@
 -- Bytes that are put at places: the size of the data stays, other bytes stay, and places apart may be put in either order.
-use Rattle.std.proofs.Common.{◌≡◌, ℕ, ◌-◌, ◌≤◌, List, [], ◌∷◌, length, get_or, set, Bool, true, false, refl, ap, ◌∙◌, arith, length-set, get_or-set_other}
+use Rattle.std.proofs.Common.{◌≡◌, ℕ, ◌+◌, ◌-◌, ◌≤◌, List, [], ◌∷◌, length, get_or, set, Bool, true, false, refl, ap, ◌∙◌, arith, length-set, get_or-set_other}
 use Rattle.std.specs.Prelude.{◌≢◌, nat_lt, cond}
 use Rattle.std.proofs.lemmas.List.{set_comm}
 use Rattle.std.proofs.lemmas.Bool.{ltb-false, cond_both}
-use Rattle.memory.specs.Access.{data_start, byte_at, put, put_byte, NotIn}
+use Rattle.memory.specs.Access.{data_start, byte_at, put, put_byte, put_number, NotIn, Size, Word, access_at, bytes_of, places_of}
 
 pub length-put_byte : (memory : List ℕ) (place byte : ℕ) → length (put_byte memory place byte) ≡ length memory
 length-put_byte memory place byte = grind (arith, length-set {A = ℕ})
@@ -12,6 +12,26 @@ pub length-put : (memory places bytes : List ℕ) → length (put memory places 
 length-put memory [] bytes = refl
 length-put memory (place ∷ places) [] = refl
 length-put memory (place ∷ places) (byte ∷ bytes) = length-put (put_byte memory place byte) places bytes ∙ length-put_byte memory place byte
+
+-- a number that is put leaves as many bytes
+pub size_kept : (memory memory' : List ℕ) (size : Size) (at n : ℕ) → memory' ≡ put_number memory size at n → length memory' ≡ length memory
+size_kept memory memory' size at n e = ap length e ∙ length-put memory (places_of (access_at size at)) (bytes_of size n)
+
+-- four words that are put in data one behind the other
+pub four_put : (m0 m1 m2 m3 m4 : List ℕ) (at address a b c d : ℕ) → at + data_start ≡ address
+    → m1 ≡ put_number m0 Word (at + data_start) a → m2 ≡ put_number m1 Word (at + 4 + data_start) b
+    → m3 ≡ put_number m2 Word (at + 8 + data_start) c → m4 ≡ put_number m3 Word (at + 12 + data_start) d
+    → m4 ≡ put_number (put_number (put_number (put_number m0 Word address a) Word (address + 4) b) Word (address + 8) c) Word (address + 12) d
+four_put m0 m1 m2 m3 m4 at address a b c d e e1 e2 e3 e4 =
+    let p2 : at + 4 + data_start ≡ address + 4 = omega (arith, e) in
+    let p3 : at + 8 + data_start ≡ address + 8 = omega (arith, e) in
+    let p4 : at + 12 + data_start ≡ address + 12 = omega (arith, e) in
+    let q1 : m1 ≡ put_number m0 Word address a = e1 ∙ ap (λ x. put_number m0 Word x a) e in
+    let q2 : m2 ≡ put_number m1 Word (address + 4) b = e2 ∙ ap (λ x. put_number m1 Word x b) p2 in
+    let q3 : m3 ≡ put_number m2 Word (address + 8) c = e3 ∙ ap (λ x. put_number m2 Word x c) p3 in
+    let q4 : m4 ≡ put_number m3 Word (address + 12) d = e4 ∙ ap (λ x. put_number m3 Word x d) p4 in
+    q4 ∙ ap (λ m. put_number m Word (address + 12) d) (q3 ∙ ap (λ m. put_number m Word (address + 8) c) (q2
+    ∙ ap (λ m. put_number m Word (address + 4) b) q1))
 
 same-cond : {A : Type 0} (t : Bool) (x y z : A) → (t ≡ false → y ≡ z) → cond t x y ≡ cond t x z
 same-cond true x y z h = refl

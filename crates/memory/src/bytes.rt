@@ -1,6 +1,6 @@
 //! What a memory must do.
 
-ghost use Rattle.std.specs.Prelude.{◌≡◌, ◌%◌, ℕ, List, length, IsTrue};
+ghost use Rattle.std.specs.Prelude.{◌≡◌, ◌<◌, ◌+◌, ◌%◌, ◌^◌, ℕ, List, [], ◌∷◌, length, slice_index, IsTrue};
 ghost use Rattle.memory.specs.Access.{fetched, byte_at, covers_load, in_data, put_byte};
 ghost use Rattle.memory.specs.Access.{Half, Word, number_in, put_number};
 
@@ -20,7 +20,7 @@ pub const MOST_BYTES: usize = 33_554_432;
 ///
 /// Its law is in the clauses: a read gives the byte that stands at the address, and a write puts one
 /// byte and leaves every other one. The half-words and words of data are those bytes, the lowest first; a memory
-/// that has them side by side may take them in one go.
+/// that has them side by side may take them in one go, and four words one behind the other too.
 pub trait Bytes {
     /// The words of text.
     ghost text: { Self → List ℕ };
@@ -98,5 +98,40 @@ pub trait Bytes {
         self.write(address + 1, bytes[1]);
         self.write(address + 2, bytes[2]);
         self.write(address + 3, bytes[3]);
+    }
+
+    /// The four words of data from an address on that is a multiple of 4.
+    fn read_four_words(&self, address: u32) -> [u32; 4]
+        requires aligned { address % 4 ≡ 0 }
+        requires covered { IsTrue (in_data (length (memory self.now)) address 16) }
+        requires below { address + 16 < 2 ^ 32 }
+        ensures { result ≡ number_in (text self.now) (memory self.now) Word address
+            ∷ number_in (text self.now) (memory self.now) Word (address + 4)
+            ∷ number_in (text self.now) (memory self.now) Word (address + 8)
+            ∷ number_in (text self.now) (memory self.now) Word (address + 12) ∷ [] }
+    {
+        [
+            self.read_word(address),
+            self.read_word(address + 4),
+            self.read_word(address + 8),
+            self.read_word(address + 12),
+        ]
+    }
+
+    /// Puts four words of data, one behind the other, from an address on that is a multiple of 4.
+    #[tactic(auto, using(crate::proofs::Putting::size_kept))]
+    fn write_four_words(&mut self, address: u32, words: [u32; 4])
+        requires aligned { address % 4 ≡ 0 }
+        requires covered { IsTrue (in_data (length (memory self.old)) address 16) }
+        requires below { address + 16 < 2 ^ 32 }
+        ensures text { text self.new ≡ text self.old }
+        ensures memory { memory self.new ≡ put_number (put_number (put_number (put_number (memory self.old)
+            Word address (slice_index words 0)) Word (address + 4) (slice_index words 1))
+            Word (address + 8) (slice_index words 2)) Word (address + 12) (slice_index words 3) }
+    {
+        self.write_word(address, words[0]);
+        self.write_word(address + 4, words[1]);
+        self.write_word(address + 8, words[2]);
+        self.write_word(address + 12, words[3]);
     }
 }

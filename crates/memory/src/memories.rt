@@ -1,8 +1,8 @@
 //! The plain memory.
 
-ghost use Rattle.std.specs.Prelude.{◌≡◌, ◌≤◌, ◌%◌, IsTrue, length};
-ghost use Rattle.memory.specs.Access.{most_words, most_bytes, covers_load};
-ghost use Rattle.memory.specs.Access.{Word, number_in};
+ghost use Rattle.std.specs.Prelude.{◌≡◌, ◌≤◌, ◌+◌, ◌%◌, IsTrue, length, slice_index};
+ghost use Rattle.memory.specs.Access.{most_words, most_bytes, covers_load, data_start};
+ghost use Rattle.memory.specs.Access.{Word, number_in, put_number};
 
 use crate::bytes::{Bytes, DATA_START, TEXT_START};
 use std::boxed::BoxedSlice;
@@ -71,6 +71,18 @@ impl Memory {
             self.read(address + 2),
             self.read(address + 3),
         ])
+    }
+
+    /// The word at an address of data that is a multiple of 4.
+    #[inline(always)]
+    fn read_data_word(&self, address: u32) -> u32
+        requires low { data_start ≤ address }
+        requires high { address + 4 ≤ data_start + length self.now.memory }
+        ensures { result ≡ number_in self.now.text self.now.memory Word address }
+    {
+        let at = (address - DATA_START) as usize;
+        let word = &self.bytes[at..at + 4];
+        u32::from_le_bytes([word[0], word[1], word[2], word[3]])
     }
 
     /// Puts other bytes in the place of all data. Takes no memory.
@@ -153,12 +165,51 @@ impl Bytes for Memory {
 
     #[inline(always)]
     fn write_word(&mut self, address: u32, value: u32) {
-        let at = (address - DATA_START) as usize;
-        let value = value.to_le_bytes();
-        let bytes: &mut [u8] = &mut self.bytes;
-        bytes[at] = value[0];
-        bytes[at + 1] = value[1];
-        bytes[at + 2] = value[2];
-        bytes[at + 3] = value[3];
+        put_word(&mut self.bytes, (address - DATA_START) as usize, value);
     }
+
+    #[inline(always)]
+    fn read_four_words(&self, address: u32) -> [u32; 4] {
+        [
+            self.read_data_word(address),
+            self.read_data_word(address + 4),
+            self.read_data_word(address + 8),
+            self.read_data_word(address + 12),
+        ]
+    }
+
+    #[inline(always)]
+    fn write_four_words(&mut self, address: u32, words: [u32; 4]) {
+        put_four_words(&mut self.bytes, address, words);
+    }
+}
+
+/// Puts four words in bytes of data, one behind the other from an address on.
+#[tactic(auto, using(crate::proofs::Putting::size_kept))]
+#[inline(always)]
+fn put_four_words(bytes: &mut [u8], address: u32, words: [u32; 4])
+    requires low { data_start ≤ address }
+    requires high { address + 16 ≤ data_start + length bytes.old }
+    ensures { bytes.new ≡ put_number (put_number (put_number (put_number bytes.old Word address (slice_index words 0))
+        Word (address + 4) (slice_index words 1)) Word (address + 8) (slice_index words 2))
+        Word (address + 12) (slice_index words 3) }
+{
+    let at = (address - DATA_START) as usize;
+    put_word(bytes, at, words[0]);
+    put_word(bytes, at + 4, words[1]);
+    put_word(bytes, at + 8, words[2]);
+    put_word(bytes, at + 12, words[3]);
+}
+
+/// Puts a word in bytes of data, its lowest byte first.
+#[inline(always)]
+fn put_word(bytes: &mut [u8], at: usize, value: u32)
+    requires { at + 4 ≤ length bytes.old }
+    ensures { bytes.new ≡ put_number bytes.old Word (at + data_start) value }
+{
+    let value = value.to_le_bytes();
+    bytes[at] = value[0];
+    bytes[at + 1] = value[1];
+    bytes[at + 2] = value[2];
+    bytes[at + 3] = value[3];
 }
