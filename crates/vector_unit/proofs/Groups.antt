@@ -115,7 +115,7 @@ part-numbers state cut part l =
     ∙ part-range (λ i. i) n part (count state) in_all
     ∙ same-below (λ i. part * n + i) (λ i. (part * n + i) % 2 ^ width state) n (λ i low. sym (cut.low (part * n + i) (omega (arith, low, in_all, most))))
 
-part-new : (state : Vectors) → IsCut state → (new : NewElements) (part : ℕ) → part < group state → part_of (own_count state) part (new_elements state new)
+pub part-new : (state : Vectors) → IsCut state → (new : NewElements) (part : ℕ) → part < group state → part_of (own_count state) part (new_elements state new)
     ≡ new_part state new part
 part-new state cut (Arithmetic o vs2 other) part l =
     part-zip (op.arithmetic_vx o (width state)) (own_count state) part (of_group state vs2) (operand_elements state other)

@@ -1,22 +1,27 @@
 -- What is made of a whole group of words register by register is what the rows say of its elements.
-use Rattle.std.proofs.Common.{◌≡◌, ℕ, zero, suc, ◌+◌, ◌*◌, ◌/◌, ◌%◌, ◌^◌, ◌<◌, ◌≤◌, ◌==◌, ◌&&◌, ◌⊎◌, true, false, List, [], ◌∷◌, take, drop, length}
+use Rattle.std.proofs.Common.{◌≡◌, ℕ, zero, suc, ◌+◌, ◌*◌, ◌/◌, ◌%◌, ◌^◌, ◌<◌, ◌≤◌, ◌==◌, ◌&&◌, ◌⊎◌, true, false, List, [], ◌∷◌, take, drop, length, Bool}
 use Rattle.std.proofs.Common.{refl, sym, ◌∙◌, ap, arith, inl, inr}
-use Rattle.std.specs.Prelude.{nat_le, nat_lt, not, ℤ}
+use Rattle.std.specs.Prelude.{nat_le, nat_lt, not, ℤ, slice_index}
 use Rattle.std.proofs.lemmas.Bool.Decides.{nat_tests}
 use Rattle.std.proofs.Math.ListN.{replicate}
 use Rattle.std.proofs.lemmas.Bool.{and_parts, leb-true, not-false}
-use Rattle.std.proofs.lemmas.List.FromFn.{length-map-range_with_len}
+use Rattle.std.proofs.lemmas.List.FromFn.{length-map-range_with_len, length-range_with_len}
 use Rattle.std.proofs.lemmas.List.{length-replicate}
-use Rattle.lanes.specs.Words.{elements, zip_with, merged, wrapped}
+use Rattle.std.proofs.Math.Nat.{mod-eq_of_lt}
+use Rattle.lanes.specs.Words.{element, elements, with_element, zip_with, merged, mask_bit, mask_bits, wrapped}
+use Rattle.vector_unit.specs.Operations as op
+use Rattle.vector_unit.specs.declared.elements.NewElements.{NewElements}
+use Rattle.vector_unit.specs.declared.elements.NewElements.TheVariants.{Arithmetic, Multiply, Merge, Copy, Numbers, Bytes}
 use Rattle.vector_unit.specs.declared.operands.Operand.{Operand}
 use Rattle.vector_unit.specs.declared.operands.Operand.TheVariants.{Register, Number, Immediate, Amount}
-use Rattle.vector_unit.specs.Vector.{Vectors, register, with_registers, with_elements, is_supported, vsew_of, vlmul_of, most_elements}
+use Rattle.vector_unit.specs.Accesses.{with_element_from}
+use Rattle.vector_unit.specs.Vector.{Vectors, register, with_register, with_registers, with_elements, is_supported, vsew_of, vlmul_of, most_elements}
 use Rattle.vector_unit.specs.Vector.{width, count, group, of_group, element_from, has_vill, is_misplaced}
 use Rattle.vector_unit.specs.Operands.{operand_elements}
-use Rattle.vector_unit.specs.inner.Parts.{own_count, operand_part}
+use Rattle.vector_unit.specs.inner.Parts.{own_count, operand_part, new_elements, new_part}
 use Rattle.vector_unit.specs.inner.Wholes.{IsWhole, is_whole_of, with_each, paired_words, words_of}
 use Rattle.vector_unit.proofs.Actives.{all_active}
-use Rattle.vector_unit.proofs.Groups.{is_cut, part-group, part-operand, next_part, from_none}
+use Rattle.vector_unit.proofs.Groups.{is_cut, part-new, part-group, part-operand, next_part, from_none}
 use Rattle.vector_unit.proofs.Parts.{part_of, part-zip}
 
 -- ---- all are written
@@ -74,7 +79,7 @@ written_each state whole vd all each long same =
     ∙ rw (from_none n, first) at parts
     ∙ ap (λ w. with_each state w vd each 0 (group state)) words)
 
-operand_words : (state : Vectors) → IsWhole state → (other : Operand) (part : ℕ) → operand_part state other part ≡ words_of state other part
+pub operand_words : (state : Vectors) → IsWhole state → (other : Operand) (part : ℕ) → operand_part state other part ≡ words_of state other part
 operand_words state whole (Register v) part = rw whole.words refl
 operand_words state whole (Number n) part = rw whole.words refl
 operand_words state whole (Immediate imm) part = rw whole.words refl
@@ -90,6 +95,38 @@ written_pairs state whole f vd vs2 other =
     (λ part l. part-zip f (own_count state) part (of_group state vs2) (operand_elements state other)
     ∙ rw (part-group state cut vs2 part l, part-operand state cut other part l, operand_words state whole other part)
     (ap (λ w. zip_with f (elements w (register state (vs2 + part))) (words_of state other part)) whole.words))
+
+-- what is not made of pairs: as many as a group has
+merged_length : (n : ℕ) (flags : List Bool) (xs ys : List ℕ) → length flags ≡ n → length xs ≡ n → length ys ≡ n → length (merged flags xs ys) ≡ n
+merged_length zero [] xs ys k l m = refl
+merged_length zero (b ∷ flags) xs ys k l m = absurd (omega (arith, k))
+merged_length (suc n) [] xs ys k l m = absurd (omega (arith, k))
+merged_length (suc n) (b ∷ flags) [] ys k l m = absurd (omega (arith, l))
+merged_length (suc n) (b ∷ flags) (x ∷ xs) [] k l m = absurd (omega (arith, m))
+merged_length (suc n) (b ∷ flags) (x ∷ xs) (y ∷ ys) k l m =
+    let others = merged_length n flags xs ys (omega (arith, k)) (omega (arith, l)) (omega (arith, m)) in omega (arith, others)
+
+mask_length : (state : Vectors) → length (mask_bits 0 (count state) (register state 0)) ≡ count state
+unfolding mask_bits
+mask_length state = length-map-range_with_len (λ i. mask_bit (register state 0) (0 + i)) 0 (count state)
+
+new_length : (state : Vectors) (new : NewElements) → length (new_elements state new) ≡ count state
+new_length state (Arithmetic o vs2 other) = zip_length (op.arithmetic_vx o (width state)) (count state) (of_group state vs2) (operand_elements state other)
+    (group_length state vs2) (operand_length state other)
+new_length state (Multiply o vs2 other) = zip_length (op.multiply o (width state)) (count state) (of_group state vs2) (operand_elements state other)
+    (group_length state vs2) (operand_length state other)
+new_length state (Merge vs2 other) = merged_length (count state) (mask_bits 0 (count state) (register state 0)) (operand_elements state other)
+    (of_group state vs2) (mask_length state) (operand_length state other) (group_length state vs2)
+new_length state (Copy other) = operand_length state other
+new_length state Numbers = length-range_with_len 0 (count state)
+new_length state (Bytes vs2) = length-map-range_with_len (slice_index (register state vs2)) 0 (count state)
+
+pub written_new : (state : Vectors) → IsWhole state → (n : ℕ) → group state ≡ n → (vd : ℕ) (new : NewElements)
+    → with_each state 32 vd (new_part state new) 0 n ≡ with_elements state vd true (new_elements state new)
+written_new state whole n e vd new =
+    let cut = is_cut state whole.configured in
+    ap (with_each state 32 vd (new_part state new) 0) (sym e)
+    ∙ written_each state whole vd (new_elements state new) (new_part state new) (new_length state new) (λ part l. part-new state cut new part l)
 
 -- ---- which groups are whole
 
@@ -122,6 +159,9 @@ place_inside state e v part low at few = inside (group state) v part (group_size
 
 pub is_multiple : (v g : ℕ) → not (v % g == 0) ≡ false → v % g ≡ 0
 is_multiple v g e = grind (arith, nat_tests, e)
+
+pub one_placed : (state : Vectors) (vd : ℕ) → vd % group state ≡ 0 → is_misplaced state (vd ∷ []) ≡ false
+one_placed state vd d = rw d refl
 
 pub two_placed : (state : Vectors) (vd vs2 : ℕ) → vd % group state ≡ 0 → vs2 % group state ≡ 0 → is_misplaced state (vd ∷ vs2 ∷ []) ≡ false
 two_placed state vd vs2 d e = rw (d, e) refl
@@ -176,3 +216,22 @@ low_bits state whole n a e = rw whole.words e
 
 pub low_bits_of : (state : Vectors) → IsWhole state → (n : ℕ) (imm : ℤ) → n % 2 ^ 32 ≡ wrapped 32 imm → n % 2 ^ width state ≡ wrapped (width state) imm
 low_bits_of state whole n imm e = rw whole.words e
+
+-- ---- a word of a register of a group
+
+pub word_held : (state : Vectors) (v part index : ℕ) → index < 4
+    → element_from state 32 v (4 * part + index) ≡ element 32 (register state (v + part)) index
+word_held state v part index l =
+    let q : (4 * part + index) / 4 ≡ part = omega (arith, l) in
+    let r : (4 * part + index) % 4 ≡ index = omega (arith, l) in
+    ap (λ p. element 32 (register state (v + p)) ((4 * part + index) % 4)) q ∙ ap (element 32 (register state (v + part))) r
+
+pub word_put : (state : Vectors) (v part index n : ℕ) → index < 4 → n < 2 ^ 32
+    → with_element_from state 32 v (4 * part + index) n ≡ with_register state (v + part) (with_element 32 (register state (v + part)) index n)
+word_put state v part index n l small =
+    let q : (4 * part + index) / 4 ≡ part = omega (arith, l) in
+    let r : (4 * part + index) % 4 ≡ index = omega (arith, l) in
+    let m : n % 2 ^ 32 ≡ n = mod-eq_of_lt small in
+    ap (λ p. with_register state (v + p) (with_element 32 (register state (v + p)) ((4 * part + index) % 4) (n % 2 ^ 32))) q
+    ∙ ap (λ i. with_register state (v + part) (with_element 32 (register state (v + part)) i (n % 2 ^ 32))) r
+    ∙ ap (λ a. with_register state (v + part) (with_element 32 (register state (v + part)) index a)) m

@@ -1,12 +1,13 @@
 //! What vector loads and stores need of the vector unit: where the elements lie, and the elements
 //! themselves, one by one.
 
-ghost use Rattle.std.specs.Prelude.{◌≡◌, ◌<◌, ◌≤◌, ◌+◌, ◌*◌, ◌/◌, true, false, length, replicate};
+ghost use Rattle.std.specs.Prelude.{◌≡◌, ◌<◌, ◌≤◌, ◌+◌, ◌*◌, ◌/◌, ◌%◌, true, false, length, replicate, [], ◌∷◌};
+ghost use Rattle.std.specs.Prelude.{slice_index};
 ghost use Rattle.lanes.specs.Words.{element, with_element};
 ghost use Rattle.lanes.specs.Words.{is_active};
 ghost use Rattle.vector_unit.specs.Vector.{register, with_register, has_vill};
 ghost use Rattle.vector_unit.specs.Vector as spec;
-ghost use Rattle.vector_unit.specs.Vector.{width, count, group_at, element_from, active_in};
+ghost use Rattle.vector_unit.specs.Vector.{width, count, group, group_at, element_from, active_in};
 ghost use Rattle.vector_unit.specs.Accesses.{offset, addresses_by, active_numbers, filled_from, loaded};
 ghost use Rattle.vector_unit.specs.Accesses.{with_element_from};
 
@@ -216,5 +217,72 @@ impl VectorState {
         if at < 32 {
             value.write(&mut self.registers[at], index);
         }
+    }
+
+    /// Whether elements are words, an instruction that isn't masked works on all of a group, and a register begins one.
+    #[tactic(auto, using(crate::proofs::Whole::is_multiple))]
+    #[inline(always)]
+    pub fn takes_words(&self, v: VReg) -> bool
+        ensures configured { result ≡ true → has_vill self.now ≡ false }
+        ensures words { result ≡ true → width self.now ≡ 32 }
+        ensures full { result ≡ true → count self.now ≤ self.now.vl }
+        ensures placed { result ≡ true → v % group self.now ≡ 0 }
+    {
+        self.is_whole() && !self.is_inside(v)
+    }
+
+    /// A word of a register of a group.
+    #[tactic(auto, using(crate::proofs::Whole::word_held))]
+    #[inline(always)]
+    fn held_word(&self, v: VReg, part: usize, index: usize) -> u32
+        requires part { v + part < 32 }
+        requires index { index < 4 }
+        ensures { result ≡ element_from self.now 32 v (4 * part + index) }
+    {
+        u32::read(
+            &self.registers[v.number() as usize + part],
+            index,
+        )
+    }
+
+    /// Writes a word of a register of a group.
+    #[tactic(auto, using(crate::proofs::Whole::word_put))]
+    #[inline(always)]
+    fn hold_word(&mut self, v: VReg, part: usize, index: usize, word: u32)
+        requires part { v + part < 32 }
+        requires index { index < 4 }
+        ensures { self.new ≡ with_element_from self.old 32 v (4 * part + index) word }
+    {
+        let at = v.number() as usize + part;
+        word.write(&mut self.registers[at], index);
+    }
+
+    /// The four words of a register of a group.
+    #[inline(always)]
+    pub fn four_words(&self, v: VReg, part: usize) -> [u32; 4]
+        requires { v + part < 32 }
+        ensures { result ≡ element_from self.now 32 v (4 * part) ∷ element_from self.now 32 v (4 * part + 1)
+            ∷ element_from self.now 32 v (4 * part + 2) ∷ element_from self.now 32 v (4 * part + 3) ∷ [] }
+    {
+        [
+            self.held_word(v, part, 0),
+            self.held_word(v, part, 1),
+            self.held_word(v, part, 2),
+            self.held_word(v, part, 3),
+        ]
+    }
+
+    /// Writes the four words of a register of a group.
+    #[inline(always)]
+    pub fn put_four_words(&mut self, v: VReg, part: usize, words: [u32; 4])
+        requires { v + part < 32 }
+        ensures { self.new ≡ with_element_from (with_element_from (with_element_from (with_element_from self.old
+            32 v (4 * part) (slice_index words 0)) 32 v (4 * part + 1) (slice_index words 1))
+            32 v (4 * part + 2) (slice_index words 2)) 32 v (4 * part + 3) (slice_index words 3) }
+    {
+        self.hold_word(v, part, 0, words[0]);
+        self.hold_word(v, part, 1, words[1]);
+        self.hold_word(v, part, 2, words[2]);
+        self.hold_word(v, part, 3, words[3]);
     }
 }

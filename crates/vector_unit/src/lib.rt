@@ -23,6 +23,7 @@ mod pair_operations;
 mod singles;
 mod states;
 mod vtypes;
+mod whole_elements;
 mod wholes;
 
 pub use crate::accesses::Spacing;

@@ -5,13 +5,14 @@ ghost use Rattle.std.specs.Prelude.{◌≡◌, ◌<◌, ◌%◌, ℕ};
 ghost use Rattle.lanes.specs.Words as word;
 ghost use Rattle.lanes.specs.Words.{zip_with};
 ghost use Rattle.vector_unit.specs.declared.operands.Operand.{Operand};
-ghost use Rattle.vector_unit.specs.declared.operands.Operand.TheVariants.{Register, Number};
+ghost use Rattle.vector_unit.specs.declared.operands.Operand.TheVariants.{Register, Number, Immediate};
 ghost use Rattle.vector_unit.specs.Vector.{group};
 ghost use Rattle.vector_unit.specs.inner.Wholes.{IsWhole, words_of};
 
+use crate::operands::word_of;
 use crate::states::VectorState;
 use lanes::Lanes;
-use rv_insn::VReg;
+use rv_insn::{Imm5, VReg};
 
 /// An operand of words beside `vs2`: a group, or a number in each word.
 pub(crate) trait WordOperand: Copy {
@@ -48,6 +49,17 @@ impl WordOperand for u32 {
     #[inline(always)]
     fn words(self, state: &VectorState, part: usize) -> Lanes<u32, 4> {
         Lanes::<u32, 4>::splat(self)
+    }
+}
+
+impl WordOperand for Imm5 {
+    ghost operand = { λ imm. Immediate imm };
+
+    ghost IsPlaced = { λ imm size. Unit {0} };
+
+    #[inline(always)]
+    fn words(self, state: &VectorState, part: usize) -> Lanes<u32, 4> {
+        Lanes::<u32, 4>::splat(word_of(self))
     }
 }
 

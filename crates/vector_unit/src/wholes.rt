@@ -60,7 +60,7 @@ impl VectorState {
     /// Writes a register of a group.
     #[tactic(auto, using(crate::proofs::Whole::place_inside))]
     #[inline(always)]
-    fn put_part(&mut self, v: VReg, part: usize, bytes: [u8; 16])
+    pub(crate) fn put_part(&mut self, v: VReg, part: usize, bytes: [u8; 16])
         requires configured { has_vill self.old ≡ false }
         requires placed { v % group self.old ≡ 0 }
         requires part { part < group self.old }
@@ -238,10 +238,21 @@ impl VectorState {
         }
     }
 
-    /// Whether instructions that aren't masked work on whole groups of words, of which two begin at these registers.
+    /// Whether instructions that aren't masked work on whole groups of words, of which one begins at this register.
+    #[tactic(auto, using(crate::proofs::Whole::is_multiple, crate::proofs::Whole::one_placed))]
+    #[inline(always)]
+    pub(crate) fn takes_one(&self, vd: VReg) -> bool
+        ensures whole { result ≡ true → IsWhole self.now }
+        ensures placed { result ≡ true → is_misplaced self.now (vd ∷ []) ≡ false }
+        ensures vd { result ≡ true → vd % group self.now ≡ 0 }
+    {
+        self.is_whole() && !self.is_inside(vd)
+    }
+
+    /// The same of two.
     #[tactic(auto, using(crate::proofs::Whole::is_multiple, crate::proofs::Whole::two_placed))]
     #[inline(always)]
-    fn takes_two(&self, vd: VReg, vs2: VReg) -> bool
+    pub(crate) fn takes_two(&self, vd: VReg, vs2: VReg) -> bool
         ensures whole { result ≡ true → IsWhole self.now }
         ensures placed { result ≡ true → is_misplaced self.now (vd ∷ vs2 ∷ []) ≡ false }
         ensures vd { result ≡ true → vd % group self.now ≡ 0 }
@@ -253,7 +264,7 @@ impl VectorState {
     /// The same of three.
     #[tactic(auto, using(crate::proofs::Whole::is_multiple, crate::proofs::Whole::three_placed))]
     #[inline(always)]
-    fn takes_three(&self, vd: VReg, vs2: VReg, vs1: VReg) -> bool
+    pub(crate) fn takes_three(&self, vd: VReg, vs2: VReg, vs1: VReg) -> bool
         ensures whole { result ≡ true → IsWhole self.now }
         ensures placed { result ≡ true → is_misplaced self.now (vd ∷ vs2 ∷ vs1 ∷ []) ≡ false }
         ensures vd { result ≡ true → vd % group self.now ≡ 0 }
@@ -467,6 +478,14 @@ impl VectorState {
                 vm: true,
                 ..
             } => self.multiply_numbers(op, vd, vs2, scalar),
+            VectorInsn::MergeVv { vd, vs2, vs1 } => self.merge_groups(vd, vs2, vs1),
+            VectorInsn::MergeVx { vd, vs2, .. } => self.merge_operand(vd, vs2, scalar),
+            VectorInsn::MergeVi { vd, vs2, imm } => self.merge_operand(vd, vs2, imm),
+            VectorInsn::MoveVv { vd, vs1 } => self.copy_group(vd, vs1),
+            VectorInsn::MoveVx { vd, .. } => self.copy_operand(vd, scalar),
+            VectorInsn::MoveVi { vd, imm } => self.copy_operand(vd, imm),
+            VectorInsn::ElementNumbers { vd, vm: true } => self.number_whole(vd),
+            VectorInsn::ExtendBytes { vd, vs2, vm: true } => self.extend_bytes(vd, vs2),
             _ => false,
         }
     }
