@@ -3,7 +3,7 @@ use Rattle.std.proofs.Common.{◌≡◌, ℕ, ◌+◌, ◌-◌, ◌≤◌, List,
 use Rattle.std.specs.Prelude.{◌≢◌, nat_lt, cond}
 use Rattle.std.proofs.lemmas.List.{set_comm}
 use Rattle.std.proofs.lemmas.Bool.{ltb-false, cond_both}
-use Rattle.memory.specs.Access.{data_start, byte_at, put, put_byte, put_number, NotIn, Size, Word, access_at, bytes_of, places_of}
+use Rattle.memory.specs.Access.{data_start, byte_at, put, put_byte, put_number, number_in, NotIn, Size, Word, access_at, bytes_of, places_of}
 
 pub length-put_byte : (memory : List ℕ) (place byte : ℕ) → length (put_byte memory place byte) ≡ length memory
 length-put_byte memory place byte = grind (arith, length-set {A = ℕ})
@@ -32,6 +32,26 @@ four_put m0 m1 m2 m3 m4 at address a b c d e e1 e2 e3 e4 =
     let q4 : m4 ≡ put_number m3 Word (address + 12) d = e4 ∙ ap (λ x. put_number m3 Word x d) p4 in
     q4 ∙ ap (λ m. put_number m Word (address + 12) d) (q3 ∙ ap (λ m. put_number m Word (address + 8) c) (q2
     ∙ ap (λ m. put_number m Word (address + 4) b) q1))
+
+-- four words of data one behind the other
+pub four_read : (text memory : List ℕ) (a b c d at address : ℕ) → at + data_start ≡ address
+    → a ≡ number_in text memory Word (at + data_start) → b ≡ number_in text memory Word (at + 4 + data_start)
+    → c ≡ number_in text memory Word (at + 8 + data_start) → d ≡ number_in text memory Word (at + 12 + data_start)
+    → a ∷ b ∷ c ∷ d ∷ []
+    ≡ number_in text memory Word address ∷ number_in text memory Word (address + 4) ∷ number_in text memory Word (address + 8)
+    ∷ number_in text memory Word (address + 12) ∷ []
+four_read text memory a b c d at address e e1 e2 e3 e4 =
+    let p2 : at + 4 + data_start ≡ address + 4 = omega (arith, e) in
+    let p3 : at + 8 + data_start ≡ address + 8 = omega (arith, e) in
+    let p4 : at + 12 + data_start ≡ address + 12 = omega (arith, e) in
+    let q1 : a ≡ number_in text memory Word address = e1 ∙ ap (number_in text memory Word) e in
+    let q2 : b ≡ number_in text memory Word (address + 4) = e2 ∙ ap (number_in text memory Word) p2 in
+    let q3 : c ≡ number_in text memory Word (address + 8) = e3 ∙ ap (number_in text memory Word) p3 in
+    let q4 : d ≡ number_in text memory Word (address + 12) = e4 ∙ ap (number_in text memory Word) p4 in
+    ap (λ x. x ∷ b ∷ c ∷ d ∷ []) q1
+    ∙ ap (λ x. number_in text memory Word address ∷ x ∷ c ∷ d ∷ []) q2
+    ∙ ap (λ x. number_in text memory Word address ∷ number_in text memory Word (address + 4) ∷ x ∷ d ∷ []) q3
+    ∙ ap (λ x. number_in text memory Word address ∷ number_in text memory Word (address + 4) ∷ number_in text memory Word (address + 8) ∷ x ∷ []) q4
 
 same-cond : {A : Type 0} (t : Bool) (x y z : A) → (t ≡ false → y ≡ z) → cond t x y ≡ cond t x z
 same-cond true x y z h = refl

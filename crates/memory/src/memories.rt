@@ -73,14 +73,12 @@ impl Memory {
         ])
     }
 
-    /// The word at an address of data that is a multiple of 4.
+    /// The word of data from a byte on.
     #[inline(always)]
-    fn read_data_word(&self, address: u32) -> u32
-        requires low { data_start ≤ address }
-        requires high { address + 4 ≤ data_start + length self.now.memory }
-        ensures { result ≡ number_in self.now.text self.now.memory Word address }
+    fn word_from(&self, at: usize) -> u32
+        requires { at + 4 ≤ length self.now.memory }
+        ensures { result ≡ number_in self.now.text self.now.memory Word (at + data_start) }
     {
-        let at = (address - DATA_START) as usize;
         let word = &self.bytes[at..at + 4];
         u32::from_le_bytes([word[0], word[1], word[2], word[3]])
     }
@@ -170,11 +168,12 @@ impl Bytes for Memory {
 
     #[inline(always)]
     fn read_four_words(&self, address: u32) -> [u32; 4] {
+        let at = (address - DATA_START) as usize;
         [
-            self.read_data_word(address),
-            self.read_data_word(address + 4),
-            self.read_data_word(address + 8),
-            self.read_data_word(address + 12),
+            self.word_from(at),
+            self.word_from(at + 4),
+            self.word_from(at + 8),
+            self.word_from(at + 12),
         ]
     }
 
