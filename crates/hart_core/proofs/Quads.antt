@@ -48,14 +48,14 @@ module _ (bytes : ℕ) (w : ElementWidth) (address others b : ℕ) (e : b ≡ by
 -- ---- what four leave
 
 -- an element that is loaded from an address
-abbrev at : ElementWidth → ℕ → (Access → ℕ) → Vectors → ℕ → ℕ → Vectors
+abbrev pub at : ElementWidth → ℕ → (Access → ℕ) → Vectors → ℕ → ℕ → Vectors
 at w v f state i a = with_element_from state (bits_of w) v i (f (access_at (size_of w) a))
 
 -- the rest, from an element and an address on
-abbrev others-filled : ElementWidth → ℕ → (Access → ℕ) → Vectors → ℕ → ℕ → ℕ → Vectors
+abbrev pub others-filled : ElementWidth → ℕ → (Access → ℕ) → Vectors → ℕ → ℕ → ℕ → Vectors
 others-filled w v f state i a n = filled_from i state (bits_of w) v (replicate n true) (map f (accesses_at w (addresses_from w a n)))
 
-loaded-four : (state : Vectors) (w : ElementWidth) (v address quad others : ℕ) (f : Access → ℕ) → 0 < others
+pub loaded-four : (state : Vectors) (w : ElementWidth) (v address quad others : ℕ) (f : Access → ℕ) → 0 < others
     → filled_from (4 * quad) state (bits_of w) v (replicate (4 * others) true) (map f (accesses_at w (addresses_from w address (4 * others))))
     ≡ others-filled w v f
     (at w v f (at w v f (at w v f (at w v f state (4 * quad) address) (4 * quad + 1) (address + bytes_in (size_of w))) (4 * quad + 2)
@@ -108,15 +108,15 @@ pub length-stored : (memory memory' : List ℕ) (size : Size) (a n : ℕ) → me
 length-stored memory memory' size a n e = ap length e ∙ length-put memory (places_of (access_at size a)) (bytes_of size n)
 
 -- so many elements that are stored from an element and an address on
-abbrev others-put : ElementWidth → (ℕ → ℕ) → List ℕ → ℕ → ℕ → ℕ → List ℕ
+abbrev pub others-put : ElementWidth → (ℕ → ℕ) → List ℕ → ℕ → ℕ → ℕ → List ℕ
 others-put w f memory i a n = put memory (touched (accesses_at w (addresses_from w a n))) (spread (accesses_at w (addresses_from w a n))
     (map f (range_with_len i n)))
 
-put-next : (w : ElementWidth) (f : ℕ → ℕ) (memory : List ℕ) (i a n : ℕ)
+pub put-next : (w : ElementWidth) (f : ℕ → ℕ) (memory : List ℕ) (i a n : ℕ)
     → others-put w f memory i a (suc n) ≡ others-put w f (put_number memory (size_of w) a (f i)) (i + 1) (a + bytes_in (size_of w)) n
 put-next w f memory i a n = put-one memory w a (f i) (accesses_at w (addresses_from w (a + bytes_in (size_of w)) n)) (map f (range_with_len (i + 1) n))
 
-stored-four : (memory : List ℕ) (w : ElementWidth) (address quad others : ℕ) (f : ℕ → ℕ) → 0 < others
+pub stored-four : (memory : List ℕ) (w : ElementWidth) (address quad others : ℕ) (f : ℕ → ℕ) → 0 < others
     → others-put w f memory (4 * quad) address (4 * others)
     ≡ others-put w f
     (put_number (put_number (put_number (put_number memory (size_of w) address (f (4 * quad))) (size_of w) (address + bytes_in (size_of w)) (f (4 * quad + 1)))

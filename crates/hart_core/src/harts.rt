@@ -1,6 +1,6 @@
 //! The state of one hart.
 
-ghost use Rattle.std.specs.Prelude.{◌≡◌, ◌<◌, ◌≤◌, ◌^◌, ◌&&◌, not, None, true, false, slice_index, OnOk, OnErr};
+ghost use Rattle.std.specs.Prelude.{◌≡◌, ◌<◌, ◌≤◌, ◌+◌, ◌*◌, ◌^◌, ◌&&◌, not, None, true, false, slice_index, OnOk, OnErr};
 ghost use Rattle.std.specs.Prelude.{IfOk, IfErr};
 ghost use Rattle.vector_unit.specs.Vector.{configured, has_vill, is_illegal_configuration};
 ghost use Rattle.vector_unit.specs.Vector.{bits_of, is_own, is_refused, vector_after, scalar_given, number_of};
@@ -247,5 +247,17 @@ impl Hart {
             number) }
     {
         self.unit.put_element(width, vd, index, number);
+    }
+
+    /// Writes the four words of a register of a group.
+    #[inline(always)]
+    pub(crate) fn put_four_words(&mut self, vd: VReg, part: usize, words: [u32; 4])
+        requires { vd + part < 32 }
+        ensures { self.new ≡ with_vectors self.old (with_element_from (with_element_from (with_element_from
+            (with_element_from (vectors_of self.old) 32 vd (4 * part) (slice_index words 0))
+            32 vd (4 * part + 1) (slice_index words 1)) 32 vd (4 * part + 2) (slice_index words 2))
+            32 vd (4 * part + 3) (slice_index words 3)) }
+    {
+        self.unit.put_four_words(vd, part, words);
     }
 }

@@ -14,6 +14,7 @@ mod execution;
 pub mod harts;
 mod meanings;
 mod pieces;
+mod runs;
 mod scalars;
 mod vectors;
 

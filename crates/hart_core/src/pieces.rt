@@ -19,7 +19,7 @@ use rv_insn::{ElementWidth, VReg};
 use vector_unit::{Spacing, VectorState};
 
 /// Addresses from which on the greatest group may reach the end of all addresses.
-const LAST_ADDRESSES: u32 = 0xffff_ff00;
+pub(crate) const LAST_ADDRESSES: u32 = 0xffff_ff00;
 
 /// A group of registers as elements of a width.
 #[derive(Clone, Copy)]

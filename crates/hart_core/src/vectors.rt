@@ -8,13 +8,14 @@ ghost use Rattle.vector_unit.specs.Vector.{has_vill, is_illegal_configuration};
 ghost use Rattle.vector_unit.specs.Vector.{asked_of, is_own, is_refused, vector_after};
 ghost use Rattle.vector_unit.specs.Accesses.{active_numbers, addresses_by, loaded, spacing_of};
 ghost use Rattle.hart_core.specs.VectorRows.{computed_by, configured_by};
-ghost use Rattle.hart_core.specs.inner.Pieces.{accesses_of};
+ghost use Rattle.hart_core.specs.inner.Pieces.{accesses_of, is_access};
 ghost use Rattle.hart_core.specs.HartState.{register, advanced, vectors_of, with_vectors};
 ghost use Rattle.hart_core.specs.Turn.{fault, IsDone};
 
 use crate::element_accesses::{check_stores, read_numbers, write_numbers};
 use crate::harts::Hart;
 use crate::pieces::{Group, is_piece, store_group};
+use crate::runs::is_run;
 use memory::Bytes;
 use rv_insn::{Addressing, ElementWidth, Outcome, Reg, Trap, VReg, VectorInsn};
 use vector_unit::{Asked, Numbers, Spacing};
@@ -62,16 +63,60 @@ impl Hart {
                 self.reconfigure(rd, self.register(rs2), asked)
             }
             VectorInsn::LoadElements {
+                width: ElementWidth::Bits32,
+                vd,
+                rs1,
+                addressing: Addressing::UnitStride,
+                vm: true,
+            } if is_run(memory, self.vectors(), vd, self.register(rs1)) => {
+                self.load_run(memory, vd, rs1);
+                Ok(self.advance())
+            }
+            VectorInsn::StoreElements {
+                width: ElementWidth::Bits32,
+                vs3,
+                rs1,
+                addressing: Addressing::UnitStride,
+                vm: true,
+            } if is_run(memory, self.vectors(), vs3, self.register(rs1)) => {
+                self.store_run(memory, vs3, rs1);
+                Ok(self.advance())
+            }
+            VectorInsn::LoadElements { .. } | VectorInsn::StoreElements { .. } => {
+                self.execute_access(insn, memory)
+            }
+            _ => self.execute_on_registers(insn),
+        }
+    }
+
+    /// Executes a load or store of any kind. It is a function of its own, so that those of whole groups of words need no
+    /// room.
+    #[inline(never)]
+    fn execute_access<M: Bytes>(
+        &mut self,
+        insn: &VectorInsn,
+        memory: &mut M,
+    ) -> Result<Outcome, Trap>
+        requires { is_access insn.now ≡ true }
+        ensures ok { IfOk result (λ outcome. IsDone (M.text memory.old) (M.memory memory.old) self.old
+            (insns.Vector insn.now) self.new (M.memory memory.new) outcome) }
+        ensures trap { IfErr result (λ trap. fault (length (M.text memory.old)) (length (M.memory memory.old))
+            (insns.Vector insn.now) self.old ≡ Some trap) }
+        ensures hart { OnErr result (self.new ≡ self.old) }
+        ensures memory { OnErr result (M.memory memory.new ≡ M.memory memory.old) }
+        ensures text { M.text memory.new ≡ M.text memory.old }
+    {
+        self.check_legal(insn)?;
+        match *insn {
+            VectorInsn::LoadElements {
                 width,
                 vd,
                 rs1,
                 addressing,
                 vm,
             } => {
-                self.check_legal(insn)?;
                 let access = self.access(Group { width, v: vd }, vm, rs1, addressing);
                 self.load_vector(memory, &access)?;
-                Ok(Outcome::Stepped)
             }
             VectorInsn::StoreElements {
                 width,
@@ -80,13 +125,12 @@ impl Hart {
                 addressing,
                 vm,
             } => {
-                self.check_legal(insn)?;
                 let access = self.access(Group { width, v: vs3 }, vm, rs1, addressing);
                 self.store_vector(memory, &access)?;
-                Ok(Outcome::Stepped)
             }
-            _ => self.execute_on_registers(insn),
+            _ => unreachable!(),
         }
+        Ok(Outcome::Stepped)
     }
 
     /// Whether an instruction that doesn't configure the unit is legal in the hart's state.

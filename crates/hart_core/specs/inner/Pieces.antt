@@ -1,12 +1,16 @@
 -- Accesses to all elements of a group that lie one behind the other in data: the words of private functions, which a reader need
 -- not believe.
-use Rattle.std.specs.Prelude.{◌≡◌, ◌<◌, ℕ, zero, suc, ◌+◌, ◌*◌, ◌%◌, ◌^◌, Bool, true, IsTrue, List, [], ◌∷◌, replicate}
+use Rattle.std.specs.Prelude.{◌≡◌, ◌<◌, ◌≤◌, ℕ, zero, suc, ◌+◌, ◌*◌, ◌%◌, ◌^◌, Bool, true, false, IsTrue, List, [], ◌∷◌, map, replicate}
+use Rattle.std.specs.List.{range_with_len}
+use Rattle.rv_insn.specs.declared.vector_instructions.VectorInsn.{VectorInsn}
+use Rattle.rv_insn.specs.declared.vector_instructions.VectorInsn.TheVariants as v
 use Rattle.rv_insn.specs.declared.vector_operations.ElementWidth.{ElementWidth}
-use Rattle.memory.specs.Access.{in_data, Access, bytes_in}
-use Rattle.vector_unit.specs.Vector.{Vectors, count, active_in}
+use Rattle.rv_insn.specs.declared.vector_operations.ElementWidth.TheVariants as widths
+use Rattle.memory.specs.Access.{in_data, put, spread, touched, Access, bytes_in}
+use Rattle.vector_unit.specs.Vector.{Vectors, count, group, has_vill, width, active_in}
 use Rattle.vector_unit.specs.declared.accesses.Spacing.{Spacing}
 use Rattle.vector_unit.specs.declared.accesses.Spacing.TheVariants.{UnitStride}
-use Rattle.vector_unit.specs.Accesses.{addresses_by}
+use Rattle.vector_unit.specs.Accesses.{addresses_by, filled_from}
 use Rattle.hart_core.specs.HartState.{HartState, register, vectors_of}
 use Rattle.hart_core.specs.VectorRows.{accesses_at, size_of}
 use Rattle.hart_core.specs.declared.vectors.VectorAccess.{VectorAccess}
@@ -31,3 +35,30 @@ pub record IsPiece (bytes : ℕ) (state : Vectors) (w : ElementWidth) (spacing :
   pub spacing_is : spacing ≡ UnitStride w
   pub full : active_in state vm ≡ replicate (count state) true
   pub lies : LiesInData bytes w base (count state)
+
+-- ---- whole groups of words
+
+-- a whole group of words begins at a register, and as many words from an address on lie in a data of so many bytes
+pub record IsRun (bytes : ℕ) (state : Vectors) (v base : ℕ) : Type 0 where
+  pub configured : has_vill state ≡ false
+  pub words : width state ≡ 32
+  pub full : count state ≤ state.vl
+  pub placed : v % group state ≡ 0
+  pub lies : LiesInData bytes widths.Bits32 base (count state)
+
+-- so many words from an element and an address on, loaded one behind the other
+abbrev pub words_filled : (Access → ℕ) → ℕ → Vectors → ℕ → ℕ → ℕ → Vectors
+words_filled f v state i address n =
+    filled_from i state 32 v (replicate n true) (map f (accesses_at widths.Bits32 (addresses_from widths.Bits32 address n)))
+
+-- the same, stored
+abbrev pub words_put : (ℕ → ℕ) → List ℕ → ℕ → ℕ → ℕ → List ℕ
+words_put f memory i address n =
+    put memory (touched (accesses_at widths.Bits32 (addresses_from widths.Bits32 address n)))
+    (spread (accesses_at widths.Bits32 (addresses_from widths.Bits32 address n)) (map f (range_with_len i n)))
+
+-- the instruction is a load or store
+abbrev pub is_access : VectorInsn → Bool
+is_access (v.LoadElements w vd rs1 addressing vm) = true
+is_access (v.StoreElements w vs3 rs1 addressing vm) = true
+is_access insn = false

@@ -1,0 +1,26 @@
+use Rattle.std.proofs.Common.{ap, ◌∙◌, length}
+use Rattle.memory.specs.Access.{Reads, first_fault, number_at}
+use Rattle.rv_insn.specs.declared.vector_operations.ElementWidth.TheVariants.{Bits32}
+use Rattle.hart_core.specs.HartState.{register, vectors_of}
+use Rattle.hart_core.specs.VectorRows.{accesses_at}
+use Rattle.hart_core.specs.inner.Pieces.{IsRun}
+use Rattle.hart_core.proofs.Lying.{addresses-are, loaded-is, reads-free}
+use Rattle.hart_core.proofs.WordRuns.{is-load, run_piece}
+use Rattle.hart_core.proofs.harts.Hart.load_run.Goals as goal
+
+pub returns-clause-legal : goal.returns-clause-legal
+returns-clause-legal g c = is-load _ _ _ _ c.requires c.args.rs1
+
+pub returns-clause-fits : goal.returns-clause-fits
+returns-clause-fits g c =
+    let memory = g.M.Bytes.memory c.args.memory.now in
+    let p = run_piece _ _ _ _ c.requires in
+    ap (λ places. first_fault (length (g.M.Bytes.text c.args.memory.now)) (length memory) Reads (accesses_at Bits32 places))
+    (addresses-are _ _ _ _ _ _ p)
+    ∙ reads-free (length memory) (length (g.M.Bytes.text c.args.memory.now)) Bits32 _ _ p.lies
+
+pub returns-clause-hart : goal.returns-clause-hart
+returns-clause-hart g c =
+    let p = run_piece _ _ _ _ c.requires in
+    let q = rw c.register.ensures at c.load_group_of_words.ensures in
+    rw (addresses-are _ _ _ _ _ _ p, loaded-is _ _ _ _ _ _ p c.args.vd _) q
