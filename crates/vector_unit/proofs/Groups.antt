@@ -91,7 +91,7 @@ part-operand state cut (Number n) part l = part-replicate _ (own_count state) pa
 part-operand state cut (Immediate imm) part l = part-replicate _ (own_count state) part (count state) (within state cut part l)
 part-operand state cut (Amount amount) part l = part-replicate _ (own_count state) part (count state) (within state cut part l)
 
-part-active : (state : Vectors) → IsCut state → (vm : Bool) (part : ℕ) → part < group state → part_of (own_count state) part (active_in state vm)
+pub part-active : (state : Vectors) → IsCut state → (vm : Bool) (part : ℕ) → part < group state → part_of (own_count state) part (active_in state vm)
     ≡ active_part state vm part
 unfolding active
 part-active state cut vm part l =

@@ -8,21 +8,22 @@ use Rattle.std.proofs.lemmas.Bool.{and_parts, leb-true, not-false}
 use Rattle.std.proofs.lemmas.List.FromFn.{length-map-range_with_len, length-range_with_len}
 use Rattle.std.proofs.lemmas.List.{length-replicate}
 use Rattle.std.proofs.Math.Nat.{mod-eq_of_lt}
-use Rattle.lanes.specs.Words.{element, elements, with_element, zip_with, merged, mask_bit, mask_bits, wrapped}
+use Rattle.lanes.specs.Words.{element, elements, with_element, zip_with, merged, mask_bit, mask_bits, with_mask_bits_from, wrapped}
 use Rattle.vector_unit.specs.Operations as op
 use Rattle.vector_unit.specs.declared.elements.NewElements.{NewElements}
 use Rattle.vector_unit.specs.declared.elements.NewElements.TheVariants.{Arithmetic, Multiply, Merge, Copy, Numbers, Bytes}
+use Rattle.rv_insn.specs.declared.vector_operations.CompareVxOp.{CompareVxOp}
 use Rattle.vector_unit.specs.declared.operands.Operand.{Operand}
 use Rattle.vector_unit.specs.declared.operands.Operand.TheVariants.{Register, Number, Immediate, Amount}
 use Rattle.vector_unit.specs.Accesses.{with_element_from}
 use Rattle.vector_unit.specs.Vector.{Vectors, register, with_register, with_registers, with_elements, is_supported, vsew_of, vlmul_of, most_elements}
 use Rattle.vector_unit.specs.Vector.{width, count, group, of_group, element_from, has_vill, is_misplaced}
 use Rattle.vector_unit.specs.Operands.{operand_elements}
-use Rattle.vector_unit.specs.inner.Parts.{own_count, operand_part, new_elements, new_part}
-use Rattle.vector_unit.specs.inner.Wholes.{IsWhole, is_whole_of, with_each, paired_words, words_of}
+use Rattle.vector_unit.specs.inner.Parts.{active_part, own_count, operand_part, new_elements, new_part, with_part_bits}
+use Rattle.vector_unit.specs.inner.Wholes.{IsWhole, is_whole_of, with_each, paired_words, words_in, words_of}
 use Rattle.vector_unit.proofs.Actives.{all_active}
-use Rattle.vector_unit.proofs.Groups.{is_cut, part-new, part-group, part-operand, next_part, from_none}
-use Rattle.vector_unit.proofs.Parts.{part_of, part-zip}
+use Rattle.vector_unit.proofs.Groups.{is_cut, part-active, within, part-new, part-group, part-operand, next_part, from_none}
+use Rattle.vector_unit.proofs.Parts.{part_of, part-replicate, part-zip}
 
 -- ---- all are written
 
@@ -235,3 +236,29 @@ word_put state v part index n l small =
     ap (λ p. with_register state (v + p) (with_element 32 (register state (v + p)) ((4 * part + index) % 4) (n % 2 ^ 32))) q
     ∙ ap (λ i. with_register state (v + part) (with_element 32 (register state (v + part)) i (n % 2 ^ 32))) r
     ∙ ap (λ a. with_register state (v + part) (with_element 32 (register state (v + part)) index a)) m
+
+-- the offset of an element, among those of a group
+pub word_lies : (state : Vectors) (v i : ℕ) → width state ≡ 32 → element_from state (width state) v i ≡ element_from state 32 v (4 * (i / 4) + i % 4)
+word_lies state v i e =
+    let same : i ≡ 4 * (i / 4) + i % 4 = omega arith in
+    ap (λ w. element_from state w v i) e ∙ ap (element_from state 32 v) same
+
+-- ---- comparisons
+
+part_active_whole : (state : Vectors) → IsWhole state → (part : ℕ) → part < group state → active_part state true part ≡ true ∷ true ∷ true ∷ true ∷ []
+part_active_whole state whole part l =
+    let cut = is_cut state whole.configured in
+    sym (part-active state cut true part l)
+    ∙ ap (part_of (own_count state) part) (all_active state whole.full)
+    ∙ part-replicate true (own_count state) part (count state) (within state cut part l)
+    ∙ ap (λ w. replicate (128 / w) true) whole.words
+
+pub compared_words : (state : Vectors) → IsWhole state → (o : CompareVxOp) (vs2 : ℕ) (other : Operand) (part : ℕ) (bytes : List ℕ) → part < group state
+    → with_mask_bits_from (part * 4) (true ∷ true ∷ true ∷ true ∷ []) (zip_with (op.compare_vx o 32) (words_in state vs2 part) (words_of state other part)) bytes
+    ≡ with_part_bits state o vs2 other true part bytes
+compared_words state whole o vs2 other part bytes l =
+    let bits : ℕ → List Bool → List ℕ → List ℕ = λ w flags others. with_mask_bits_from (part * (128 / w)) flags
+    (zip_with (op.compare_vx o w) (elements w (register state (vs2 + part))) others) bytes in
+    sym (ap (λ flags. bits (width state) flags (operand_part state other part)) (part_active_whole state whole part l)
+    ∙ ap (bits (width state) (true ∷ true ∷ true ∷ true ∷ [])) (operand_words state whole other part)
+    ∙ ap (λ w. bits w (true ∷ true ∷ true ∷ true ∷ []) (words_of state other part)) whole.words)

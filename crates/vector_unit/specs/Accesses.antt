@@ -3,7 +3,7 @@
 -- RISC-V Vector Extension 1.0, chapter 7 "Vector Loads and Stores", with sections 7.2 "Vector Load/Store Addressing Modes"
 -- and 7.3 "Vector Load/Store Width Encoding". That elements which are not active are kept is this project's own, and so is
 -- that every other byte of a register is.
-use Rattle.std.specs.Prelude.{ℕ, ◌+◌, ◌*◌, ◌/◌, ◌%◌, ◌^◌, Bool, true, false, List, [], ◌∷◌, map, Option, Some, None}
+use Rattle.std.specs.Prelude.{ℕ, ◌<◌, ◌+◌, ◌*◌, ◌/◌, ◌%◌, ◌^◌, Bool, true, false, List, [], ◌∷◌, map, Option, Some, None}
 use Rattle.std.specs.List.{range_with_len}
 use Rattle.lanes.specs.Words as word
 use Rattle.lanes.specs.Words.{with_element, chosen_of}
@@ -33,6 +33,12 @@ offset state (Indexed vs2) i = element_from state (width state) vs2 i
 -- the same of all elements, active or not
 abbrev pub offsets_by : Vectors → Spacing → List ℕ
 offsets_by state spacing = map (offset state spacing) (range_with_len 0 (count state))
+
+-- where elements are words, the offset of element i lies in the registers, if it is one of theirs
+abbrev pub IsHeld : Spacing → ℕ → Type 0
+IsHeld (UnitStride w) i = Unit {0}
+IsHeld (Strided stride) i = Unit {0}
+IsHeld (Indexed vs2) i = vs2 + i / 4 < 32
 
 -- the addresses of the active elements, element by element
 unfoldable pub addresses_by : Vectors → Spacing → Bool → ℕ → List ℕ

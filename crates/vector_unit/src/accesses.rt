@@ -8,7 +8,7 @@ ghost use Rattle.lanes.specs.Words.{is_active};
 ghost use Rattle.vector_unit.specs.Vector.{register, with_register, has_vill};
 ghost use Rattle.vector_unit.specs.Vector as spec;
 ghost use Rattle.vector_unit.specs.Vector.{width, count, group, group_at, element_from, active_in};
-ghost use Rattle.vector_unit.specs.Accesses.{offset, addresses_by, active_numbers, filled_from, loaded};
+ghost use Rattle.vector_unit.specs.Accesses.{offset, addresses_by, active_numbers, filled_from, loaded, IsHeld};
 ghost use Rattle.vector_unit.specs.Accesses.{with_element_from};
 
 use crate::numbers::Numbers;
@@ -79,6 +79,22 @@ impl VectorState {
             Spacing::UnitStride(width) => index * (bits_of(width) / 8) as u32,
             Spacing::Strided(stride) => index.wrapping_mul(stride),
             Spacing::Indexed(vs2) => self.element(self.width(), vs2, index),
+        }
+    }
+
+    /// How many bytes from the base a word lies, modulo 2^32, where elements are words.
+    #[tactic(auto, using(crate::proofs::Whole::word_lies))]
+    #[inline(always)]
+    pub fn word_offset(&self, spacing: Spacing, index: u32) -> u32
+        requires configured { has_vill self.now ≡ false }
+        requires words { width self.now ≡ 32 }
+        requires held { IsHeld spacing index }
+        requires index { index < 64 }
+        ensures { result ≡ offset self.now spacing index }
+    {
+        match spacing {
+            Spacing::Indexed(vs2) => self.held_word(vs2, index as usize / 4, index as usize % 4),
+            _ => self.offset(spacing, index),
         }
     }
 

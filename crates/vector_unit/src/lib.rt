@@ -23,7 +23,9 @@ mod pair_operations;
 mod singles;
 mod states;
 mod vtypes;
+mod whole_comparisons;
 mod whole_elements;
+mod whole_instructions;
 mod wholes;
 
 pub use crate::accesses::Spacing;

@@ -1,11 +1,11 @@
 //! Instructions on whole groups of words, the most that programs do: what an operation makes of a group is written
 //! register by register, with no test of widths, masks and old elements.
 
-ghost use Rattle.std.specs.Prelude.{◌≡◌, ◌<◌, ◌+◌, ◌%◌, ℕ, true, false, None, [], ◌∷◌, replicate};
+ghost use Rattle.std.specs.Prelude.{◌≡◌, ◌<◌, ◌+◌, ◌%◌, ℕ, true, false, [], ◌∷◌, replicate};
 ghost use Rattle.lanes.specs.Words.{zip_with, register_of};
-ghost use Rattle.vector_unit.specs.Vector.{count, group, has_vill, is_misplaced, is_own, is_refused, of_group};
+ghost use Rattle.vector_unit.specs.Vector.{count, group, has_vill, is_misplaced, of_group};
 ghost use Rattle.vector_unit.specs.Vector.{of_immediate, of_scalar};
-ghost use Rattle.vector_unit.specs.Vector.{register, scalar_given, vector_after, with_elements, with_register, width};
+ghost use Rattle.vector_unit.specs.Vector.{register, with_elements, with_register, width};
 ghost use Rattle.vector_unit.specs.Operands.{operand_elements};
 ghost use Rattle.vector_unit.specs.Operations as op;
 ghost use Rattle.vector_unit.specs.inner.Wholes.{IsWhole, paired_words, with_each, words_in};
@@ -23,7 +23,6 @@ use crate::states::VectorState;
 use lanes::Lanes;
 use rv_insn::{
     ArithmeticViOp, ArithmeticVvOp, ArithmeticVxOp, Imm5, MultiplyOp, ShiftAmount, ShiftViOp, VReg,
-    VectorInsn,
 };
 
 impl VectorState {
@@ -276,7 +275,7 @@ impl VectorState {
 
     /// Writes what an operation makes of each pair of two whole groups, if they are that.
     #[inline(always)]
-    fn arithmetic_on_groups(
+    pub(crate) fn arithmetic_on_groups(
         &mut self,
         operation: ArithmeticVvOp,
         vd: VReg,
@@ -299,7 +298,7 @@ impl VectorState {
 
     /// Writes what an operation makes of each word of a whole group and a number, if it is that.
     #[inline(always)]
-    fn arithmetic_on_numbers(
+    pub(crate) fn arithmetic_on_numbers(
         &mut self,
         operation: ArithmeticVxOp,
         vd: VReg,
@@ -348,7 +347,7 @@ impl VectorState {
 
     /// Writes what an operation makes of each word of a whole group and an immediate, if it is that.
     #[inline(always)]
-    fn arithmetic_on_immediates(
+    pub(crate) fn arithmetic_on_immediates(
         &mut self,
         operation: ArithmeticViOp,
         vd: VReg,
@@ -371,7 +370,7 @@ impl VectorState {
 
     /// Writes each word of a whole group, shifted by an amount, if it is that.
     #[inline(always)]
-    fn shift_by_amount(
+    pub(crate) fn shift_by_amount(
         &mut self,
         operation: ShiftViOp,
         vd: VReg,
@@ -394,7 +393,7 @@ impl VectorState {
 
     /// Writes what a multiplication or division makes of each pair of two whole groups, if they are that.
     #[inline(always)]
-    fn multiply_groups(&mut self, operation: MultiplyOp, vd: VReg, vs2: VReg, vs1: VReg) -> bool
+    pub(crate) fn multiply_groups(&mut self, operation: MultiplyOp, vd: VReg, vs2: VReg, vs1: VReg) -> bool
         ensures configured { result ≡ true → has_vill self.old ≡ false }
         ensures placed { result ≡ true → is_misplaced self.old (vd ∷ vs2 ∷ vs1 ∷ []) ≡ false }
         ensures state { result ≡ true → self.new ≡ with_elements self.old vd true
@@ -410,7 +409,7 @@ impl VectorState {
 
     /// Writes what a multiplication or division makes of each word of a whole group and a number, if it is that.
     #[inline(always)]
-    fn multiply_numbers(&mut self, operation: MultiplyOp, vd: VReg, vs2: VReg, number: u32) -> bool
+    pub(crate) fn multiply_numbers(&mut self, operation: MultiplyOp, vd: VReg, vs2: VReg, number: u32) -> bool
         ensures configured { result ≡ true → has_vill self.old ≡ false }
         ensures placed { result ≡ true → is_misplaced self.old (vd ∷ vs2 ∷ []) ≡ false }
         ensures state { result ≡ true → self.new ≡ with_elements self.old vd true
@@ -423,70 +422,5 @@ impl VectorState {
         }
         self.multiply_pairs(operation, vd, vs2, number);
         true
-    }
-
-    /// Executes an instruction on whole groups of words, and answers whether it was one that is legal here. With any
-    /// other nothing is changed, and [`VectorState::execute`] says what comes of it.
-    #[inline(always)]
-    pub fn execute_on_wholes(&mut self, insn: &VectorInsn, scalar: u32) -> bool
-        ensures own { result ≡ true → is_own insn.now ≡ true }
-        ensures legal { result ≡ true → is_refused insn.now self.old ≡ false }
-        ensures state { result ≡ true → self.new ≡ vector_after insn.now (λ r. scalar) self.old }
-        ensures given { result ≡ true → scalar_given insn.now self.old ≡ None }
-        ensures unchanged { result ≡ false → self.new ≡ self.old }
-    {
-        match *insn {
-            VectorInsn::ArithmeticVv {
-                op,
-                vd,
-                vs2,
-                vs1,
-                vm: true,
-            } => self.arithmetic_on_groups(op, vd, vs2, vs1),
-            VectorInsn::ArithmeticVx {
-                op,
-                vd,
-                vs2,
-                vm: true,
-                ..
-            } => self.arithmetic_on_numbers(op, vd, vs2, scalar),
-            VectorInsn::ArithmeticVi {
-                op,
-                vd,
-                vs2,
-                imm,
-                vm: true,
-            } => self.arithmetic_on_immediates(op, vd, vs2, imm),
-            VectorInsn::ShiftVi {
-                op,
-                vd,
-                vs2,
-                amount,
-                vm: true,
-            } => self.shift_by_amount(op, vd, vs2, amount),
-            VectorInsn::MultiplyVv {
-                op,
-                vd,
-                vs2,
-                vs1,
-                vm: true,
-            } => self.multiply_groups(op, vd, vs2, vs1),
-            VectorInsn::MultiplyVx {
-                op,
-                vd,
-                vs2,
-                vm: true,
-                ..
-            } => self.multiply_numbers(op, vd, vs2, scalar),
-            VectorInsn::MergeVv { vd, vs2, vs1 } => self.merge_groups(vd, vs2, vs1),
-            VectorInsn::MergeVx { vd, vs2, .. } => self.merge_operand(vd, vs2, scalar),
-            VectorInsn::MergeVi { vd, vs2, imm } => self.merge_operand(vd, vs2, imm),
-            VectorInsn::MoveVv { vd, vs1 } => self.copy_group(vd, vs1),
-            VectorInsn::MoveVx { vd, .. } => self.copy_operand(vd, scalar),
-            VectorInsn::MoveVi { vd, imm } => self.copy_operand(vd, imm),
-            VectorInsn::ElementNumbers { vd, vm: true } => self.number_whole(vd),
-            VectorInsn::ExtendBytes { vd, vs2, vm: true } => self.extend_bytes(vd, vs2),
-            _ => false,
-        }
     }
 }
