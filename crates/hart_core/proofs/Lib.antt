@@ -3,4 +3,5 @@ pub mod Quads
 pub mod Meant
 mod Puts
 pub mod WordRuns
+pub mod Scattering
 mod Registers

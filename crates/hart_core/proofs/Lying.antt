@@ -80,7 +80,7 @@ module _ (bytes : ℕ) where
 
 -- ---- all elements
 
-chosen-all : (n : ℕ) (f : ℕ → ℕ) (i : ℕ) → chosen_of (replicate n true) (map f (range_with_len i n)) ≡ map f (range_with_len i n)
+pub chosen-all : (n : ℕ) (f : ℕ → ℕ) (i : ℕ) → chosen_of (replicate n true) (map f (range_with_len i n)) ≡ map f (range_with_len i n)
 chosen-all zero f i = refl
 chosen-all (suc n) f i = ap (λ xs. f i ∷ xs) (chosen-all n f (i + 1))
 

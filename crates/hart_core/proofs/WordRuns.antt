@@ -139,6 +139,11 @@ of_none state e few = by_size (group state) (group_sizes state e) few
     by_size g (inr (inl e)) few = absurd (omega (arith, e, few))
     by_size g (inr (inr e)) few = absurd (omega (arith, e, few))
 
+pub fitting : (v g : ℕ) → (g ≡ 1) ⊎ ((g ≡ 2) ⊎ (g ≡ 4)) → v % g ≡ 0 → (nat_lt 4 g || (nat_lt 1 g && not (v % g == 0))) ≡ false
+fitting v g (inl e) at = rw e refl
+fitting v g (inr (inl e)) at = rw at (rw e refl)
+fitting v g (inr (inr e)) at = rw at (rw e refl)
+
 module _ (bytes : ℕ) (state : Vectors) (v base : ℕ) (run : IsRun bytes state v base) where
   by-group : (g : ℕ) → group state ≡ g → count state ≡ 4 * g
   by-group g e = count_of_words state run.words ∙ ap (λ k. 4 * k) e
@@ -158,16 +163,11 @@ module _ (bytes : ℕ) (state : Vectors) (v base : ℕ) (run : IsRun bytes state
   pub lies-all : (n : ℕ) → count state ≡ n → LiesInData bytes Bits32 base n
   lies-all n e = subst (LiesInData bytes Bits32 base) e run.lies
 
-  fitting : (g : ℕ) → (g ≡ 1) ⊎ ((g ≡ 2) ⊎ (g ≡ 4)) → v % g ≡ 0 → (nat_lt 4 g || (nat_lt 1 g && not (v % g == 0))) ≡ false
-  fitting g (inl e) at = rw e refl
-  fitting g (inr (inl e)) at = rw at (rw e refl)
-  fitting g (inr (inr e)) at = rw at (rw e refl)
-
   own-group : 32 * group state / width state ≡ group state
   own-group = ap (λ w. 32 * group state / w) run.words ∙ (let one : 32 * group state / 32 ≡ group state = omega arith in one)
 
   is-fit : is_unfit state (Some (Bits32, v)) ≡ false
-  is-fit = ap (λ g. nat_lt 4 g || (nat_lt 1 g && not (v % g == 0))) own-group ∙ fitting (group state) (group_sizes state run.configured) run.placed
+  is-fit = ap (λ g. nat_lt 4 g || (nat_lt 1 g && not (v % g == 0))) own-group ∙ fitting v (group state) (group_sizes state run.configured) run.placed
 
   pub is-load : (rs1 : ℕ) → is_refused (LoadElements Bits32 v rs1 addressings.UnitStride true) state ≡ false
   is-load rs1 = rw (run.configured, is-fit) refl

@@ -16,6 +16,7 @@ mod meanings;
 mod pieces;
 mod runs;
 mod scalars;
+mod scattered;
 mod vectors;
 
 pub use crate::harts::{Hart, Status};

@@ -82,6 +82,26 @@ impl Hart {
                 self.store_run(memory, vs3, rs1);
                 Ok(self.advance())
             }
+            VectorInsn::LoadElements {
+                width: ElementWidth::Bits32,
+                vd,
+                rs1,
+                addressing: Addressing::Strided { rs2 },
+                vm: true,
+            } if self.vectors().takes_words(vd) => {
+                self.load_strided(memory, vd, rs1, rs2)?;
+                Ok(self.advance())
+            }
+            VectorInsn::LoadElements {
+                width: ElementWidth::Bits32,
+                vd,
+                rs1,
+                addressing: Addressing::Indexed { vs2 },
+                vm: true,
+            } if self.vectors().takes_words(vd) && self.vectors().takes_words(vs2) => {
+                self.load_indexed(memory, vd, rs1, vs2)?;
+                Ok(self.advance())
+            }
             VectorInsn::LoadElements { .. } | VectorInsn::StoreElements { .. } => {
                 self.execute_access(insn, memory)
             }

@@ -6,11 +6,12 @@ use Rattle.rv_insn.specs.declared.vector_instructions.VectorInsn.{VectorInsn}
 use Rattle.rv_insn.specs.declared.vector_instructions.VectorInsn.TheVariants as v
 use Rattle.rv_insn.specs.declared.vector_operations.ElementWidth.{ElementWidth}
 use Rattle.rv_insn.specs.declared.vector_operations.ElementWidth.TheVariants as widths
-use Rattle.memory.specs.Access.{in_data, put, spread, touched, Access, bytes_in}
+use Rattle.memory.specs.Access.{in_data, put, spread, touched, Access, Word, access_at, bytes_in}
+use Rattle.lanes.specs.Words as word
 use Rattle.vector_unit.specs.Vector.{Vectors, count, group, has_vill, width, active_in}
 use Rattle.vector_unit.specs.declared.accesses.Spacing.{Spacing}
 use Rattle.vector_unit.specs.declared.accesses.Spacing.TheVariants.{UnitStride}
-use Rattle.vector_unit.specs.Accesses.{addresses_by, filled_from}
+use Rattle.vector_unit.specs.Accesses.{addresses_by, filled_from, offset}
 use Rattle.hart_core.specs.HartState.{HartState, register, vectors_of}
 use Rattle.hart_core.specs.VectorRows.{accesses_at, size_of}
 use Rattle.hart_core.specs.declared.vectors.VectorAccess.{VectorAccess}
@@ -62,3 +63,7 @@ abbrev pub is_access : VectorInsn → Bool
 is_access (v.LoadElements w vd rs1 addressing vm) = true
 is_access (v.StoreElements w vs3 rs1 addressing vm) = true
 is_access insn = false
+
+-- the accesses to so many words from one on that lie so from a base on
+abbrev pub spots : Vectors → Spacing → ℕ → ℕ → ℕ → List Access
+spots state spacing base i n = map (λ k. access_at Word (word.add 32 base (offset state spacing k))) (range_with_len i n)
