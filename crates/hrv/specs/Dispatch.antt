@@ -8,7 +8,7 @@ use Rattle.hrv_engines.specs.Asm.{IsAssembly, IsRefusedAssembly}
 use Rattle.hrv_engines.specs.Blame.{IsBlame, IsRefusedBlame}
 use Rattle.hrv_engines.specs.Compile.{IsCompilation, IsRefusedCompilation}
 use Rattle.hrv_engines.specs.Debug.{Talks}
-use Rattle.hrv_engines.specs.Devices.{algorithm_text_of, both, bytes_of, image_bytes_of, picture_texts_of, pieces_of, sink_of, text_of}
+use Rattle.hrv_engines.specs.Devices.{both, bytes_of, image_bytes_of, pieces_of, sink_of, text_of, texts_of}
 use Rattle.hrv_engines.specs.Dis.{IsAddressedListing, IsListing, IsRefusedImage}
 use Rattle.hrv_engines.specs.Drawing.{IsDrawing, IsRefusedDrawing}
 use Rattle.hrv_engines.specs.Engine.{Performs, Writes}
@@ -76,18 +76,18 @@ module _ {R W T P : Type 0}
   Does alloc (Draws algorithm inputs) result =
       OrMemory result (At read_at algorithm (λ s t. AtEach read_at inputs (λ u v. At printed_at dash (λ o p.
       Performs (IsDrawing alloc) (IsRefusedDrawing alloc)
-      (both (algorithm_text_of read_at read_failed gave ended s t) (picture_texts_of read_at read_failed gave ended u v))
+      (both (text_of read_at read_failed gave ended s t) (texts_of read_at read_failed gave ended u v))
       (sink_of printed_at print_failed printed o p) result))))
   Does alloc (Compiles algorithm schedule image inputs) result =
       OrMemory result (At read_at algorithm (λ s t. At read_at schedule (λ u v. AtEach read_at inputs (λ x y. At written_at image (λ o p.
       Performs (IsCompilation alloc) (IsRefusedCompilation alloc)
-      (both (both (algorithm_text_of read_at read_failed gave ended s t) (text_of read_at read_failed gave ended u v)) (picture_texts_of read_at read_failed
+      (both (both (text_of read_at read_failed gave ended s t) (text_of read_at read_failed gave ended u v)) (texts_of read_at read_failed
       gave ended x y))
       (sink_of written_at write_failed stored o p) result)))))
   Does alloc (Maps algorithm schedule) result =
       At read_at algorithm (λ s t. At read_at schedule (λ u v. At printed_at dash (λ o p.
       Performs (IsMap alloc) (IsRefusedMap alloc)
-      (both (algorithm_text_of read_at read_failed gave ended s t) (text_of read_at read_failed gave ended u v))
+      (both (text_of read_at read_failed gave ended s t) (text_of read_at read_failed gave ended u v))
       (sink_of printed_at print_failed printed o p) result)))
   Does alloc (Runs image log harts turns) result =
       At read_at image (λ s t. At written_at log (λ u v. At printed_at dash (λ o p.

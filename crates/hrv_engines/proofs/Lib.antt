@@ -9,7 +9,6 @@ pub mod Numbers
 pub mod PictureFronts
 pub mod Pixels
 pub mod Printing
-pub mod Reading
 pub mod Runs
 pub mod Sources
 pub mod Splits
@@ -17,3 +16,4 @@ pub mod Steps
 pub mod StopsFound
 pub mod TalkSteps
 pub mod TextFronts
+pub mod WholeTexts

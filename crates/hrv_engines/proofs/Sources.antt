@@ -8,8 +8,10 @@ use Rattle.std.proofs.lemmas.Bool.{cases_lt}
 use Rattle.std.specs.String.{string_bytes}
 use Rattle.hrv_engines.specs.declared.faults.Fault.{Fault}
 use Rattle.hrv_engines.specs.declared.faults.Fault.TheVariants.{Refused, File, Memory, Thread}
-use Rattle.hrv_engines.specs.Devices.{GaveEach, GaveNoTextFront, GaveTextFront, NamesFailed, NoneFailed, most_picture_bytes, picture_text_of, picture_texts_of}
+use Rattle.hrv_engines.specs.declared.texts.Extent.TheVariants.{Bytes}
+use Rattle.hrv_engines.specs.Devices.{GaveEach, GaveNoText, GaveText, NamesFailed, NoneFailed, most_picture_bytes}
 use Rattle.hrv_engines.specs.Engine.{Reads, Unread}
+use Rattle.hrv_engines.specs.inner.Fronts.{GaveKept, kept_text_of, kept_texts_of}
 use Rattle.hrv_engines.proofs.Steps.{passed, reads_not}
 
 -- ---- lists
@@ -127,9 +129,9 @@ module _ {S : Type 0} (failures : S → ℕ) where
 
 module _ {S : Type 0} (place_of : S → List ℕ) (failures : S → ℕ) (gave : S → List ℕ → S → Type 0) (ended : S → Type 0) where
   next_failed : (first : List S) (texts : List (List ℕ)) (now : List S) (count : ℕ) (s t : S) (path : List ℕ)
-      → GaveFirst (GaveTextFront most_picture_bytes gave ended) first texts now count → slice_get now count ≡ Some s → path ≡ place_of s
-      → (failures s < failures t) ⊎ GaveNoTextFront gave ended s t
-      → NamesFailed place_of failures (GaveTextFront most_picture_bytes gave ended) (GaveNoTextFront gave ended) first (set now count t) path
+      → GaveFirst (GaveKept (Bytes most_picture_bytes) gave ended) first texts now count → slice_get now count ≡ Some s → path ≡ place_of s
+      → (failures s < failures t) ⊎ GaveNoText gave ended s t
+      → NamesFailed place_of failures (GaveText gave ended) (GaveNoText gave ended) first (set now count t) path
   next_failed first texts now count s t path g here is there = record {
     place = count;
     before = s;
@@ -140,12 +142,12 @@ module _ {S : Type 0} (place_of : S → List ℕ) (failures : S → ℕ) (gave :
     failed_there = there;
     earlier = λ sooner a b lt is_a is_b.
         let old = g.each sooner a b lt is_a (sym (get-set_other now count sooner t (λ e. omega arith)) ∙ is_b) in
-        (old.0, old.2);
+        (old.2.0, (old.2.2, old.2.3, old.2.4));
   }
 
   pub next_unread : (first : List S) (texts : List (List ℕ)) (now : List S) (count : ℕ) (s t : S) (fault : Fault)
-      → GaveFirst (GaveTextFront most_picture_bytes gave ended) first texts now count → NoneFailed failures first now → slice_get now count ≡ Some s
-      → Unread (picture_text_of place_of failures gave ended s t) fault → Unread (picture_texts_of place_of failures gave ended first (set now count t)) fault
+      → GaveFirst (GaveKept (Bytes most_picture_bytes) gave ended) first texts now count → NoneFailed failures first now → slice_get now count ≡ Some s
+      → Unread (kept_text_of (Bytes most_picture_bytes) place_of failures gave ended s t) fault → Unread (kept_texts_of place_of failures gave ended first (set now count t)) fault
   next_unread first texts now count s t (Refused refusal) g well here p = p
   next_unread first texts now count s t (File path) g well here p = next_failed first texts now count s t (string_bytes path) g here p.0 p.1
   next_unread first texts now count s t Memory g well here p = next_well failures first now count s t well here p
@@ -154,15 +156,15 @@ module _ {S : Type 0} (place_of : S → List ℕ) (failures : S → ℕ) (gave :
   pub reads_no_texts : {X : Type 0} (value : X → List (List ℕ)) (r : Result X Fault) (first : List S) (texts : List (List ℕ)) (now : List S) (count : ℕ)
       (s t : S) (fault : Fault)
       → IsErrAnd r (λ f. f ≡ fault)
-      → GaveFirst (GaveTextFront most_picture_bytes gave ended) first texts now count → NoneFailed failures first now → slice_get now count ≡ Some s
-      → Unread (picture_text_of place_of failures gave ended s t) fault → Reads value (picture_texts_of place_of failures gave ended first (set now count t)) r
+      → GaveFirst (GaveKept (Bytes most_picture_bytes) gave ended) first texts now count → NoneFailed failures first now → slice_get now count ≡ Some s
+      → Unread (kept_text_of (Bytes most_picture_bytes) place_of failures gave ended s t) fault → Reads value (kept_texts_of place_of failures gave ended first (set now count t)) r
   reads_no_texts value r first texts now count s t fault is g well here p =
-      let sources = picture_texts_of place_of failures gave ended first (set now count t) in
+      let sources = kept_texts_of place_of failures gave ended first (set now count t) in
       reads_not value sources r (passed (Unread sources) r fault is (next_unread first texts now count s t fault g well here p))
 
   pub texts_lost : {X : Type 0} (value : X → List (List ℕ)) (r : Result X Fault) (first later : List S) → IsErrAnd r (λ f. f ≡ Memory)
       → NoneFailed failures first later
-      → Reads value (picture_texts_of place_of failures gave ended first later) r
+      → Reads value (kept_texts_of place_of failures gave ended first later) r
   texts_lost value r first later is well =
-      let sources = picture_texts_of place_of failures gave ended first later in
+      let sources = kept_texts_of place_of failures gave ended first later in
       reads_not value sources r (passed (Unread sources) r Memory is well)

@@ -20,6 +20,12 @@ reads_not value sources (Err fault) p = p
 
 -- sources that are read one after the other
 module _ {I J : Type 0} (first : Sources I) (second : Sources J) where
+  pub first_unread : (fault : Fault) → second.untouched → second.well → Unread first fault → Unread (both first second) fault
+  first_unread (Refused refusal) still well p = p
+  first_unread (File path) still well p = inl (p, still)
+  first_unread Memory still well p = (p, well)
+  first_unread Thread still well p = p
+
   pub second_unread : (input : I) (fault : Fault) → first.gave input → first.well → Unread second fault → Unread (both first second) fault
   second_unread input (Refused refusal) given well p = p
   second_unread input (File path) given well p = inr ((input, given), well, p)

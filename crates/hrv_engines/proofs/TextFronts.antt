@@ -1,16 +1,27 @@
--- Fronts of texts: where a text begins with bytes, all but three of these at most are a text.
-use Rattle.std.proofs.Common.{◌≡◌, ◌∙◌, ◌<◌, ◌≤◌, ◌+◌, ◌⊎◌, ℕ, true, List, [], ◌∷◌, ◌++◌, length, take, drop, arith, refl, sym, ap, subst, inl, inr}
+-- Texts that come in pieces: where a text begins with bytes, all but three of these at most are a text.
+use Rattle.std.proofs.Common.{◌≡◌, ◌∙◌, ◌<◌, ◌≤◌, ◌+◌, ◌⊎◌, ℕ, Bool, true, false, List, [], ◌∷◌, ◌++◌, length, take, drop, arith, refl, sym, ap, cond, subst, inl, inr}
 use Rattle.std.proofs.Common.{append_assoc}
-use Rattle.std.specs.Prelude.{◌&&◌}
+use Rattle.std.specs.Prelude.{◌&&◌, ◌≢◌, Result, Ok, Err, nat_eq}
+use Rattle.std.specs.List.{prefix_len}
 use Rattle.std.specs.Str.{IsUtf8, encode_utf8_all, all_scalars}
 use Rattle.std.specs.Char.{encode_utf8}
+use Rattle.std.specs.String.{string_bytes}
 use lib.Utf8.{scalar}
 use Rattle.std.proofs.Math.Seq.{drop-append_seam, take-add, take-append_seam}
-use Rattle.std.proofs.lemmas.Bool.{and_parts, cases_lt}
-use Rattle.std.proofs.lemmas.List.{append-nil, drop-append-le, length-append, length-drop, take-append-le, take_all}
-use Rattle.std.proofs.lemmas.Str.{IsUtf8-append, IsUtf8-encode, IsUtf8-nil, len_utf8_bounds, length-encode}
-use Rattle.hrv_engines.specs.Devices.{BeginsNoText, GaveNoTextFront, GaveTextFront}
-use Rattle.hrv_engines.specs.inner.Fronts.{HasNoFrontText, IsFrontText, IsLongestText}
+use Rattle.std.proofs.Common.{true≢false}
+use Rattle.std.proofs.lemmas.Bool.{and_parts, cases_lt, eq-eqb, eqb-true}
+use Rattle.std.proofs.lemmas.List.Sums.{prefix_len-le-length}
+use Rattle.std.proofs.lemmas.List.{append-nil, drop-append-le, length-append, length-drop, take-append-drop, take-append-le, take_all}
+use Rattle.std.proofs.lemmas.List.Folds.{prefix_len-append}
+use Rattle.std.proofs.lemmas.Str.{IsCharBoundary-from_take, IsUtf8-append, IsUtf8-drop, IsUtf8-encode, IsUtf8-nil, len_utf8_bounds, length-encode}
+use Rattle.hrv_engines.specs.declared.faults.Fault.{Fault}
+use Rattle.hrv_engines.specs.declared.faults.Fault.TheVariants.{Refused, File, Memory, Thread}
+use Rattle.hrv_engines.specs.declared.texts.Extent.{Extent}
+use Rattle.hrv_engines.specs.declared.texts.Kept.{Kept}
+use Rattle.hrv_engines.specs.declared.texts.Extent.TheVariants.{All}
+use Rattle.hrv_engines.specs.Devices.{BeginsNoText, text_of}
+use Rattle.hrv_engines.specs.Engine.{Reads}
+use Rattle.hrv_engines.specs.inner.Fronts.{Decides, IsLineTold, IsLongestText, KeepsIf, KeepsOf, is_of_tokens, kept_text_of}
 
 -- a front of the bytes that is a text, without three of them at most
 record HasFront (bytes : List ℕ) : Type 0 where
@@ -43,30 +54,112 @@ by_chars (c ∷ cs) bytes rest ok e = elim (cases_lt (length bytes) (length (enc
       }
 ]
 
-pub begins_none : (most : ℕ) (bytes : List ℕ) (count : ℕ) → IsLongestText bytes count → count ≤ most → most + 3 < length bytes → BeginsNoText bytes
-begins_none most bytes count is few long rest text =
+begins_none : (bytes : List ℕ) (count : ℕ) → IsLongestText bytes count → count + 3 < length bytes → BeginsNoText bytes
+begins_none bytes count is long rest text =
     let found = by_chars text.0 bytes rest text.1.0 text.1.1 in
-    is.longest found.count (omega (arith, found.near, few, long)) found.within found.front
+    is.longest found.count (omega (arith, found.near, long)) found.within found.front
 
-pub not_text : (bytes : List ℕ) (count : ℕ) → IsLongestText bytes count → count < length bytes → IsUtf8 bytes → ⊥
-not_text bytes count is short text =
-    is.longest (length bytes) short (omega arith) (subst IsUtf8 (sym (take_all (length bytes) bytes (omega arith))) text)
+-- behind a text stands a text, where both are one
+pub behind_text : (front rest : List ℕ) → IsUtf8 front → IsUtf8 (front ++ rest) → IsUtf8 rest
+behind_text front rest is whole =
+    let taken : IsUtf8 (take (length front) (front ++ rest)) = subst IsUtf8 (sym (take-append_seam front rest)) is in
+    let within : length front ≤ length (front ++ rest) = omega (arith, length-append front rest) in
+    subst IsUtf8 (drop-append_seam front rest)
+    (IsUtf8-drop (front ++ rest) (length front) whole (IsCharBoundary-from_take (front ++ rest) (length front) whole within taken))
 
--- ---- what a source gave
+-- what comes behind a text begins none
+pub none_behind : (passed unended piece all : List ℕ) (count : ℕ) → passed ++ unended ≡ all → IsUtf8 passed → IsLongestText (unended ++ piece) count
+    → count + 3 < length (unended ++ piece) → BeginsNoText (all ++ piece)
+none_behind passed unended piece all count parts is longest long rest text =
+    let whole : (all ++ piece) ++ rest ≡ passed ++ ((unended ++ piece) ++ rest) = ap (λ front. (front ++ piece) ++ rest) (sym parts)
+    ∙ ap (λ front. front ++ rest) (append_assoc passed unended piece)
+    ∙ append_assoc passed (unended ++ piece) rest in
+    begins_none (unended ++ piece) count longest long rest (behind_text passed ((unended ++ piece) ++ rest) is (subst IsUtf8 whole text))
 
-pub front_short : (most : ℕ) (bytes text : List ℕ) → IsFrontText most bytes text → length text ≤ length bytes
-front_short most bytes text (inl same) = omega (arith, ap length same)
-front_short most bytes text (inr front) = omega (arith, ap length front.1.1, length-append text front.1.0)
-
-module _ {S : Type 0} (gave : S → List ℕ → S → Type 0) (ended : S → Type 0) (most : ℕ) (before after : S) (bytes : List ℕ) (given : gave before bytes after)
+-- what is left behind the longest text is none
+pub left_none : (bytes : List ℕ) (count : ℕ) → IsLongestText bytes count → drop count bytes ≢ [] → IsUtf8 (drop count bytes) → ⊥
+left_none bytes count is some text =
+    let whole : IsUtf8 bytes = subst IsUtf8 (take-append-drop count bytes) (IsUtf8-append (take count bytes) (drop count bytes) is.front text) in
+    elim (cases_lt count (length bytes)) [
+      | inl short ↦
+          is.longest (length bytes) short (omega arith) (subst IsUtf8 (sym (take_all (length bytes) bytes (omega arith))) whole)
+      | inr all ↦ some (none_left count bytes all)
+    ]
   where
-    pub front_given : (text : List ℕ) → IsUtf8 text → ended after ⊎ (most + 3 < length bytes) → IsFrontText most bytes text
-        → GaveTextFront most gave ended before text after
-    front_given text is (inl end) (inl same) = (is, inl (subst (λ all. gave before all after) (sym same) given, end))
-    front_given text is (inr more) (inl same) =
-        (is, inr (omega (arith, more, ap length same), ([], subst (λ all. gave before all after) (sym (append-nil text ∙ same)) given)))
-    front_given text is end (inr front) = (is, inr (front.0, (front.1.0, subst (λ all. gave before all after) (sym front.1.1) given)))
+    empty : (ys : List ℕ) → length ys ≡ 0 → ys ≡ []
+    empty [] e = refl
+    empty (y ∷ ys) e = cc
 
-    pub none_given : ended after ⊎ (most + 3 < length bytes) → HasNoFrontText most bytes → GaveNoTextFront gave ended before after
-    none_given (inl end) none = (bytes, given, inl (end, none.0))
-    none_given (inr more) none = (bytes, given, inr (none.1 more))
+    none_left : (n : ℕ) (xs : List ℕ) → length xs ≤ n → drop n xs ≡ []
+    none_left n xs le = empty (drop n xs) (omega (arith, length-drop n xs, le))
+
+-- ---- bytes of an algorithm's first line
+
+-- more bytes behind it leave it told
+pub still_told : (text more : List ℕ) → IsLineTold text → IsLineTold (text ++ more)
+still_told text more told = by (nat_eq (prefix_len is_of_tokens text) (length text)) refl
+  where
+    by : (all : Bool) → nat_eq (prefix_len is_of_tokens text) (length text) ≡ all → IsLineTold (text ++ more)
+    by true is = absurd (omega (arith, told, eqb-true _ _ is))
+    by false is =
+        let same : prefix_len is_of_tokens (text ++ more) ≡ prefix_len is_of_tokens text = prefix_len-append is_of_tokens text more ∙ rw is refl in
+        omega (arith, same, told, length-append text more)
+
+pub told_behind : (text more : List ℕ) → IsLineTold more → IsLineTold (text ++ more)
+told_behind text more told = by (nat_eq (prefix_len is_of_tokens text) (length text)) refl
+  where
+    by : (all : Bool) → nat_eq (prefix_len is_of_tokens text) (length text) ≡ all → IsLineTold (text ++ more)
+    by true is =
+        let same : prefix_len is_of_tokens (text ++ more) ≡ length text + prefix_len is_of_tokens more = prefix_len-append is_of_tokens text more ∙ rw is refl in
+        omega (arith, same, told, length-append text more)
+    by false is =
+        let same : prefix_len is_of_tokens (text ++ more) ≡ prefix_len is_of_tokens text = prefix_len-append is_of_tokens text more ∙ rw is refl in
+        let short : prefix_len is_of_tokens text ≤ length text = prefix_len-le-length is_of_tokens text in
+        let other : prefix_len is_of_tokens text ≡ length text → ⊥ = λ e. differ is (eq-eqb _ _ e) in
+        omega (arith, same, short, length-append text more, told)
+      where
+        differ : nat_eq (prefix_len is_of_tokens text) (length text) ≡ false → nat_eq (prefix_len is_of_tokens text) (length text) ≡ true → ⊥
+        differ differing same = true≢false (sym same ∙ differing)
+
+-- ---- a front that is kept
+
+pub kept_if : (kept : Kept) (text : List ℕ) → kept.bytes.items ≡ text → (kept.is_enough ≡ true → Decides kept.extent kept.bytes.items)
+    → KeepsIf kept.is_enough kept text
+kept_if kept text whole decides = by kept.is_enough refl
+  where
+    by : (enough : Bool) → kept.is_enough ≡ enough → KeepsIf enough kept text
+    by true is = (decides is, ([], append-nil kept.bytes.items ∙ whole))
+    by false is = whole
+
+pub all_so_far : (kept : Kept) (text : List ℕ) → kept.is_enough ≡ false → KeepsIf kept.is_enough kept text → kept.bytes.items ≡ text
+all_so_far kept text is keeps = subst (λ enough. KeepsIf enough kept text) is keeps
+
+-- what comes behind enough isn't kept
+pub enough_before : (kept : Kept) (text more : List ℕ) → kept.is_enough ≡ true → KeepsIf kept.is_enough kept text → KeepsIf kept.is_enough kept (text ++ more)
+enough_before kept text more is keeps =
+    let old = subst (λ enough. KeepsIf enough kept text) is keeps in
+    subst (λ enough. KeepsIf enough kept (text ++ more)) (sym is)
+    (old.0, (old.1.0 ++ more, sym (append_assoc kept.bytes.items old.1.0 more) ∙ ap (λ front. front ++ more) old.1.1))
+
+pub keeps_of : (kept : Kept) (text : List ℕ) → KeepsIf kept.is_enough kept text → KeepsOf kept.extent kept.bytes.items text
+keeps_of kept text keeps = by kept.is_enough keeps
+  where
+    by : (enough : Bool) → KeepsIf enough kept text → KeepsOf kept.extent kept.bytes.items text
+    by true is = inr is
+    by false is = inl is
+
+-- ---- a text of which all is kept
+
+module _ {S : Type 0} (place_of : S → List ℕ) (failures : S → ℕ) (gave : S → List ℕ → S → Type 0) (ended : S → Type 0) (before after : S) where
+  pub all_kept : {X : Type 0} (value : X → List ℕ) (r : Result X Fault) → Reads value (kept_text_of All place_of failures gave ended before after) r
+      → Reads value (text_of place_of failures gave ended before after) r
+  all_kept value (Ok x) p = (given (value x) p.0.0 p.0.1 (p.0.2, p.0.3, p.0.4), p.1)
+    where
+      given : (kept text : List ℕ) → KeepsOf All kept text → (IsUtf8 text × gave before text after × ended after)
+          → IsUtf8 kept × gave before kept after × ended after
+      given kept text (inl same) is = subst (λ t. IsUtf8 t × gave before t after × ended after) (sym same) is
+      given kept text (inr none) is = absurd none.0
+  all_kept value (Err (Refused refusal)) p = p
+  all_kept value (Err (File path)) p = p
+  all_kept value (Err Memory) p = p
+  all_kept value (Err Thread) p = p

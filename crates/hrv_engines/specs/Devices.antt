@@ -8,7 +8,7 @@ use Rattle.loader.specs.declared.formats.Format.TheVariants.{Hrv2}
 
 -- what a call did with sources
 pub record Sources (I : Type 0) : Type 1 where
-  -- they gave these inputs: all that they had, or of an image, an algorithm or a picture more than any has
+  -- they gave these inputs: all that they had, or of an image more than any has
   pub gave : I → Type 0
   -- one with this path failed, and those before it gave their inputs
   pub failed : List ℕ → Type 0
@@ -67,63 +67,37 @@ pieces_of place failures gave before after = record {
   untouched = after ≡ before;
 }
 
--- the bytes that a source gave are no text
-abbrev pub GaveNoText : (List ℕ → Type 0) → Type 0
-GaveNoText gave = (bytes : List ℕ) × gave bytes × (IsUtf8 bytes → ⊥)
+-- no text begins with these bytes
+abbrev pub BeginsNoText : List ℕ → Type 0
+BeginsNoText bytes = (rest : List ℕ) → IsUtf8 (bytes ++ rest) → ⊥
+
+-- a source gave a text, all that it had
+abbrev pub GaveText : {S : Type 0} (gave : S → List ℕ → S → Type 0) (ended : S → Type 0) → S → List ℕ → S → Type 0
+GaveText gave ended before text after = IsUtf8 text × gave before text after × ended after
+
+-- what a source gave is no text: it has no more bytes, and those are none, or none begins with them
+abbrev pub GaveNoText : {S : Type 0} (gave : S → List ℕ → S → Type 0) (ended : S → Type 0) → S → S → Type 0
+GaveNoText gave ended before after = (bytes : List ℕ) × gave before bytes after × ((ended after × (IsUtf8 bytes → ⊥)) ⊎ BeginsNoText bytes)
 
 -- a source of text, which fails also where its bytes are none
 abbrev pub text_of : {S : Type 0} (place : S → List ℕ) (failures : S → ℕ) (gave : S → List ℕ → S → Type 0) (ended : S → Type 0) (before after : S)
     → Sources (List ℕ)
 text_of place failures gave ended before after = record {
-  gave = λ text. IsUtf8 text × gave before text after × ended after;
-  failed = λ path. (path ≡ place before) × ((failures before < failures after) ⊎ GaveNoText (λ bytes. gave before bytes after × ended after));
+  gave = λ text. GaveText gave ended before text after;
+  failed = λ path. (path ≡ place before) × ((failures before < failures after) ⊎ GaveNoText gave ended before after);
   well = failures after ≡ failures before;
   untouched = after ≡ before;
 }
 
--- no text begins with these bytes
-abbrev pub BeginsNoText : List ℕ → Type 0
-BeginsNoText bytes = (rest : List ℕ) → IsUtf8 (bytes ++ rest) → ⊥
-
--- a source that gave a text: all that it had, or a front of it with more than so many bytes
-abbrev pub GaveTextFront : (most : ℕ) {S : Type 0} (gave : S → List ℕ → S → Type 0) (ended : S → Type 0) → S → List ℕ → S → Type 0
-GaveTextFront most gave ended before text after =
-    IsUtf8 text × ((gave before text after × ended after) ⊎ ((most < length text) × ((rest : List ℕ) × gave before (text ++ rest) after)))
-
--- a source that gave no text: it has no more bytes, and those are none, or none begins with them
-abbrev pub GaveNoTextFront : {S : Type 0} (gave : S → List ℕ → S → Type 0) (ended : S → Type 0) → S → S → Type 0
-GaveNoTextFront gave ended before after = (bytes : List ℕ) × gave before bytes after × ((ended after × (IsUtf8 bytes → ⊥)) ⊎ BeginsNoText bytes)
-
--- A source of a text that needn't be read further than it takes to refuse it.
-abbrev pub text_front_of : (most : ℕ) {S : Type 0} (place : S → List ℕ) (failures : S → ℕ) (gave : S → List ℕ → S → Type 0) (ended : S
-    → Type 0) (before after : S)
-    → Sources (List ℕ)
-text_front_of most place failures gave ended before after = record {
-  gave = λ text. GaveTextFront most gave ended before text after;
-  failed = λ path. (path ≡ place before) × ((failures before < failures after) ⊎ GaveNoTextFront gave ended before after);
-  well = failures after ≡ failures before;
-  untouched = after ≡ before;
-}
-
--- An algorithm that is read has at most so many bytes. The law `long_algorithms_are_refused_in_line_1` says that a longer text is refused in
--- line 1, and that its fault hangs on a front with all of that line alone.
+-- An algorithm that is accepted has at most so many bytes. The law `long_algorithms_are_refused_in_line_1` says that a longer text is refused
+-- in line 1.
 abbrev pub most_algorithm_bytes : ℕ
 most_algorithm_bytes = 65536
-
--- an algorithm
-abbrev pub algorithm_text_of : {S : Type 0} (place : S → List ℕ) (failures : S → ℕ) (gave : S → List ℕ → S → Type 0) (ended : S → Type 0) (before after : S)
-    → Sources (List ℕ)
-algorithm_text_of = text_front_of most_algorithm_bytes
 
 -- A picture that is read has at most so many bytes: a heading of 32, and 12 for each pixel. The law `long_pictures_are_refused_by_their_front`
 -- says so, and that of longer ones the fault hangs on a front of more bytes alone.
 abbrev pub most_picture_bytes : ℕ
 most_picture_bytes = 32 + 12 * 1048576
-
--- a picture
-abbrev pub picture_text_of : {S : Type 0} (place : S → List ℕ) (failures : S → ℕ) (gave : S → List ℕ → S → Type 0) (ended : S → Type 0) (before after : S)
-    → Sources (List ℕ)
-picture_text_of = text_front_of most_picture_bytes
 
 -- ---- several sources of texts
 
@@ -152,12 +126,12 @@ abbrev pub NoneFailed : {S : Type 0} (failures : S → ℕ) (first later : List 
 NoneFailed {S} failures first later =
     (place : ℕ) (s t : S) → slice_get first place ≡ Some s → slice_get later place ≡ Some t → failures t ≡ failures s
 
--- the texts of pictures
-abbrev pub picture_texts_of : {S : Type 0} (place : S → List ℕ) (failures : S → ℕ) (gave : S → List ℕ → S → Type 0) (ended : S → Type 0) (before after : List S)
+-- sources of texts, each all that its source had
+abbrev pub texts_of : {S : Type 0} (place : S → List ℕ) (failures : S → ℕ) (gave : S → List ℕ → S → Type 0) (ended : S → Type 0) (before after : List S)
     → Sources (List (List ℕ))
-picture_texts_of place failures gave ended before after = record {
-  gave = λ texts. GaveEach (GaveTextFront most_picture_bytes gave ended) before texts after;
-  failed = NamesFailed place failures (GaveTextFront most_picture_bytes gave ended) (GaveNoTextFront gave ended) before after;
+texts_of place failures gave ended before after = record {
+  gave = λ texts. GaveEach (GaveText gave ended) before texts after;
+  failed = NamesFailed place failures (GaveText gave ended) (GaveNoText gave ended) before after;
   well = NoneFailed failures before after;
   untouched = after ≡ before;
 }

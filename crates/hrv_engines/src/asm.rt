@@ -5,8 +5,9 @@ ghost use Rattle.hrv_engines.specs.Asm.{IsAssembly, IsRefusedAssembly};
 ghost use Rattle.hrv_engines.specs.Devices.{sink_of, text_of};
 ghost use Rattle.hrv_engines.specs.Engine.{Judges, Performs};
 
-use crate::devices::{Sink, Source, read_text, write_all};
+use crate::devices::{Sink, Source, write_all};
 use crate::faults::Fault;
+use crate::texts::read_text;
 use assembler::assemble;
 use loader::store;
 use std::alloc::Global;

@@ -4,12 +4,13 @@ ghost use Rattle.std.specs.Prelude.{◌+◌, ◌<◌, ◌^◌, map};
 ghost use Rattle.std.specs.List.{All};
 ghost use Rattle.std.specs.String.{string_bytes};
 ghost use Rattle.hrv_engines.specs.Compile.{IsCompilation, IsRefusedCompilation};
-ghost use Rattle.hrv_engines.specs.Devices.{algorithm_text_of, both, picture_texts_of, sink_of, text_of};
+ghost use Rattle.hrv_engines.specs.Devices.{both, sink_of, text_of, texts_of};
 ghost use Rattle.hrv_engines.specs.Engine.{Judges, Performs};
 
-use crate::devices::{Sink, Source, read_algorithm, read_text, write_all};
+use crate::devices::{Sink, Source, write_all};
 use crate::drawing::{read_pictures, read_texts};
 use crate::faults::Fault;
+use crate::texts::{read_algorithm, read_text};
 use hrv_compiler::compile;
 use std::alloc::Global;
 
@@ -27,9 +28,9 @@ pub fn compile_bytes<A: Source, S: Source, I: Source, O: Sink>(
     requires inputs { All (λ input. I.failed input + 1 < 2 ^ 64) inputs.old }
     requires image { O.failed image.old + 1 < 2 ^ 64 }
     ensures { Performs (IsCompilation alloc) (IsRefusedCompilation alloc)
-        (both (both (algorithm_text_of A.place A.failed A.gave A.ended algorithm.old algorithm.new)
+        (both (both (text_of A.place A.failed A.gave A.ended algorithm.old algorithm.new)
         (text_of S.place S.failed S.gave S.ended schedule.old schedule.new))
-        (picture_texts_of I.place I.failed I.gave I.ended inputs.old inputs.new))
+        (texts_of I.place I.failed I.gave I.ended inputs.old inputs.new))
         (sink_of O.place O.failed O.took image.old image.new) result }
 {
     let algorithm_text = read_algorithm(alloc, algorithm)?;

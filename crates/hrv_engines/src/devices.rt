@@ -4,12 +4,8 @@
 //! can hand in devices that fail.
 
 ghost use Rattle.std.specs.Prelude.{◌≡◌, ℕ, ◌+◌, ◌<◌, ◌≤◌, ◌^◌, List, [], ◌++◌, length, take, OnOk, OnErr, IfOk};
-ghost use Rattle.std.specs.Prelude.{IfSome, IfNone};
-ghost use Rattle.std.specs.String.{string_bytes};
-ghost use Rattle.hrv_engines.specs.Devices.{bytes_of, front_of, image_bytes_of, most_image_bytes, sink_of, text_of};
-ghost use Rattle.hrv_engines.specs.Devices.{algorithm_text_of, picture_text_of, text_front_of};
+ghost use Rattle.hrv_engines.specs.Devices.{bytes_of, front_of, image_bytes_of, most_image_bytes, sink_of};
 ghost use Rattle.hrv_engines.specs.Engine.{Reads, Writes, WritesEach};
-ghost use Rattle.hrv_engines.specs.inner.Fronts.{HasNoFrontText, IsFrontText, IsLongestText};
 
 use crate::faults::Fault;
 use memory::{MOST_BYTES, MOST_WORDS};
@@ -146,106 +142,18 @@ pub fn read_image_bytes<S: Source>(alloc: Global, source: &mut S) -> Result<Vec<
     read_past(alloc, source, MOST_IMAGE_BYTES)
 }
 
-/// Reads all that a source has left, as a text.
-pub fn read_text<S: Source>(alloc: Global, source: &mut S) -> Result<String, Fault>
-    requires { S.failed source.old + 1 < 2 ^ 64 }
-    ensures { Reads string_bytes (text_of S.place S.failed S.gave S.ended source.old source.new) result }
-{
-    let path = String::from_str(alloc, source.path())?;
-    let bytes = read_all(alloc, source)?;
-    match String::from_utf8(bytes) {
-        Ok(text) => Ok(text),
-        Err(_) => Err(Fault::File(path)),
-    }
-}
-
-/// Reads all that a source has left, as a text, or a front of it with more than so many bytes, but no more than one
-/// more piece. What stands behind them may be no text.
-pub fn read_text_front<S: Source>(
-    alloc: Global,
-    source: &mut S,
-    most: usize,
-) -> Result<String, Fault>
-    requires source { S.failed source.old + 1 < 2 ^ 64 }
-    requires room { most + 65539 < 2 ^ 64 }
-    ensures reads { Reads string_bytes (text_front_of most S.place S.failed S.gave S.ended source.old source.new)
-        result }
-    ensures few { IfOk result (λ text. length (string_bytes text) ≤ most + 65539) }
-{
-    let path = String::from_str(alloc, source.path())?;
-    // With so many bytes more, a character in which they end begins behind `most`.
-    let bytes = read_past(alloc, source, most + 3)?;
-    match front_text(bytes, most) {
-        Some(text) => Ok(text),
-        None => Err(Fault::File(path)),
-    }
-}
-
-/// Bytes as a text, or the longest front of them that is one, if that has more than so many.
-fn front_text(bytes: Vec<u8>, most: usize) -> Option<String>
-    ensures some { IfSome result (λ text. IsFrontText most bytes.items (string_bytes text)) }
-    ensures none { IfNone result (HasNoFrontText most bytes.items) }
-{
-    match String::from_utf8(bytes) {
-        Ok(text) => Some(text),
-        Err(error) => longest_text(error.into_bytes(), most),
-    }
-}
-
-/// The longest front of bytes that is a text, if that has more than so many or is all of them.
-fn longest_text(mut bytes: Vec<u8>, most: usize) -> Option<String>
-    ensures some { IfSome result (λ text. IsFrontText most bytes.items (string_bytes text)) }
-    ensures none { IfNone result (HasNoFrontText most bytes.items) }
-{
-    let valid = valid_len(&bytes);
-    if valid < bytes.len() && valid <= most {
-        return None;
-    }
-    bytes.truncate(valid);
-    let Ok(text) = String::from_utf8(bytes) else {
-        unreachable!()
-    };
-    Some(text)
-}
-
-/// The length of the longest front that is a text.
-fn valid_len(bytes: &[u8]) -> usize
-    ensures { IsLongestText bytes.now result }
-{
-    match str::from_utf8(bytes) {
-        Ok(_) => bytes.len(),
-        Err(error) => error.valid_up_to(),
-    }
-}
-
 /// How many bytes are read at a time.
 pub const CHUNK: usize = 16_384;
 
 /// How many bytes an image that loads has at most: those of the longer header, of all words and of all data.
 pub const MOST_IMAGE_BYTES: usize = 36 + 4 * MOST_WORDS + MOST_BYTES;
 
-/// How many bytes an algorithm has at most.
+/// How many bytes an algorithm that is accepted has at most.
 pub const MOST_ALGORITHM_BYTES: usize = 65_536;
 
 /// How many bytes a picture that is read has at most: those of a heading, of 1,048,576 numbers, and of a byte behind
 /// each.
 pub const MOST_PICTURE_BYTES: usize = 32 + 12 * 1_048_576;
-
-/// Reads an algorithm, or a front of it with more bytes than any has, which is enough to refuse it.
-pub fn read_algorithm<S: Source>(alloc: Global, source: &mut S) -> Result<String, Fault>
-    requires { S.failed source.old + 1 < 2 ^ 64 }
-    ensures { Reads string_bytes (algorithm_text_of S.place S.failed S.gave S.ended source.old source.new) result }
-{
-    read_text_front(alloc, source, MOST_ALGORITHM_BYTES)
-}
-
-/// Reads a picture, or a front of it with more bytes than any has, which is enough to refuse it.
-pub fn read_picture_text<S: Source>(alloc: Global, source: &mut S) -> Result<String, Fault>
-    requires { S.failed source.old + 1 < 2 ^ 64 }
-    ensures { Reads string_bytes (picture_text_of S.place S.failed S.gave S.ended source.old source.new) result }
-{
-    read_text_front(alloc, source, MOST_PICTURE_BYTES)
-}
 
 /// Writes all the bytes, and makes them whole.
 pub fn write_all<S: Sink>(alloc: Global, sink: &mut S, bytes: &[u8]) -> Result<(), Fault>

@@ -3,12 +3,14 @@
 ghost use Rattle.std.specs.Prelude.{◌≡◌, ◌+◌, ◌<◌, ◌^◌, map, Ok, IfOk, IfErr};
 ghost use Rattle.std.specs.List.{All};
 ghost use Rattle.std.specs.String.{string_bytes};
-ghost use Rattle.hrv_engines.specs.Devices.{algorithm_text_of, both, picture_texts_of, sink_of};
+ghost use Rattle.hrv_engines.specs.Devices.{both, sink_of, text_of, texts_of};
 ghost use Rattle.hrv_engines.specs.Drawing.{IsDrawing, IsRefusedDrawing, RefusesPictures, pictures_of};
 ghost use Rattle.hrv_engines.specs.Engine.{Judges, Performs, Reads, Unmeant};
+ghost use Rattle.hrv_engines.specs.inner.Fronts.{kept_texts_of};
 
-use crate::devices::{Sink, Source, read_algorithm, read_picture_text, write_all};
+use crate::devices::{Sink, Source, write_all};
 use crate::faults::Fault;
+use crate::texts::{read_algorithm, read_picture_text};
 use halide_parser::parse;
 use picture::{Picture, evaluate};
 use std::alloc::Global;
@@ -27,8 +29,8 @@ pub fn picture_bytes<A: Source, I: Source, O: Sink>(
     requires inputs { All (λ input. I.failed input + 1 < 2 ^ 64) inputs.old }
     requires out { O.failed out.old + 1 < 2 ^ 64 }
     ensures { Performs (IsDrawing alloc) (IsRefusedDrawing alloc)
-        (both (algorithm_text_of A.place A.failed A.gave A.ended algorithm.old algorithm.new)
-        (picture_texts_of I.place I.failed I.gave I.ended inputs.old inputs.new))
+        (both (text_of A.place A.failed A.gave A.ended algorithm.old algorithm.new)
+        (texts_of I.place I.failed I.gave I.ended inputs.old inputs.new))
         (sink_of O.place O.failed O.took out.old out.new) result }
 {
     let algorithm_text = read_algorithm(alloc, algorithm)?;
@@ -37,11 +39,12 @@ pub fn picture_bytes<A: Source, I: Source, O: Sink>(
     write_all(alloc, out, &text)
 }
 
-/// Reads all that each source has left, as texts, in their order.
+/// Reads all that each source has left, as texts, in their order, and keeps as much of each as a picture may have, or a
+/// byte more.
 pub(crate) fn read_texts<S: Source>(alloc: Global, sources: &mut [S]) -> Result<Vec<String>, Fault>
     requires { All (λ source. S.failed source + 1 < 2 ^ 64) sources.old }
     ensures { Reads (λ texts. map string_bytes texts.items)
-        (picture_texts_of S.place S.failed S.gave S.ended sources.old sources.new) result }
+        (kept_texts_of S.place S.failed S.gave S.ended sources.old sources.new) result }
 {
     let mut texts = Vec::new(alloc);
     for source in sources.iter_mut() {

@@ -22,8 +22,8 @@
 //! - [`faults`]: why an engine gives no answer ([`Fault`]).
 //! - [`laws`]: that a front of more bytes than an image, an algorithm or a picture has decides that it is refused.
 //!
-//! The other modules are theirs alone: what a line of a talk commands and what is answered to it, and the text of a
-//! dump and of its picture.
+//! The other modules are theirs alone: how texts are read, what a line of a talk commands and what is answered to it,
+//! and the text of a dump and of its picture.
 #![tactic(auto)]
 
 mod asm;
@@ -47,6 +47,7 @@ mod renew;
 mod replay;
 mod run;
 mod talks;
+mod texts;
 
 pub use crate::asm::asm_bytes;
 pub use crate::blame::blame_bytes;

@@ -1,12 +1,13 @@
 //! Saying where the data and the code of compiled images lie: the command `map`.
 
 ghost use Rattle.std.specs.Prelude.{◌+◌, ◌<◌, ◌^◌};
-ghost use Rattle.hrv_engines.specs.Devices.{algorithm_text_of, both, sink_of, text_of};
+ghost use Rattle.hrv_engines.specs.Devices.{both, sink_of, text_of};
 ghost use Rattle.hrv_engines.specs.Engine.{Judges, Performs};
 ghost use Rattle.hrv_engines.specs.Map.{IsMap, IsRefusedMap};
 
-use crate::devices::{Sink, Source, read_algorithm, read_text, write_all};
+use crate::devices::{Sink, Source, write_all};
 use crate::faults::Fault;
+use crate::texts::{read_algorithm, read_text};
 use hrv_compiler::compile;
 use std::alloc::Global;
 
@@ -22,7 +23,7 @@ pub fn map_bytes<A: Source, S: Source, O: Sink>(
     requires schedule { S.failed schedule.old + 1 < 2 ^ 64 }
     requires out { O.failed out.old + 1 < 2 ^ 64 }
     ensures { Performs (IsMap alloc) (IsRefusedMap alloc)
-        (both (algorithm_text_of A.place A.failed A.gave A.ended algorithm.old algorithm.new)
+        (both (text_of A.place A.failed A.gave A.ended algorithm.old algorithm.new)
         (text_of S.place S.failed S.gave S.ended schedule.old schedule.new))
         (sink_of O.place O.failed O.took out.old out.new) result }
 {

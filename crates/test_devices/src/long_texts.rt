@@ -1,6 +1,6 @@
-//! Algorithms and pictures that are longer than any that is read.
+//! Algorithms and pictures that are longer than any that is accepted.
 
-ghost use Rattle.std.specs.Prelude.{◌≡◌, ◌<◌, ◌^◌};
+ghost use Rattle.std.specs.Prelude.{◌≡◌};
 
 use crate::{Tape, empty_page, line_of, tape_of};
 use hrv_engines::devices::{CHUNK, MOST_ALGORITHM_BYTES, MOST_PICTURE_BYTES};
@@ -8,28 +8,14 @@ use hrv_engines::{map_bytes, picture_bytes};
 use std::alloc::{AllocError, Global};
 use std::test::Fail;
 
-/// How many bytes stand behind those that are read.
-const REST: usize = 1_000_000;
+/// How many bytes stand behind the most.
+const REST: usize = 400_000;
 
-/// How many bytes are read of a longer text.
-fn read_of(most: usize) -> usize
-    requires { most < 100_000_000 }
-    ensures { result < 2 ^ 32 }
-{
-    ((most + 3) / CHUNK + 1) * CHUNK
-}
-
-/// A front, then so many letters in all, and behind them bytes that are no text.
-fn long_text(
-    alloc: Global,
-    front: &[u8],
-    letters: usize,
-    length: usize,
-) -> Result<Vec<u8>, AllocError> {
+/// A front, then letters up to so many bytes in all.
+fn long_text(alloc: Global, front: &[u8], length: usize) -> Result<Vec<u8>, AllocError> {
     let mut bytes = Vec::new(alloc);
     bytes.extend_from_slice(front)?;
-    bytes.resize(letters, b'a')?;
-    bytes.resize(length, 0xff)?;
+    bytes.resize(length, b'a')?;
     Ok(bytes)
 }
 
@@ -55,46 +41,77 @@ fn mapped(alloc: Global, algorithm: &[u8]) -> Result<(String, usize), AllocError
     Ok((line_of(alloc, answered)?, source.bytes.len()))
 }
 
-/// More bytes than an algorithm has are refused, and what stands behind them isn't read.
-#[test]
-fn a_long_algorithm_is_read_as_far_as_it_takes(rt: HostRuntime) -> Result<(), Fail> {
+/// Draws a picture: the line of the refusal, and how many bytes of the picture aren't read.
+fn drawn(rt: &HostRuntime, picture: &[u8]) -> Result<(String, usize), AllocError> {
     let alloc = rt.alloc();
-    let read = read_of(MOST_ALGORITHM_BYTES);
-    let bytes = long_text(alloc, b"# ", MOST_ALGORITHM_BYTES + 1, read + REST)?;
+    let mut algorithm = tape_of("algorithm", b"input in 1\nfunc b(x) = in(x)\noutput b 1\n");
+    let mut inputs = [long_tape(picture)];
+    let mut page = empty_page(alloc);
+    let answered = picture_bytes(rt, alloc, &mut algorithm, &mut inputs, &mut page);
+    Ok((line_of(alloc, answered)?, inputs[0].bytes.len()))
+}
+
+/// An algorithm that is too long is read to its end, and refused in line 1.
+#[test]
+fn a_long_algorithm_is_looked_at_as_a_whole(rt: HostRuntime) -> Result<(), Fail> {
+    let alloc = rt.alloc();
+    let bytes = long_text(alloc, b"# ", MOST_ALGORITHM_BYTES + REST)?;
     let (line, left) = mapped(alloc, &bytes)?;
     assert_eq!(rt; line.as_str(), "refused parse 8 line 1");
-    assert_eq!(rt; left, REST);
+    assert_eq!(rt; left, 0);
     Ok(())
 }
 
-/// Bytes that are no text among those that an algorithm may have.
+/// A bad byte behind the most that an algorithm may have.
 #[test]
 fn a_long_algorithm_may_be_no_text(rt: HostRuntime) -> Result<(), Fail> {
     let alloc = rt.alloc();
-    let read = read_of(MOST_ALGORITHM_BYTES);
-    let bytes = long_text(alloc, b"# ", MOST_ALGORITHM_BYTES, read + REST)?;
-    let (line, left) = mapped(alloc, &bytes)?;
+    let mut bytes = long_text(alloc, b"# ", MOST_ALGORITHM_BYTES + REST)?;
+    bytes.push(0xff)?;
+    let (line, _) = mapped(alloc, &bytes)?;
     assert_eq!(rt; line.as_str(), "refused file long");
-    assert_eq!(rt; left, REST);
     Ok(())
 }
 
-/// More bytes than a picture has are refused, and what stands behind them isn't read.
+/// A character of which the end alone is wanting.
 #[test]
-fn a_long_picture_is_read_as_far_as_it_takes(rt: HostRuntime) -> Result<(), Fail> {
+fn a_long_algorithm_may_end_within_a_character(rt: HostRuntime) -> Result<(), Fail> {
     let alloc = rt.alloc();
-    let read = read_of(MOST_PICTURE_BYTES);
-    let bytes = long_text(
-        alloc,
-        b"picture 1 1\n1\n",
-        MOST_PICTURE_BYTES + 1,
-        read + REST,
-    )?;
-    let mut algorithm = tape_of("algorithm", b"input in 1\nfunc b(x) = in(x)\noutput b 1\n");
-    let mut inputs = [long_tape(&bytes)];
-    let mut page = empty_page(alloc);
-    let answered = picture_bytes(&rt, alloc, &mut algorithm, &mut inputs, &mut page);
-    assert_eq!(rt; line_of(alloc, answered)?.as_str(), "refused picture 1");
-    assert_eq!(rt; inputs[0].bytes.len(), REST);
+    let mut bytes = long_text(alloc, b"# ", MOST_ALGORITHM_BYTES + REST)?;
+    bytes.extend_from_slice(&[0xf0, 0x9f, 0x98])?;
+    let (line, _) = mapped(alloc, &bytes)?;
+    assert_eq!(rt; line.as_str(), "refused file long");
+    bytes.push(0x80)?;
+    let (line, _) = mapped(alloc, &bytes)?;
+    assert_eq!(rt; line.as_str(), "refused parse 8 line 1");
+    Ok(())
+}
+
+/// A first line without a fault but its length, and one with a fault of its own at its end.
+#[test]
+fn a_long_first_line_is_judged_as_a_whole(rt: HostRuntime) -> Result<(), Fail> {
+    let alloc = rt.alloc();
+    let mut bytes = Vec::new(alloc);
+    bytes.extend_from_slice(b"func f(x) = x")?;
+    bytes.resize(MOST_ALGORITHM_BYTES + REST, b' ')?;
+    let (line, _) = mapped(alloc, &bytes)?;
+    assert_eq!(rt; line.as_str(), "refused parse 8 line 1");
+    bytes.push(b')')?;
+    let (line, _) = mapped(alloc, &bytes)?;
+    assert_eq!(rt; line.as_str(), "refused parse 1 line 1");
+    Ok(())
+}
+
+/// A picture that is too long is read to its end.
+#[test]
+fn a_long_picture_is_looked_at_as_a_whole(rt: HostRuntime) -> Result<(), Fail> {
+    let alloc = rt.alloc();
+    let mut bytes = long_text(alloc, b"picture 1 1\n1\n", MOST_PICTURE_BYTES + REST)?;
+    let (line, left) = drawn(&rt, &bytes)?;
+    assert_eq!(rt; line.as_str(), "refused picture 1");
+    assert_eq!(rt; left, 0);
+    bytes.push(0xff)?;
+    let (line, _) = drawn(&rt, &bytes)?;
+    assert_eq!(rt; line.as_str(), "refused file long");
     Ok(())
 }

@@ -1,5 +1,5 @@
-//! Loop nests: the picture that the phases leave, with their tasks in several orders and anything in private buffers
-//! before each.
+//! Loop nests: the picture that the phases leave, each run as a whole, and with their tasks in several orders and
+//! anything in private buffers before each.
 
 ghost use Rattle.schedule.specs.Accepted.{IsAccepted};
 
@@ -10,7 +10,7 @@ use bounds_ranges::ranges::{ORIGIN, Range};
 use halide_parser::parse;
 use halide_pipeline::Pipeline;
 use loop_ir::buffers::Buffer;
-use loop_ir::running::run_task;
+use loop_ir::running::{run_phase, run_task};
 use loop_ir::statements::Phase;
 use lowering::phases::lower;
 use picture::Picture;
@@ -48,7 +48,8 @@ impl Order {
     }
 }
 
-/// Appends a line for each order of tasks: whether the phases leave the wanted picture.
+/// Appends a line for each order of tasks: whether the phases leave the wanted picture, as they do where each is run as a
+/// whole.
 pub fn push_nests(
     alloc: Global,
     algorithm: &str,
@@ -91,9 +92,11 @@ fn push_lowered(
 {
     let boxes = infer(pipeline, schedule, alloc)?;
     let phases = lower(alloc, pipeline, schedule, &boxes)?;
+    let whole = drawn_at_once(alloc, pipeline, &boxes, &phases, inputs)?;
     for order in [Order::Rising, Order::Falling, Order::FromBothEnds] {
         let text = drawn(alloc, pipeline, &boxes, &phases, inputs, order)?;
-        push_order(order, text.as_str() == wanted, out)?;
+        let is_wanted = text.as_str() == wanted && text == whole;
+        push_order(order, is_wanted, out)?;
     }
     Ok(())
 }
@@ -129,6 +132,21 @@ fn drawn(
     let mut funcs = blank_buffers(alloc, boxes)?;
     for phase in phases {
         do_phase(alloc, boxes, phase, inputs, order, &mut funcs)?;
+    }
+    output_text(alloc, pipeline, boxes, &funcs)
+}
+
+/// The text of the output's picture, where each phase is run as a whole.
+fn drawn_at_once(
+    alloc: Global,
+    pipeline: &Pipeline,
+    boxes: &Boxes,
+    phases: &[Phase],
+    inputs: &[Buffer],
+) -> Result<String, Failure> {
+    let mut funcs = blank_buffers(alloc, boxes)?;
+    for phase in phases {
+        run_phase(phase, inputs, &mut funcs);
     }
     output_text(alloc, pipeline, boxes, &funcs)
 }

@@ -1,6 +1,6 @@
 use Rattle.std.proofs.Common.{arith, subst, sym}
 use Rattle.hrv_engines.specs.inner.Fronts.{IsLongestText}
-use Rattle.hrv_engines.proofs.devices.valid_len.Goals as goal
+use Rattle.hrv_engines.proofs.texts.valid_len.Goals as goal
 
 pub returns-in-Err : goal.returns-in-Err
 returns-in-Err c =

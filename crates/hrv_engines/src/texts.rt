@@ -1,0 +1,222 @@
+//! Reading texts. All that a source has left is looked at, and refused where it isn't UTF-8; of a text that is longer
+//! than any that is accepted no more is kept than it takes to tell why it is refused.
+
+ghost use Rattle.std.specs.Prelude.{◌≡◌, ℕ, ◌+◌, ◌<◌, ◌≤◌, ◌^◌, true, List, ◌++◌, length, IfNone, IfOk, IfSome, OnOk};
+ghost use Rattle.std.specs.List.{prefix_len};
+ghost use Rattle.std.specs.Str.{IsUtf8};
+ghost use Rattle.std.specs.String.{string_bytes};
+ghost use Rattle.hrv_engines.specs.Devices.{most_algorithm_bytes, most_picture_bytes, text_of};
+ghost use Rattle.hrv_engines.specs.Engine.{Reads};
+ghost use Rattle.hrv_engines.specs.inner.Fronts.{Decides, IsLineTold, IsLongestText, IsReadSoFar, Keeps, KeepsOf, TookPiece, kept_text_of};
+ghost use Rattle.hrv_engines.specs.inner.Fronts as spec;
+ghost use Rattle.hrv_engines.specs.declared.texts.Extent.TheVariants.{Bytes, FirstLine};
+
+use crate::devices::{CHUNK, MOST_ALGORITHM_BYTES, MOST_PICTURE_BYTES, Source};
+use crate::faults::Fault;
+use line_text::spans::{continues_name, is_blank};
+use std::alloc::{AllocError, Global};
+
+/// How much of a text is kept: what decides its fault, where it is too long.
+#[derive(Clone, Copy, Debug, PartialEq, Eq)]
+pub(crate) enum Extent {
+    /// All of it.
+    All,
+    /// So many bytes and one more.
+    Bytes(usize),
+    /// The same, and the first line up to a comment, or up to a byte of which no token of an algorithm is made.
+    FirstLine(usize),
+}
+
+/// The front of a text that is kept.
+#[derive(Drop)]
+pub(crate) struct Kept {
+    pub extent: Extent,
+    pub bytes: Vec<u8>,
+    /// Whether a byte is among them that ends what an algorithm's first line says.
+    pub is_line_told: bool,
+    /// Whether they decide what is to be said of the text, so that no more is kept.
+    pub is_enough: bool,
+}
+
+/// A text of which some pieces came.
+#[derive(Drop)]
+pub(crate) struct Reading {
+    pub kept: Kept,
+    /// The bytes behind the last whole character, three at most.
+    pub unended: Vec<u8>,
+}
+
+/// Whether a byte is a mark, or part of one.
+fn is_mark(byte: u8) -> bool
+    ensures { result ≡ spec.is_mark byte }
+{
+    matches!(
+        byte,
+        b'(' | b')' | b',' | b'+' | b'-' | b'*' | b'/' | b'%' | b'=' | b'<' | b'>' | b'!'
+    )
+}
+
+/// Whether a byte stands in tokens of an algorithm, or between them.
+#[tactic(auto, unfolding(crate::specs::inner::Fronts::is_of_tokens))]
+fn is_of_tokens(byte: u8) -> bool
+    ensures { result ≡ spec.is_of_tokens byte }
+{
+    is_blank(byte) || continues_name(byte) || is_mark(byte)
+}
+
+/// How many bytes at the front are of tokens.
+fn tokens_len(bytes: &[u8]) -> usize
+    ensures value { result ≡ prefix_len spec.is_of_tokens bytes.now }
+    ensures within { result ≤ length bytes.now }
+{
+    bytes
+        .iter()
+        .take_while(|&&byte| is_of_tokens(byte))
+        .count()
+}
+
+/// The length of the longest front that is a text.
+fn valid_len(bytes: &[u8]) -> usize
+    ensures { IsLongestText bytes.now result }
+{
+    match str::from_utf8(bytes) {
+        Ok(_) => bytes.len(),
+        Err(error) => error.valid_up_to(),
+    }
+}
+
+/// Whether a front of so many bytes decides what is to be said of the text.
+fn is_enough(extent: Extent, count: usize, is_line_told: bool) -> bool
+    ensures { (text : List ℕ) → count ≡ length text → (is_line_told ≡ true → IsLineTold text) → result ≡ true → Decides extent text }
+{
+    match extent {
+        Extent::All => false,
+        Extent::Bytes(most) => count > most,
+        Extent::FirstLine(most) => count > most && is_line_told,
+    }
+}
+
+/// Whether an algorithm's first line is told in bytes, or in what comes behind them.
+#[tactic(auto, using(crate::proofs::TextFronts::still_told, crate::proofs::TextFronts::told_behind))]
+fn is_told(before: bool, front: &[u8]) -> bool
+    ensures { (text : List ℕ) → (before ≡ true → IsLineTold text) → result ≡ true → IsLineTold (text ++ front.now) }
+{
+    before || tokens_len(front) < front.len()
+}
+
+impl Kept {
+    /// Keeps what comes next, unless there is enough.
+    fn push(&mut self, front: &[u8]) -> Result<(), AllocError>
+        ensures keeps { (text : List ℕ) → Keeps self.old text → IsUtf8 front.now
+            → OnOk result (Keeps self.new (text ++ front.now)) }
+        ensures extent { OnOk result (self.new.extent ≡ self.old.extent) }
+    {
+        if self.is_enough {
+            return Ok(());
+        }
+        self.bytes.extend_from_slice(front)?;
+        self.is_line_told = is_told(self.is_line_told, front);
+        self.is_enough = is_enough(self.extent, self.bytes.len(), self.is_line_told);
+        Ok(())
+    }
+}
+
+impl Reading {
+    /// Takes the next piece, and says whether the text may still be one.
+    fn take(&mut self, alloc: Global, piece: &[u8]) -> Result<bool, AllocError>
+        ensures took { (all : List ℕ) → IsReadSoFar self.old all
+            → IfOk result (λ may. TookPiece may self.new (all ++ piece.now)) }
+        ensures extent { OnOk result (self.new.kept.extent ≡ self.old.kept.extent) }
+    {
+        self.unended.extend_from_slice(piece)?;
+        let valid = valid_len(&self.unended);
+        if self.unended.len() - valid > 3 {
+            return Ok(false);
+        }
+        let (front, rest) = self.unended.split_at(valid);
+        self.kept.push(front)?;
+        let rest = Vec::from_slice(alloc, rest)?;
+        self.unended = rest;
+        Ok(true)
+    }
+}
+
+/// The text whose pieces all came, or the front of it that is kept; none where the last character isn't whole.
+fn finished(reading: Reading) -> Option<String>
+    ensures some { IfSome result (λ text. (all : List ℕ) → IsReadSoFar reading all → IsUtf8 all × KeepsOf reading.kept.extent (string_bytes text) all) }
+    ensures none { IfNone result ((all : List ℕ) → IsReadSoFar reading all → IsUtf8 all → ⊥) }
+{
+    let Reading { kept, unended } = reading;
+    if !unended.is_empty() {
+        return None;
+    }
+    let Ok(text) = String::from_utf8(kept.bytes) else {
+        return None;
+    };
+    Some(text)
+}
+
+/// Reads what a source has left, which is to be a text, and keeps as much of it as is asked for.
+pub(crate) fn read_kept<S: Source>(
+    alloc: Global,
+    source: &mut S,
+    extent: Extent,
+) -> Result<String, Fault>
+    requires { S.failed source.old + 1 < 2 ^ 64 }
+    ensures { Reads string_bytes (kept_text_of extent S.place S.failed S.gave S.ended source.old source.new) result }
+{
+    // Made before the first read, so that a read that fails needs no memory.
+    let path = String::from_str(alloc, source.path())?;
+    let mut reading = Reading {
+        kept: Kept {
+            extent,
+            bytes: Vec::new(alloc),
+            is_line_told: false,
+            is_enough: false,
+        },
+        unended: Vec::new(alloc),
+    };
+    let mut buffer = [0; CHUNK];
+    'pieces: for _ in 0..u64::MAX {
+        let Ok(count) = source.read(&mut buffer) else {
+            return Err(Fault::File(path));
+        };
+        if count == 0 {
+            return match finished(reading) {
+                Some(text) => Ok(text),
+                None => Err(Fault::File(path)),
+            };
+        }
+        if !reading.take(alloc, &buffer[..count])? {
+            return Err(Fault::File(path));
+        }
+    }
+    // No source gives so many pieces.
+    Err(Fault::Memory)
+}
+
+/// Reads all that a source has left, as a text.
+pub(crate) fn read_text<S: Source>(alloc: Global, source: &mut S) -> Result<String, Fault>
+    requires { S.failed source.old + 1 < 2 ^ 64 }
+    ensures { Reads string_bytes (text_of S.place S.failed S.gave S.ended source.old source.new) result }
+{
+    read_kept(alloc, source, Extent::All)
+}
+
+/// Reads an algorithm. Of one that is longer than any may be, more bytes than it may have are kept, with all that its
+/// first line says.
+pub(crate) fn read_algorithm<S: Source>(alloc: Global, source: &mut S) -> Result<String, Fault>
+    requires { S.failed source.old + 1 < 2 ^ 64 }
+    ensures { Reads string_bytes (kept_text_of (FirstLine most_algorithm_bytes) S.place S.failed S.gave S.ended source.old
+        source.new) result }
+{
+    read_kept(alloc, source, Extent::FirstLine(MOST_ALGORITHM_BYTES))
+}
+
+/// Reads a picture. Of one that is longer than any, more bytes than it may have are kept.
+pub(crate) fn read_picture_text<S: Source>(alloc: Global, source: &mut S) -> Result<String, Fault>
+    requires { S.failed source.old + 1 < 2 ^ 64 }
+    ensures { Reads string_bytes (kept_text_of (Bytes most_picture_bytes) S.place S.failed S.gave S.ended source.old source.new) result }
+{
+    read_kept(alloc, source, Extent::Bytes(MOST_PICTURE_BYTES))
+}
