@@ -134,20 +134,6 @@ kept_if kept text whole decides = by kept.is_enough refl
 pub all_so_far : (kept : Kept) (text : List ℕ) → kept.is_enough ≡ false → KeepsIf kept.is_enough kept text → kept.bytes.items ≡ text
 all_so_far kept text is keeps = subst (λ enough. KeepsIf enough kept text) is keeps
 
--- what comes behind enough isn't kept
-pub enough_before : (kept : Kept) (text more : List ℕ) → kept.is_enough ≡ true → KeepsIf kept.is_enough kept text → KeepsIf kept.is_enough kept (text ++ more)
-enough_before kept text more is keeps =
-    let old = subst (λ enough. KeepsIf enough kept text) is keeps in
-    subst (λ enough. KeepsIf enough kept (text ++ more)) (sym is)
-    (old.0, (old.1.0 ++ more, sym (append_assoc kept.bytes.items old.1.0 more) ∙ ap (λ front. front ++ more) old.1.1))
-
-pub keeps_of : (kept : Kept) (text : List ℕ) → KeepsIf kept.is_enough kept text → KeepsOf kept.extent kept.bytes.items text
-keeps_of kept text keeps = by kept.is_enough keeps
-  where
-    by : (enough : Bool) → KeepsIf enough kept text → KeepsOf kept.extent kept.bytes.items text
-    by true is = inr is
-    by false is = inl is
-
 -- ---- a text of which all is kept
 
 module _ {S : Type 0} (place_of : S → List ℕ) (failures : S → ℕ) (gave : S → List ℕ → S → Type 0) (ended : S → Type 0) (before after : S) where
