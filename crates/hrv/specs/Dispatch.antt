@@ -8,7 +8,7 @@ use Rattle.hrv_engines.specs.Asm.{IsAssembly, IsRefusedAssembly}
 use Rattle.hrv_engines.specs.Blame.{IsBlame, IsRefusedBlame}
 use Rattle.hrv_engines.specs.Compile.{IsCompilation, IsRefusedCompilation}
 use Rattle.hrv_engines.specs.Debug.{Talks}
-use Rattle.hrv_engines.specs.Devices.{both, bytes_of, image_bytes_of, pieces_of, sink_of, text_of, texts_of}
+use Rattle.hrv_engines.specs.Devices.{both, image_bytes_of, log_bytes_of, pieces_of, sink_of, text_of, texts_of}
 use Rattle.hrv_engines.specs.Dis.{IsAddressedListing, IsListing, IsRefusedImage}
 use Rattle.hrv_engines.specs.Drawing.{IsDrawing, IsRefusedDrawing}
 use Rattle.hrv_engines.specs.Engine.{Performs, Writes}
@@ -60,18 +60,18 @@ module _ {R W T P : Type 0}
   Does alloc (Replays image log) result =
       At read_at image (λ s t. At read_at log (λ u v. At printed_at dash (λ o p.
       Performs IsReplay IsRefusedReplay
-      (both (image_bytes_of read_at read_failed gave ended s t) (bytes_of read_at read_failed gave ended u v))
+      (both (image_bytes_of read_at read_failed gave ended s t) (log_bytes_of read_at read_failed gave ended u v))
       (sink_of printed_at print_failed printed o p) result)))
   Does alloc (Debugs image log) result =
       At read_at image (λ s t. At read_at log (λ u v. At typed_at dash (λ k l. At printed_at dash (λ o p.
-      Talks (both (image_bytes_of read_at read_failed gave ended s t) (bytes_of read_at read_failed gave ended u v))
+      Talks (both (image_bytes_of read_at read_failed gave ended s t) (log_bytes_of read_at read_failed gave ended u v))
       (pieces_of typed_at typing_failed typed k l) (typed_all l)
       (sink_of printed_at print_failed printed o p) result))))
   Does alloc (Blames image log x y address with_turns) result =
       At read_at image (λ s t. At read_at log (λ u v. At printed_at dash (λ o p.
       Performs (IsBlame (record { x = x; y = y; address = address; with_turns = with_turns }))
       (IsRefusedBlame (record { x = x; y = y; address = address; with_turns = with_turns }))
-      (both (image_bytes_of read_at read_failed gave ended s t) (bytes_of read_at read_failed gave ended u v))
+      (both (image_bytes_of read_at read_failed gave ended s t) (log_bytes_of read_at read_failed gave ended u v))
       (sink_of printed_at print_failed printed o p) result)))
   Does alloc (Draws algorithm inputs) result =
       OrMemory result (At read_at algorithm (λ s t. AtEach read_at inputs (λ u v. At printed_at dash (λ o p.
@@ -96,7 +96,7 @@ module _ {R W T P : Type 0}
   Does alloc (Resumes image log old turns) result =
       At read_at image (λ s t. At read_at old (λ x y. At written_at log (λ u v. At printed_at dash (λ o p.
       run.Runs (run.IsResumedRun turns) IsRefusedReplay
-      (both (image_bytes_of read_at read_failed gave ended s t) (bytes_of read_at read_failed gave ended x y)) (sink_of written_at write_failed stored u v)
+      (both (image_bytes_of read_at read_failed gave ended s t) (log_bytes_of read_at read_failed gave ended x y)) (sink_of written_at write_failed stored u v)
       (sink_of printed_at print_failed printed o p) result))))
   Does alloc (Explains family code) result =
       At printed_at dash (λ o p. Writes (sink_of printed_at print_failed printed o p) (explanation family code) result)

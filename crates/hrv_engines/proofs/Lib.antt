@@ -4,6 +4,7 @@ pub mod Compilations
 pub mod Drawings
 pub mod ImageFronts
 pub mod LastTold
+pub mod LogFronts
 pub mod MarkRows
 pub mod Numbers
 pub mod PictureFronts

@@ -1,14 +1,17 @@
 -- What a call did with its devices, where what they give and take is a fact of their states and bytes.
 -- This project's own.
-use Rattle.std.specs.Prelude.{◌≡◌, ◌⊎◌, ℕ, ◌+◌, ◌*◌, ◌<◌, List, ◌++◌, length, slice_get, Some}
+use Rattle.std.specs.Prelude.{◌≡◌, ◌≢◌, ◌⊎◌, ℕ, ◌+◌, ◌*◌, ◌<◌, List, ◌++◌, length, slice_get, Some, Err}
 use Rattle.std.specs.Str.{IsUtf8}
+use Rattle.turn_log.specs.LogSpelling.{log_of}
+use Rattle.turn_log.specs.declared.log_faults.LogFault.{LogFault}
+use Rattle.turn_log.specs.declared.log_faults.LogFault.TheVariants.{Truncated}
 use Rattle.memory.specs.Access.{most_bytes, most_words}
 use Rattle.loader.specs.Spelling.{header_length}
 use Rattle.loader.specs.declared.formats.Format.TheVariants.{Hrv2}
 
 -- what a call did with sources
 pub record Sources (I : Type 0) : Type 1 where
-  -- they gave these inputs: all that they had, or of an image more than any has
+  -- they gave these inputs: all that they had, or of an image or a log a front that decides why it is refused
   pub gave : I → Type 0
   -- one with this path failed, and those before it gave their inputs
   pub failed : List ℕ → Type 0
@@ -28,17 +31,7 @@ pub record Taken : Type 1 where
   -- it is as it was
   pub untouched : Type 0
 
--- a source of bytes, by its state before the call and after it
-abbrev pub bytes_of : {S : Type 0} (place : S → List ℕ) (failures : S → ℕ) (gave : S → List ℕ → S → Type 0) (ended : S → Type 0) (before after : S)
-    → Sources (List ℕ)
-bytes_of place failures gave ended before after = record {
-  gave = λ bytes. gave before bytes after × ended after;
-  failed = λ path. (path ≡ place before) × (failures before < failures after);
-  well = failures after ≡ failures before;
-  untouched = after ≡ before;
-}
-
--- a source that gave all that it had, or more than so many bytes of it
+-- a source, by its state before the call and after it, that gave all that it had, or more than so many bytes of it
 abbrev pub front_of : (most : ℕ) {S : Type 0} (place : S → List ℕ) (failures : S → ℕ) (gave : S → List ℕ → S → Type 0) (ended : S → Type 0) (before after : S)
     → Sources (List ℕ)
 front_of most place failures gave ended before after = record {
@@ -57,6 +50,21 @@ most_image_bytes = header_length Hrv2 + 4 * most_words + most_bytes
 abbrev pub image_bytes_of : {S : Type 0} (place : S → List ℕ) (failures : S → ℕ) (gave : S → List ℕ → S → Type 0) (ended : S → Type 0) (before after : S)
     → Sources (List ℕ)
 image_bytes_of = front_of most_image_bytes
+
+-- Bytes are no log, for another reason than that they end too soon. The law `logs_are_refused_by_their_front` says that they have the same
+-- fault whatever stands behind them.
+abbrev pub IsNoLog : List ℕ → Type 0
+IsNoLog bytes = (fault : LogFault) × (fault ≢ Truncated) × (log_of bytes ≡ Err fault)
+
+-- a source of a log, which needn't be read further than it takes to refuse it
+abbrev pub log_bytes_of : {S : Type 0} (place : S → List ℕ) (failures : S → ℕ) (gave : S → List ℕ → S → Type 0) (ended : S → Type 0) (before after : S)
+    → Sources (List ℕ)
+log_bytes_of place failures gave ended before after = record {
+  gave = λ bytes. gave before bytes after × (ended after ⊎ IsNoLog bytes);
+  failed = λ path. (path ≡ place before) × (failures before < failures after);
+  well = failures after ≡ failures before;
+  untouched = after ≡ before;
+}
 
 -- a source that isn't read to its end
 abbrev pub pieces_of : {S : Type 0} (place : S → List ℕ) (failures : S → ℕ) (gave : S → List ℕ → S → Type 0) (before after : S) → Sources (List ℕ)

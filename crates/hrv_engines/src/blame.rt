@@ -3,12 +3,12 @@
 ghost use Rattle.std.specs.Prelude.{◌≡◌, ◌+◌, ◌<◌, ◌^◌, IfOk};
 ghost use Rattle.hrv_engines.specs.Blame.{IsBlame, IsRefusedBlame, blame_of, marks_text, word_text};
 ghost use Rattle.hrv_engines.specs.BlameQuestions.{LiesInData, PixelsLie, given_by};
-ghost use Rattle.hrv_engines.specs.Devices.{both, bytes_of, image_bytes_of, sink_of};
+ghost use Rattle.hrv_engines.specs.Devices.{both, image_bytes_of, log_bytes_of, sink_of};
 ghost use Rattle.hrv_engines.specs.Engine.{Judges, Performs};
 ghost use Rattle.loader.specs.Loading.{machine_of};
 
 use crate::blame_texts::{last_lines, marks_picture, words_to_the_last};
-use crate::devices::{Sink, Source, read_all, read_image_bytes, write_all};
+use crate::devices::{Sink, Source, read_image_bytes, read_log_bytes, write_all};
 use crate::faults::Fault;
 use crate::questions::{Question, Wanted, judge};
 use debugger_blame::{MarkedRange, Marking, last_write, mark_words};
@@ -30,11 +30,11 @@ pub fn blame_bytes<I: Source, L: Source, O: Sink>(
     requires out { O.failed out.old + 1 < 2 ^ 64 }
     ensures { Performs (IsBlame (given_by question.entry)) (IsRefusedBlame (given_by question.entry))
         (both (image_bytes_of I.place I.failed I.gave I.ended image.old image.new)
-        (bytes_of L.place L.failed L.gave L.ended log.old log.new))
+        (log_bytes_of L.place L.failed L.gave L.ended log.old log.new))
         (sink_of O.place O.failed O.took out.old out.new) result }
 {
     let image_bytes = read_image_bytes(alloc, image)?;
-    let log_bytes = read_all(alloc, log)?;
+    let log_bytes = read_log_bytes(alloc, log)?;
     let text = answer(alloc, image_bytes, log_bytes, question)?;
     write_all(alloc, out, &text)
 }

@@ -2,11 +2,11 @@
 
 ghost use Rattle.std.specs.Prelude.{◌≡◌, ◌+◌, ◌<◌, ◌^◌, [], Err, Ok, IfOk, IfErr};
 ghost use Rattle.hrv_engines.specs.Debug.{IsRefusedSession, Talks, session_of};
-ghost use Rattle.hrv_engines.specs.Devices.{both, bytes_of, image_bytes_of, pieces_of, sink_of};
+ghost use Rattle.hrv_engines.specs.Devices.{both, image_bytes_of, log_bytes_of, pieces_of, sink_of};
 ghost use Rattle.hrv_engines.specs.Engine.{Unmeant};
 ghost use Rattle.hrv_engines.specs.TalkSoFar.{HoldsTalk};
 
-use crate::devices::{CHUNK, Sink, Source, read_all, read_image_bytes, write_all};
+use crate::devices::{CHUNK, Sink, Source, read_image_bytes, read_log_bytes, write_all};
 use crate::faults::Fault;
 use crate::talks::Talk;
 use debugger::Session;
@@ -31,12 +31,12 @@ pub fn debug_bytes<I: Source, L: Source, C: Source, O: Sink>(
     requires out { O.failed out.old + 1 < 2 ^ 64 }
     ensures { Talks
         (both (image_bytes_of I.place I.failed I.gave I.ended image.old image.new)
-        (bytes_of L.place L.failed L.gave L.ended log.old log.new))
+        (log_bytes_of L.place L.failed L.gave L.ended log.old log.new))
         (pieces_of C.place C.failed C.gave lines.old lines.new) (C.ended lines.new)
         (sink_of O.place O.failed O.took out.old out.new) result }
 {
     let image_bytes = read_image_bytes(alloc, image)?;
-    let log_bytes = read_all(alloc, log)?;
+    let log_bytes = read_log_bytes(alloc, log)?;
     let session = open(alloc, image_bytes, log_bytes)?;
     hold_talk(alloc, &mut Talk::new(alloc, session), lines, out)
 }

@@ -3,14 +3,16 @@
 //! An engine is generic over both traits, so that its contract names the bytes that were read and written, and a test
 //! can hand in devices that fail.
 
-ghost use Rattle.std.specs.Prelude.{◌≡◌, ℕ, ◌+◌, ◌<◌, ◌≤◌, ◌^◌, List, [], ◌++◌, length, take, OnOk, OnErr, IfOk};
-ghost use Rattle.hrv_engines.specs.Devices.{bytes_of, front_of, image_bytes_of, most_image_bytes, sink_of};
+ghost use Rattle.std.specs.Prelude.{◌≡◌, ℕ, ◌+◌, ◌<◌, ◌≤◌, ◌^◌, true, List, [], ◌++◌, length, take, OnOk, OnErr, IfErr, IfOk};
+ghost use Rattle.hrv_engines.specs.Devices.{IsNoLog, front_of, image_bytes_of, log_bytes_of, most_image_bytes, sink_of};
+ghost use Rattle.hrv_engines.specs.declared.faults.Fault.TheVariants.{Memory};
 ghost use Rattle.hrv_engines.specs.Engine.{Reads, Writes, WritesEach};
 
 use crate::faults::Fault;
 use memory::{MOST_BYTES, MOST_WORDS};
 use std::alloc::Global;
 use std::io;
+use turn_log::{LogFault, TurnLog};
 
 /// Bytes to be read, from a file or from memory.
 pub trait Source {
@@ -123,14 +125,6 @@ fn read_past<S: Source>(alloc: Global, source: &mut S, most: usize) -> Result<Ve
     Ok(all)
 }
 
-/// Reads all that a source has left.
-pub fn read_all<S: Source>(alloc: Global, source: &mut S) -> Result<Vec<u8>, Fault>
-    requires { S.failed source.old + 1 < 2 ^ 64 }
-    ensures { Reads (λ bytes. bytes.items) (bytes_of S.place S.failed S.gave S.ended source.old source.new) result }
-{
-    read_past(alloc, source, usize::MAX)
-}
-
 /// Reads all that a source has left, or more of it than any image has, which is enough to refuse it, but no more than
 /// one more piece.
 pub fn read_image_bytes<S: Source>(alloc: Global, source: &mut S) -> Result<Vec<u8>, Fault>
@@ -154,6 +148,48 @@ pub const MOST_ALGORITHM_BYTES: usize = 65_536;
 /// How many bytes a picture that is read has at most: those of a heading, of 1,048,576 numbers, and of a byte behind
 /// each.
 pub const MOST_PICTURE_BYTES: usize = 32 + 12 * 1_048_576;
+
+/// Whether bytes are no log, whatever stands behind them.
+fn is_no_log(alloc: Global, bytes: &[u8]) -> Result<bool, Fault>
+    ensures ok { IfOk result (λ is. is ≡ true → IsNoLog bytes.now) }
+    ensures err { IfErr result (λ fault. fault ≡ Memory) }
+{
+    match TurnLog::read(alloc, bytes) {
+        Ok(_) | Err(LogFault::Truncated) => Ok(false),
+        Err(LogFault::OutOfMemory) => Err(Fault::Memory),
+        Err(_) => Ok(true),
+    }
+}
+
+/// Reads all that a source has left, or a front of it that is no log, whatever stands behind: it is looked at whenever
+/// it has become twice as long.
+pub fn read_log_bytes<S: Source>(alloc: Global, source: &mut S) -> Result<Vec<u8>, Fault>
+    requires { S.failed source.old + 1 < 2 ^ 64 }
+    ensures { Reads (λ bytes. bytes.items) (log_bytes_of S.place S.failed S.gave S.ended source.old source.new) result }
+{
+    // Made before the first read, so that a read that fails needs no memory.
+    let path = String::from_str(alloc, source.path())?;
+    let mut all = Vec::new(alloc);
+    let mut buffer = [0; CHUNK];
+    let mut next = CHUNK;
+    'pieces: for _ in 0..u64::MAX {
+        let Ok(count) = source.read(&mut buffer) else {
+            return Err(Fault::File(path));
+        };
+        if count == 0 {
+            return Ok(all);
+        }
+        all.extend_from_slice(&buffer[..count])?;
+        if all.len() >= next {
+            if is_no_log(alloc, &all)? {
+                return Ok(all);
+            }
+            next = all.len().saturating_mul(2);
+        }
+    }
+    // No source gives so many pieces.
+    Err(Fault::Memory)
+}
 
 /// Writes all the bytes, and makes them whole.
 pub fn write_all<S: Sink>(alloc: Global, sink: &mut S, bytes: &[u8]) -> Result<(), Fault>

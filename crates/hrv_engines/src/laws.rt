@@ -1,8 +1,11 @@
 //! Laws of what engines read, each the contract of a function that does nothing.
 
-ghost use Rattle.std.specs.Prelude.{◌≡◌, ◌<◌, ◌≤◌, ◌++◌, ◌∷◌, ℕ, List, length, Ok, Err};
+ghost use Rattle.std.specs.Prelude.{◌≡◌, ◌≢◌, ◌<◌, ◌≤◌, ◌++◌, ◌∷◌, ℕ, List, length, Ok, Err};
 ghost use Rattle.std.specs.declared.alloc.Global.{Global};
 ghost use Rattle.line_text.specs.Lines.{IsLine};
+ghost use Rattle.turn_log.specs.LogSpelling.{log_of};
+ghost use Rattle.turn_log.specs.declared.log_faults.LogFault.{LogFault};
+ghost use Rattle.turn_log.specs.declared.log_faults.LogFault.TheVariants.{Truncated};
 ghost use Rattle.loader.specs.Image.{ImageContents};
 ghost use Rattle.loader.specs.Spelling.{image_of};
 ghost use Rattle.halide_parser_syntax.specs.declared.faults.ParseFault.{ParseFault};
@@ -35,4 +38,11 @@ pub fn long_pictures_are_refused_by_their_front()
         → length text ≤ most_picture_bytes }
     ensures alike { (front rest : List ℕ) → most_picture_bytes < length front
         → picture_of (front ++ rest) ≡ picture_of front }
+{}
+
+/// Bytes that are no log, for another reason than that they end too soon, are refused with the same fault whatever
+/// stands behind them.
+pub fn logs_are_refused_by_their_front()
+    ensures { (front rest : List ℕ) (fault : LogFault) → fault ≢ Truncated → log_of front ≡ Err fault
+        → log_of (front ++ rest) ≡ Err fault }
 {}

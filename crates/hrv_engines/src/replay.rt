@@ -4,11 +4,11 @@ ghost use Rattle.std.specs.Prelude.{◌≡◌, ◌+◌, ◌<◌, ◌^◌, length
 ghost use Rattle.std.specs.String.{string_bytes};
 ghost use Rattle.multi_hart.specs.Run.{run, KeepsShape};
 ghost use Rattle.turn_log.specs.TurnLog.{IsLog};
-ghost use Rattle.hrv_engines.specs.Devices.{both, bytes_of, image_bytes_of, sink_of};
+ghost use Rattle.hrv_engines.specs.Devices.{both, image_bytes_of, log_bytes_of, sink_of};
 ghost use Rattle.hrv_engines.specs.Engine.{Judges, Performs};
 ghost use Rattle.hrv_engines.specs.Replay.{IsRefusedReplay, IsReplay, dump_of};
 
-use crate::devices::{Sink, Source, read_all, read_image_bytes, write_all};
+use crate::devices::{Sink, Source, read_image_bytes, read_log_bytes, write_all};
 use crate::dumps::dump;
 use crate::faults::Fault;
 use loader::{Image, read_image};
@@ -29,11 +29,11 @@ pub fn replay_bytes<I: Source, L: Source, O: Sink>(
     requires out { O.failed out.old + 1 < 2 ^ 64 }
     ensures { Performs IsReplay IsRefusedReplay
         (both (image_bytes_of I.place I.failed I.gave I.ended image.old image.new)
-        (bytes_of L.place L.failed L.gave L.ended log.old log.new))
+        (log_bytes_of L.place L.failed L.gave L.ended log.old log.new))
         (sink_of O.place O.failed O.took out.old out.new) result }
 {
     let image_bytes = read_image_bytes(alloc, image)?;
-    let log_bytes = read_all(alloc, log)?;
+    let log_bytes = read_log_bytes(alloc, log)?;
     let text = answer(alloc, image_bytes, log_bytes)?;
     write_all(alloc, out, text.as_bytes())
 }

@@ -3,14 +3,14 @@
 ghost use Rattle.std.specs.Prelude.{◌≡◌, ℕ, ◌+◌, ◌<◌, ◌≤◌, ◌^◌, List, Ok, Err, IfOk, IfErr};
 ghost use Rattle.std.specs.String.{string_bytes};
 ghost use Rattle.loader.specs.Spelling.{image_of};
-ghost use Rattle.hrv_engines.specs.Devices.{both, bytes_of, image_bytes_of, sink_of};
+ghost use Rattle.hrv_engines.specs.Devices.{both, image_bytes_of, log_bytes_of, sink_of};
 ghost use Rattle.hrv_engines.specs.Dis.{IsRefusedImage};
 ghost use Rattle.hrv_engines.specs.Replay.{IsRefusedReplay};
 ghost use Rattle.hrv_engines.specs.Run.{GaveSeveral, IsOfSeveral, IsResumedRun, IsRun, IsRunFrom, IsWant, Runs, Unrun};
 ghost use Rattle.hrv_engines.specs.Run.{WritesBoth};
 ghost use Rattle.hrv_engines.specs.declared.faults.Fault.TheVariants.{Thread};
 
-use crate::devices::{Sink, Source, read_all, read_image_bytes, write_each};
+use crate::devices::{Sink, Source, read_image_bytes, read_log_bytes, write_each};
 use crate::dumps::dump;
 use crate::faults::Fault;
 use loader::{Image, read_image};
@@ -72,15 +72,15 @@ pub fn resume_bytes<I: Source, P: Source, L: Sink, O: Sink, R: Threads + Wait + 
     requires out { O.failed out.old + 1 < 2 ^ 64 }
     ensures runs { Runs (IsResumedRun limit) IsRefusedReplay
         (both (image_bytes_of I.place I.failed I.gave I.ended image.old image.new)
-        (bytes_of P.place P.failed P.gave P.ended old.old old.new))
+        (log_bytes_of P.place P.failed P.gave P.ended old.old old.new))
         (sink_of L.place L.failed L.took log.old log.new)
         (sink_of O.place O.failed O.took out.old out.new) result }
     ensures threads { result ≡ Err Thread
-        → GaveSeveral (bytes_of P.place P.failed P.gave P.ended old.old old.new) }
+        → GaveSeveral (log_bytes_of P.place P.failed P.gave P.ended old.old old.new) }
 {
     let (threads, alloc) = (resources.threads, resources.alloc);
     let image_bytes = read_image_bytes(alloc, image)?;
-    let old_bytes = read_all(alloc, old)?;
+    let old_bytes = read_log_bytes(alloc, old)?;
     let (log_bytes, text) = resume_image(threads, alloc, image_bytes, old_bytes, limit)?;
     write_both(alloc, log, out, &log_bytes, text.as_bytes())
 }

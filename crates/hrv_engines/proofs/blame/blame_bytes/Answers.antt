@@ -1,7 +1,7 @@
 use Rattle.std.proofs.Common.{refl, subst}
 use Rattle.hrv_engines.specs.Blame.{IsBlame, IsRefusedBlame}
 use Rattle.hrv_engines.specs.BlameQuestions.{given_by}
-use Rattle.hrv_engines.specs.Devices.{both, bytes_of, image_bytes_of, sink_of}
+use Rattle.hrv_engines.specs.Devices.{both, image_bytes_of, log_bytes_of, sink_of}
 use Rattle.hrv_engines.specs.Engine.{Writes}
 use Rattle.hrv_engines.proofs.Steps.{unmeant, written}
 use Rattle.hrv_engines.proofs.blame.blame_bytes.Goals as goal
@@ -9,7 +9,7 @@ use Rattle.hrv_engines.proofs.blame.blame_bytes.Goals as goal
 pub returns-in_err-text : goal.returns-in_err-text
 returns-in_err-text g c =
     let image = image_bytes_of g.I.Source.place g.I.Source.failed g.I.Source.gave g.I.Source.ended c.args.image.now c.read_image_bytes.new.source in
-    let log = bytes_of g.L.Source.place g.L.Source.failed g.L.Source.gave g.L.Source.ended c.args.log.now c.read_all.new.source in
+    let log = log_bytes_of g.L.Source.place g.L.Source.failed g.L.Source.gave g.L.Source.ended c.args.log.now c.read_log_bytes.new.source in
     let out = sink_of g.O.Sink.place g.O.Sink.failed g.O.Sink.took c.args.out.now c.args.out.now in
     let given = given_by c.args.question in
     let first = c.in_ok-image_bytes in
@@ -23,7 +23,7 @@ returns-in_err-text g c =
 pub returns : goal.returns
 returns g c =
     let image = image_bytes_of g.I.Source.place g.I.Source.failed g.I.Source.gave g.I.Source.ended c.args.image.now c.read_image_bytes.new.source in
-    let log = bytes_of g.L.Source.place g.L.Source.failed g.L.Source.gave g.L.Source.ended c.args.log.now c.read_all.new.source in
+    let log = log_bytes_of g.L.Source.place g.L.Source.failed g.L.Source.gave g.L.Source.ended c.args.log.now c.read_log_bytes.new.source in
     let out = sink_of g.O.Sink.place g.O.Sink.failed g.O.Sink.took c.args.out.now c.write_all.new.sink in
     let given = given_by c.args.question in
     let first = c.in_ok-image_bytes in
