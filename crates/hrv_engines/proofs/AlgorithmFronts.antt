@@ -320,23 +320,22 @@ module _ (d : ℕ) (other : is_of_tokens d ≡ false) where
     module _ (class : ℕ → Bool) (isnt : class d ≡ false) (c : ℕ) (cs : List ℕ) (are : AllByRecursion (λ byte. is_of_tokens byte ≡ true) (c ∷ cs)) (is : class c
         ≡ true)
       where
-      spanned : (token : List ℕ → Token)
-          → Same (suc (length cs))
-          (Ok (token (take (prefix_len class ((c ∷ cs) ++ d ∷ x)) ((c ∷ cs) ++ d ∷ x)), drop (prefix_len class ((c ∷ cs) ++ d ∷ x)) ((c ∷ cs) ++ d ∷ x)))
-          (Ok (token (take (prefix_len class ((c ∷ cs) ++ d ∷ y)) ((c ∷ cs) ++ d ∷ y)), drop (prefix_len class ((c ∷ cs) ++ d ∷ y)) ((c ∷ cs) ++ d ∷ y)))
-      spanned token =
-          let n = prefix_len class (c ∷ cs) in
-          let some : 0 < n = subst (λ (first : Bool). 0 < cond first (1 + prefix_len class cs) 0) (sym is) (omega arith) in
-          (
-            drop n (c ∷ cs),
-            span_left class (c ∷ cs) x isnt,
-            ap (λ (read : Token × List ℕ). Ok read)
-                (ap (λ bytes. (token bytes, drop (prefix_len class ((c ∷ cs) ++ d ∷ y)) ((c ∷ cs) ++ d ∷ y)))
-                (span_taken class (c ∷ cs) y isnt ∙ sym (span_taken class (c ∷ cs) x isnt))
-                ∙ ap (λ left. (token (take (prefix_len class ((c ∷ cs) ++ d ∷ x)) ((c ∷ cs) ++ d ∷ x)), left)) (span_left class (c ∷ cs) y isnt)),
-            drop_of_tokens n (c ∷ cs) are,
-            omega (arith, length-drop n (c ∷ cs), some),
-          )
+        spanned : (token : List ℕ → Token)
+            → Same (suc (length cs))
+            (Ok (token (take (prefix_len class ((c ∷ cs) ++ d ∷ x)) ((c ∷ cs) ++ d ∷ x)), drop (prefix_len class ((c ∷ cs) ++ d ∷ x)) ((c ∷ cs) ++ d ∷ x)))
+            (Ok (token (take (prefix_len class ((c ∷ cs) ++ d ∷ y)) ((c ∷ cs) ++ d ∷ y)), drop (prefix_len class ((c ∷ cs) ++ d ∷ y)) ((c ∷ cs) ++ d ∷ y)))
+        spanned token =
+            let n = prefix_len class (c ∷ cs) in
+            let some : 0 < n = subst (λ (first : Bool). 0 < cond first (1 + prefix_len class cs) 0) (sym is) (omega arith) in (
+              drop n (c ∷ cs),
+              span_left class (c ∷ cs) x isnt,
+              ap (λ (read : Token × List ℕ). Ok read)
+                  (ap (λ bytes. (token bytes, drop (prefix_len class ((c ∷ cs) ++ d ∷ y)) ((c ∷ cs) ++ d ∷ y)))
+                  (span_taken class (c ∷ cs) y isnt ∙ sym (span_taken class (c ∷ cs) x isnt))
+                  ∙ ap (λ left. (token (take (prefix_len class ((c ∷ cs) ++ d ∷ x)) ((c ∷ cs) ++ d ∷ x)), left)) (span_left class (c ∷ cs) y isnt)),
+              drop_of_tokens n (c ∷ cs) are,
+              omega (arith, length-drop n (c ∷ cs), some),
+            )
 
     same_token : (c : ℕ) (cs : List ℕ) → AllByRecursion (λ byte. is_of_tokens byte ≡ true) (c ∷ cs)
         → Same (suc (length cs)) (front_token ((c ∷ cs) ++ d ∷ x)) (front_token ((c ∷ cs) ++ d ∷ y))

@@ -78,7 +78,7 @@ module _ {S : Type 0} (gave : S → List ℕ → S → Type 0) (ended : S → Ty
     where
       each_given : (text : List ℕ) (texts : List (List ℕ)) → GaveText gave ended s text t
           → ((place : ℕ) (a b : S) → slice_get first place ≡ Some a → slice_get later place ≡ Some b
-              → (found : List ℕ) × (slice_get texts place ≡ Some found) × GaveText gave ended a found b)
+          → (found : List ℕ) × (slice_get texts place ≡ Some found) × GaveText gave ended a found b)
           → (place : ℕ) (a b : S) → slice_get (s ∷ first) place ≡ Some a → slice_get (t ∷ later) place ≡ Some b
           → (found : List ℕ) × (slice_get (text ∷ texts) place ≡ Some found) × GaveText gave ended a found b
       each_given text texts given rest zero a b is_a is_b =

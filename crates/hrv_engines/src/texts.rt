@@ -69,10 +69,7 @@ fn tokens_len(bytes: &[u8]) -> usize
     ensures value { result ≡ prefix_len spec.is_of_tokens bytes.now }
     ensures within { result ≤ length bytes.now }
 {
-    bytes
-        .iter()
-        .take_while(|&&byte| is_of_tokens(byte))
-        .count()
+    bytes.iter().take_while(|&&byte| is_of_tokens(byte)).count()
 }
 
 /// The length of the longest front that is a text.

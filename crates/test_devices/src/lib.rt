@@ -1,7 +1,7 @@
 //! Devices in memory, for tests: a [`Tape`] that is read from and a [`Page`] that is written to. Each gives or takes a
 //! few bytes at a time, and fails where a test wants it.
 //!
-//! Tests over them read images and texts that are too long, and run commands with all memory taken but a little:
+//! Tests over them read images, logs and texts that are too long, and run commands with all memory taken but a little:
 //!
 //! - [`exhaustion`]: all memory that the system gives a process.
 //! - [`commands`]: commands, each with its files.
@@ -25,7 +25,11 @@ use std::io;
 mod commands;
 #[cfg(test)]
 mod exhaustion;
+#[cfg(test)]
 mod long_images;
+#[cfg(test)]
+mod long_logs;
+#[cfg(test)]
 mod long_texts;
 #[cfg(test)]
 mod want_of_memory;

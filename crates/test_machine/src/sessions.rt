@@ -100,6 +100,23 @@ fn kept_places(rt: HostRuntime) -> Result<(), Fail> {
     Ok(())
 }
 
+/// The last sixteen places are kept: a turn behind each of them costs one step, and one behind the place before them all
+/// that lead there from the start.
+#[test]
+fn sixteen_places_are_kept(rt: HostRuntime) -> Result<(), Fail> {
+    let alloc = rt.alloc();
+    let mut session = opened(alloc, &ROUND, &LONG)?;
+    same(&rt, &session.goto(alloc, 100_000), &Ok(()));
+    for back in 0..16 {
+        let place = 98_305 - back * 4_096;
+        same(&rt, &session.goto(alloc, place), &Ok(()));
+        check_at(&rt, &session, place, 100_001 + back);
+    }
+    same(&rt, &session.goto(alloc, 32_769), &Ok(()));
+    check_at(&rt, &session, 32_769, 100_016 + 32_769);
+    Ok(())
+}
+
 /// Turns of a hart that has stopped aren't steps.
 #[test]
 fn passed_turns(rt: HostRuntime) -> Result<(), Fail> {
