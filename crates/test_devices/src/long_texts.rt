@@ -7,6 +7,7 @@ use hrv_engines::devices::{CHUNK, MOST_ALGORITHM_BYTES, MOST_PICTURE_BYTES};
 use hrv_engines::{map_bytes, picture_bytes};
 use std::alloc::{AllocError, Global};
 use std::test::Fail;
+use std::thread::Threads;
 
 /// How many bytes stand behind the most.
 const REST: usize = 400_000;
@@ -42,8 +43,11 @@ fn mapped(alloc: Global, algorithm: &[u8]) -> Result<(String, usize), AllocError
 }
 
 /// Draws a picture: the line of the refusal, and how many bytes of the picture aren't read.
-fn drawn(rt: &HostRuntime, picture: &[u8]) -> Result<(String, usize), AllocError> {
-    let alloc = rt.alloc();
+fn drawn(
+    rt: &(impl Threads + Sync),
+    alloc: Global,
+    picture: &[u8],
+) -> Result<(String, usize), AllocError> {
     let mut algorithm = tape_of("algorithm", b"input in 1\nfunc b(x) = in(x)\noutput b 1\n");
     let mut inputs = [long_tape(picture)];
     let mut page = empty_page(alloc);
@@ -107,11 +111,11 @@ fn a_long_first_line_is_judged_as_a_whole(rt: HostRuntime) -> Result<(), Fail> {
 fn a_long_picture_is_looked_at_as_a_whole(rt: HostRuntime) -> Result<(), Fail> {
     let alloc = rt.alloc();
     let mut bytes = long_text(alloc, b"picture 1 1\n1\n", MOST_PICTURE_BYTES + REST)?;
-    let (line, left) = drawn(&rt, &bytes)?;
+    let (line, left) = drawn(&rt, alloc, &bytes)?;
     assert_eq!(rt; line.as_str(), "refused picture 1");
     assert_eq!(rt; left, 0);
     bytes.push(0xff)?;
-    let (line, _) = drawn(&rt, &bytes)?;
+    let (line, _) = drawn(&rt, alloc, &bytes)?;
     assert_eq!(rt; line.as_str(), "refused file long");
     Ok(())
 }
