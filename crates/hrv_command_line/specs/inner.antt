@@ -1,1 +1,1 @@
-pub mod OneSubcommand
+pub mod Readings

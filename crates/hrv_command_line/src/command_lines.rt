@@ -1,17 +1,16 @@
 //! What a command line asks of the program.
-ghost use Rattle.std.specs.Prelude.{◌≡◌, ℕ, None, [], codes, true, false, unwrap_or, IfOk, IfErr, Some, IsSome};
-ghost use Rattle.clap.specs.Words.{all_of, found_of, one_of, rows_of};
+ghost use Rattle.std.specs.Prelude.{◌≡◌, ◌∷◌, map, option_map, IfOk, IfErr, Some, IsSome};
 ghost use Rattle.clap.specs.Walk.{texts};
-ghost use Rattle.hrv_command_line.specs.CommandLine.{IsRefusal, IsSpelled, IsWithinLimits, asked_by, asked_of, asm_of};
-ghost use Rattle.hrv_command_line.specs.CommandLine.{blame_of, compile_of, debug_of, dis_of, explain_of, if_known};
+ghost use Rattle.hrv_command_line.specs.CommandLine.{IsRefusal, IsSpelled, IsWithinLimits, asked_by, asked_of, named};
 ghost use Rattle.hrv_command_line.specs.CommandLine as spec;
-ghost use Rattle.hrv_command_line.specs.CommandLine.{listing_of, map_of, named, named_by_clap, number_or, picture_of};
-ghost use Rattle.hrv_command_line.specs.CommandLine.{renew_of, replay_of, run_of};
+ghost use Rattle.hrv_command_line.specs.Commands.{choice_of, commands, shape_of};
+ghost use Rattle.hrv_command_line.specs.inner.Readings.{given_of};
 
+use crate::asked::asked_for;
 use crate::faults::CommandLineFault;
-use crate::programs::program_for;
-use clap::ArgMatches;
-use hrv_refusals::is_explained;
+use crate::programs::program;
+use crate::reading::{Given, read_all};
+use crate::table::{Choice, Row, rows};
 use std::alloc::{AllocError, Global};
 
 /// The words that ask who wrote data: the numbers of a pixel, the address of a word, and whether turns are told of in
@@ -112,10 +111,23 @@ pub fn command<'a>(alloc: Global, words: &'a [&'a str]) -> Result<Invocation<'a>
     ensures memory { IfErr result (λ fault.
         IsSome (named (texts words.now)) → fault ≡ CommandLineFault.Memory) }
 {
-    if is_version_flag(words) {
-        return Ok(Invocation::Version);
+    match named_by(alloc, words)? {
+        Some(invocation) => Ok(invocation),
+        None => Err(refusal(alloc, words)),
     }
-    command_by_clap(alloc, words)
+}
+
+// What these words name.
+fn named_by<'a>(alloc: Global, words: &'a [&'a str]) -> Result<Option<Invocation<'a>>, AllocError>
+    ensures { IfOk result (λ found. option_map asked_by found ≡ named (texts words.now)) }
+{
+    if is_version_flag(words) {
+        return Ok(Some(Invocation::Version));
+    }
+    match words {
+        [] => Ok(None),
+        [name, words @ ..] => named_in(alloc, name, words),
+    }
 }
 
 // Whether the only word is `--version`, which `clap` would take for a refusal.
@@ -128,243 +140,74 @@ fn is_version_flag(words: &[&str]) -> bool
     }
 }
 
-// Reads such words by the program's command.
-fn command_by_clap<'a>(
-    alloc: Global,
-    words: &'a [&'a str],
-) -> Result<Invocation<'a>, CommandLineFault>
-    ensures named { IfOk result (λ invocation.
-        named_by_clap (texts words.now) ≡ Some (asked_by invocation)) }
-    ensures spelled { IfOk result (λ invocation.
-        IsSpelled (texts words.now) (asked_by invocation)) }
-    ensures limits { IfOk result (λ invocation. IsWithinLimits (asked_by invocation)) }
-    ensures refused { IfErr result (IsRefusal (texts words.now)) }
-    ensures memory { IfErr result (λ fault.
-        IsSome (named_by_clap (texts words.now)) → fault ≡ CommandLineFault.Memory) }
-{
-    let matches = program_for(alloc, words)?.try_get_matches_from(words)?;
-    let (name, given) = matches.subcommand().unwrap();
-    let invocation = asked_for(alloc, name, given)?;
-    if !is_known(&invocation) {
-        return Err(CommandLineFault::Unexplained);
-    }
-    Ok(invocation)
-}
-
-// Whether what is to be explained, if anything is, is a refusal that there is.
-fn is_known(invocation: &Invocation) -> bool
-    ensures yes { result ≡ true → if_known (asked_by invocation.now) ≡ Some (asked_by invocation.now) }
-    ensures no { result ≡ false → if_known (asked_by invocation.now) ≡ None }
-{
-    match invocation {
-        Invocation::Explain { family, code } => is_explained(family, code),
-        _ => true,
-    }
-}
-
-// What a subcommand and its arguments ask for.
+// Why these words name nothing, as `clap` says it: where it has no word against them, there is no such refusal.
 #[inline(never)]
-fn asked_for<'a>(
+fn refusal(alloc: Global, words: &[&str]) -> CommandLineFault
+    ensures { IsRefusal (texts words.now) result }
+{
+    match program(alloc) {
+        Err(fault) => CommandLineFault::from(fault),
+        Ok(program) => match program.try_get_matches_from(words) {
+            Err(error) => CommandLineFault::from(error),
+            Ok(_) => CommandLineFault::Unexplained,
+        },
+    }
+}
+
+// What the command of a name is asked for by the words behind it.
+fn named_in<'a>(
+    alloc: Global,
+    name: &'a str,
+    words: &'a [&'a str],
+) -> Result<Option<Invocation<'a>>, AllocError>
+    ensures { IfOk result (λ found. option_map asked_by found ≡ spec.named_in (name.now ∷ texts words.now)) }
+{
+    let Some(choices) = options_of(name) else {
+        return Ok(None);
+    };
+    match read_all(alloc, choices, words)? {
+        None => Ok(None),
+        Some(given) => asked_by(alloc, name, &given),
+    }
+}
+
+// What a command is asked for by what it is given.
+fn asked_by<'a>(
     alloc: Global,
     name: &str,
-    given: &ArgMatches<'a>,
-) -> Result<Invocation<'a>, AllocError>
-    requires { IsSome (asked_of (name.now, rows_of (found_of given.now))) }
-    ensures { IfOk result (λ invocation. asked_of (name.now, rows_of (found_of given.now))
-        ≡ Some (asked_by invocation)) }
+    given: &Given<'a>,
+) -> Result<Option<Invocation<'a>>, AllocError>
+    ensures { IfOk result (λ found. option_map asked_by found ≡ asked_of name.now (given_of given.now)) }
 {
-    match name {
-        "compile" => compile_asked(alloc, given),
-        "replay" => Ok(replay_asked(given)),
-        "debug" => Ok(debug_asked(given)),
-        "blame" => Ok(blame_asked(given)),
-        "asm" => Ok(asm_asked(given)),
-        "dis" => Ok(dis_asked(given)),
-        "renew" => Ok(renew_asked(given)),
-        "picture" => picture_asked(alloc, given),
-        "map" => Ok(map_asked(given)),
-        "run" => Ok(run_asked(given)),
-        "explain" => Ok(explain_asked(given)),
-        "version" => Ok(Invocation::Version),
-        _ => unreachable!(),
-    }
+    asked_for(
+        alloc,
+        name,
+        given.values.as_slice(),
+        given.choices.as_slice(),
+    )
 }
 
-// What the arguments of `replay` ask for.
-fn replay_asked<'a>(given: &ArgMatches<'a>) -> Invocation<'a>
-    requires { IsSome (replay_of (rows_of (found_of given.now))) }
-    ensures { replay_of (rows_of (found_of given.now)) ≡ Some (asked_by result) }
+// The options of the command of a name.
+fn options_of(name: &str) -> Option<&'static [Choice<'static>]>
+    ensures { option_map (λ c. map choice_of c.now) result
+        ≡ option_map (λ s. s.choices) (spec.command_named name.now commands) }
 {
-    Invocation::Replay {
-        image: given.get_str("IMAGE").unwrap(),
-        log: given.get_str("LOG").unwrap(),
-    }
+    choices_of(name, rows())
 }
 
-// What the arguments of `debug` ask for.
-fn debug_asked<'a>(given: &ArgMatches<'a>) -> Invocation<'a>
-    requires { IsSome (debug_of (rows_of (found_of given.now))) }
-    ensures { debug_of (rows_of (found_of given.now)) ≡ Some (asked_by result) }
+// The options of the command of a name in a table.
+fn choices_of(name: &str, rows: &'static [Row<'static>]) -> Option<&'static [Choice<'static>]>
+    ensures { option_map (λ c. map choice_of c.now) result
+        ≡ option_map (λ s. s.choices) (spec.command_named name.now (map shape_of rows.now)) }
 {
-    let image = given.get_str("IMAGE").unwrap();
-    let log = given.get_str("LOG").unwrap();
-    Invocation::Debug { image, log }
-}
-
-// What the arguments of `blame` ask for.
-fn blame_asked<'a>(given: &ArgMatches<'a>) -> Invocation<'a>
-    requires { IsSome (blame_of (rows_of (found_of given.now))) }
-    ensures { blame_of (rows_of (found_of given.now)) ≡ Some (asked_by result) }
-{
-    let image = given.get_str("IMAGE").unwrap();
-    let log = given.get_str("LOG").unwrap();
-    let x = given.get_str("X");
-    let y = given.get_str("Y");
-    let address = given.get_str("address");
-    let with_turns = given.get_flag("turns");
-    let words = BlameArguments {
-        x,
-        y,
-        address,
-        with_turns,
-    };
-    Invocation::Blame { image, log, words }
-}
-
-// What the arguments of `asm` ask for.
-fn asm_asked<'a>(given: &ArgMatches<'a>) -> Invocation<'a>
-    requires { IsSome (asm_of (rows_of (found_of given.now))) }
-    ensures { asm_of (rows_of (found_of given.now)) ≡ Some (asked_by result) }
-{
-    let source = given.get_str("SOURCE").unwrap();
-    let image = given.get_str("IMAGE").unwrap();
-    Invocation::Asm { source, image }
-}
-
-// What the arguments of `dis` ask for.
-fn dis_asked<'a>(given: &ArgMatches<'a>) -> Invocation<'a>
-    requires { IsSome (dis_of (rows_of (found_of given.now))) }
-    ensures { dis_of (rows_of (found_of given.now)) ≡ Some (asked_by result) }
-{
-    let image = given.get_str("IMAGE").unwrap();
-    listing_asked(image, given.get_flag("addresses"))
-}
-
-// The listing of an image, with addresses or without.
-fn listing_asked<'a>(image: &'a str, has_addresses: bool) -> Invocation<'a>
-    ensures { asked_by result ≡ listing_of image.now has_addresses }
-{
-    if has_addresses {
-        Invocation::DisAddresses { image }
-    } else {
-        Invocation::Dis { image }
-    }
-}
-
-// What the arguments of `renew` ask for.
-fn renew_asked<'a>(given: &ArgMatches<'a>) -> Invocation<'a>
-    requires { IsSome (renew_of (rows_of (found_of given.now))) }
-    ensures { renew_of (rows_of (found_of given.now)) ≡ Some (asked_by result) }
-{
-    let old = given.get_str("OLD").unwrap();
-    let new = given.get_str("NEW").unwrap();
-    Invocation::Renew { old, new }
-}
-
-// What the arguments of `picture` ask for.
-fn picture_asked<'a>(alloc: Global, given: &ArgMatches<'a>) -> Result<Invocation<'a>, AllocError>
-    requires { IsSome (picture_of (rows_of (found_of given.now))) }
-    ensures { IfOk result (λ invocation. picture_of (rows_of (found_of given.now)) ≡ Some (asked_by invocation)) }
-{
-    let algorithm = given.get_str("ALGORITHM").unwrap();
-    let inputs = inputs_of(alloc, given)?;
-    Ok(Invocation::Picture { algorithm, inputs })
-}
-
-// What the arguments of `compile` ask for.
-fn compile_asked<'a>(alloc: Global, given: &ArgMatches<'a>) -> Result<Invocation<'a>, AllocError>
-    requires { IsSome (compile_of (rows_of (found_of given.now))) }
-    ensures { IfOk result (λ invocation. compile_of (rows_of (found_of given.now)) ≡ Some (asked_by invocation)) }
-{
-    let algorithm = given.get_str("ALGORITHM").unwrap();
-    let schedule = given.get_str("SCHEDULE").unwrap();
-    let image = given.get_str("IMAGE").unwrap();
-    let inputs = inputs_of(alloc, given)?;
-    Ok(Invocation::Compile {
-        algorithm,
-        schedule,
-        image,
-        inputs,
-    })
-}
-
-// What the arguments of `map` ask for.
-fn map_asked<'a>(given: &ArgMatches<'a>) -> Invocation<'a>
-    requires { IsSome (map_of (rows_of (found_of given.now))) }
-    ensures { map_of (rows_of (found_of given.now)) ≡ Some (asked_by result) }
-{
-    let algorithm = given.get_str("ALGORITHM").unwrap();
-    let schedule = given.get_str("SCHEDULE").unwrap();
-    Invocation::Map {
-        algorithm,
-        schedule,
-    }
-}
-
-// What the arguments of `run` ask for: one hart, and all turns that a log may have, where no option says another
-// number; with a log that it goes on from, as many harts as that one has.
-fn run_asked<'a>(given: &ArgMatches<'a>) -> Invocation<'a>
-    requires { IsSome (run_of (rows_of (found_of given.now))) }
-    ensures { run_of (rows_of (found_of given.now)) ≡ Some (asked_by result) }
-{
-    let image = given.get_str("IMAGE").unwrap();
-    let log = given.get_str("LOG").unwrap();
-    let harts = number_asked(given, "harts", 1);
-    let turns = number_asked(given, "turns", MOST_TURNS);
-    match given.get_str("from") {
-        None => Invocation::Run {
-            image,
-            log,
-            harts,
-            turns,
-        },
-        Some(old) => Invocation::Resume {
-            image,
-            log,
-            old,
-            turns,
-        },
-    }
-}
-
-// What the arguments of `explain` ask for.
-fn explain_asked<'a>(given: &ArgMatches<'a>) -> Invocation<'a>
-    requires { IsSome (explain_of (rows_of (found_of given.now))) }
-    ensures { explain_of (rows_of (found_of given.now)) ≡ Some (asked_by result) }
-{
-    let family = given.get_str("FAMILY").unwrap();
-    let code = given.get_str("CODE").unwrap_or("");
-    Invocation::Explain { family, code }
-}
-
-// How many turns a hart has at most in a log.
-const MOST_TURNS: u64 = 1 << 40;
-
-// The number of an option, whatever the greatest one is, or the one that stands for none.
-fn number_asked(given: &ArgMatches, id: &str, none: u64) -> u64
-    ensures { (most asked : ℕ) → number_or none most (one_of id.now (rows_of (found_of given.now))) ≡ Some asked
-        → result ≡ asked }
-{
-    given.get_one::<u64>(id).unwrap_or(none)
-}
-
-// The words for input pictures, in their order.
-fn inputs_of<'a>(alloc: Global, given: &ArgMatches<'a>) -> Result<Vec<&'a str>, AllocError>
-    ensures { IfOk result (λ inputs. texts inputs.items
-        ≡ unwrap_or (all_of (codes "INPUT") (rows_of (found_of given.now))) []) }
-{
-    match given.get_strs("INPUT") {
-        Some(inputs) => Vec::from_slice(alloc, inputs),
-        None => Ok(Vec::new(alloc)),
+    match rows {
+        [] => None,
+        [row, rows @ ..] => {
+            if row.name == name {
+                Some(row.choices)
+            } else {
+                choices_of(name, rows)
+            }
+        }
     }
 }

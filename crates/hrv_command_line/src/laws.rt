@@ -1,11 +1,13 @@
 //! Which words name each command, each law the contract of a function that does nothing.
 ghost use Rattle.std.specs.Prelude.{◌≡◌, ◌≤◌, ℕ, List, None, [], ◌∷◌, codes, false, true, length, Some};
 ghost use Rattle.std.specs.List.{AllByRecursion};
+ghost use Rattle.std.specs.Str.{bytes_eq};
 ghost use Rattle.clap.specs.Lexer.{usize_max};
 ghost use Rattle.hrv_command_line.specs.CommandLine.{Asked, Assembles, Blames, Compiles, Debugs, Draws, Explains};
 ghost use Rattle.hrv_command_line.specs.CommandLine.{IsPlainWord, IsSpelled, Lists, ListsAddresses, Maps, Renews};
 ghost use Rattle.hrv_command_line.specs.CommandLine.{Replays, Resumes, Runs, TellsVersion};
-ghost use Rattle.hrv_command_line.specs.CommandLine.{most_harts, most_turns, named, number_or};
+ghost use Rattle.hrv_command_line.specs.CommandLine.{named, number_or};
+ghost use Rattle.hrv_command_line.specs.Commands.{most_harts, most_turns};
 ghost use Rattle.hrv_refusals.specs.Explanations.{is_explained};
 
 /// Which words name a replay: `replay` and two names, after `--` where one begins with `-`.
@@ -59,14 +61,24 @@ pub fn dis_is_named()
         → named (codes "dis" ∷ codes "--addresses" ∷ image ∷ []) ≡ Some (ListsAddresses image) }
 {}
 
-/// Which words name an explanation: `explain`, a family and a code, or a family alone, of a refusal that there is.
+/// Which words name an explanation: `explain`, a family and a code, or a family alone, of a refusal that there is; with
+/// `refused` before them and the line of a text behind them, as a refusal is printed; or `explain` alone, which asks for
+/// all families. No family is `refused`.
 pub fn explain_is_named()
     ensures both { (family code : List ℕ) → IsPlainWord family → IsPlainWord code → is_explained family code ≡ true
+        → bytes_eq family (codes "refused") ≡ false
         → named (codes "explain" ∷ family ∷ code ∷ []) ≡ Some (Explains family code) }
     ensures alone { (family : List ℕ) → IsPlainWord family → is_explained family [] ≡ true
+        → bytes_eq family (codes "refused") ≡ false
         → named (codes "explain" ∷ family ∷ []) ≡ Some (Explains family []) }
     ensures others { (family code : List ℕ) → IsPlainWord family → IsPlainWord code → is_explained family code ≡ false
+        → bytes_eq family (codes "refused") ≡ false
         → named (codes "explain" ∷ family ∷ code ∷ []) ≡ None }
+    ensures printed { (family code line : List ℕ) → IsPlainWord family → IsPlainWord code → IsPlainWord line
+        → is_explained family code ≡ true → bytes_eq family (codes "file") ≡ false
+        → named (codes "explain" ∷ codes "refused" ∷ family ∷ code ∷ codes "line" ∷ line ∷ [])
+        ≡ Some (Explains family code) }
+    ensures all { named (codes "explain" ∷ []) ≡ Some (Explains [] []) }
 {}
 
 /// The words that ask for the program's version.

@@ -1,4 +1,4 @@
-use Rattle.hrv_command_line.proofs.NamedWords.{marked_asm, plain_asm}
+use Rattle.hrv_command_line.proofs.Examples.{marked_asm, plain_asm}
 use Rattle.hrv_command_line.proofs.laws.asm_is_named.Goals as goal
 
 pub returns-clause-plain : goal.returns-clause-plain

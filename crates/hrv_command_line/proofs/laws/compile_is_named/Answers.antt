@@ -1,4 +1,4 @@
-use Rattle.hrv_command_line.proofs.NamedWords.{marked_compile, plain_compile}
+use Rattle.hrv_command_line.proofs.Examples.{marked_compile, plain_compile}
 use Rattle.hrv_command_line.proofs.laws.compile_is_named.Goals as goal
 
 pub returns-clause-plain : goal.returns-clause-plain

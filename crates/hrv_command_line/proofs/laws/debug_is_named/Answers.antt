@@ -1,4 +1,4 @@
-use Rattle.hrv_command_line.proofs.NamedWords.{marked_debug, plain_debug}
+use Rattle.hrv_command_line.proofs.Examples.{marked_debug, plain_debug}
 use Rattle.hrv_command_line.proofs.laws.debug_is_named.Goals as goal
 
 pub returns-clause-plain : goal.returns-clause-plain

@@ -1,4 +1,4 @@
-use Rattle.hrv_command_line.proofs.NamedWords.{addresses_before, addresses_behind, marked_dis, plain_dis}
+use Rattle.hrv_command_line.proofs.Examples.{addresses_before, addresses_behind, marked_dis, plain_dis}
 use Rattle.hrv_command_line.proofs.laws.dis_is_named.Goals as goal
 
 pub returns-clause-plain : goal.returns-clause-plain

@@ -1,4 +1,4 @@
-use Rattle.hrv_command_line.proofs.MapAsked.{marked_map, plain_map}
+use Rattle.hrv_command_line.proofs.Examples.{marked_map, plain_map}
 use Rattle.hrv_command_line.proofs.laws.map_is_named.Goals as goal
 
 pub returns-clause-plain : goal.returns-clause-plain

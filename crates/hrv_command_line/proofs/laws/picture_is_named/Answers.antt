@@ -1,4 +1,4 @@
-use Rattle.hrv_command_line.proofs.NamedWords.{marked_picture, plain_picture}
+use Rattle.hrv_command_line.proofs.Examples.{marked_picture, plain_picture}
 use Rattle.hrv_command_line.proofs.laws.picture_is_named.Goals as goal
 
 pub returns-clause-plain : goal.returns-clause-plain

@@ -1,4 +1,4 @@
-use Rattle.hrv_command_line.proofs.NamedWords.{marked_renew, plain_renew}
+use Rattle.hrv_command_line.proofs.Examples.{marked_renew, plain_renew}
 use Rattle.hrv_command_line.proofs.laws.renew_is_named.Goals as goal
 
 pub returns-clause-plain : goal.returns-clause-plain

@@ -1,5 +1,5 @@
-use Rattle.hrv_command_line.proofs.AskedWords.{flag_or_spelled}
-use Rattle.hrv_command_line.proofs.NamedWords.{marked_replay, plain_replay}
+use Rattle.hrv_command_line.proofs.Asking.{named_holds}
+use Rattle.hrv_command_line.proofs.Examples.{marked_replay, plain_replay}
 use Rattle.hrv_command_line.proofs.laws.replay_is_named.Goals as goal
 
 pub returns-clause-plain : goal.returns-clause-plain
@@ -9,4 +9,4 @@ pub returns-clause-marked : goal.returns-clause-marked
 returns-clause-marked c = marked_replay
 
 pub returns-clause-only : goal.returns-clause-only
-returns-clause-only c = flag_or_spelled
+returns-clause-only c = λ words asked is. (named_holds words asked is).0

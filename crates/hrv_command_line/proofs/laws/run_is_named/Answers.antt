@@ -1,4 +1,4 @@
-use Rattle.hrv_command_line.proofs.RunForms.{marked_run, options_run, plain_run, resumed_run}
+use Rattle.hrv_command_line.proofs.Examples.{marked_run, options_run, plain_run, resumed_run}
 use Rattle.hrv_command_line.proofs.laws.run_is_named.Goals as goal
 
 pub returns-clause-plain : goal.returns-clause-plain
@@ -11,4 +11,4 @@ pub returns-clause-options : goal.returns-clause-options
 returns-clause-options c = options_run
 
 pub returns-clause-resumed : goal.returns-clause-resumed
-returns-clause-resumed c = λ image log old image_plain log_plain old_plain. resumed_run image log old old_plain image_plain log_plain
+returns-clause-resumed c = resumed_run

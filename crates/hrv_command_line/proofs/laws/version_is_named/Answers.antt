@@ -1,4 +1,4 @@
-use Rattle.hrv_command_line.proofs.NamedWords.{tells_version}
+use Rattle.hrv_command_line.proofs.Examples.{tells_version}
 use Rattle.hrv_command_line.proofs.laws.version_is_named.Goals as goal
 
 pub returns-clause-plain : goal.returns-clause-plain

@@ -1,0 +1,248 @@
+-- Which words name each command.
+use Rattle.std.proofs.Common.{◌≡◌, ◌∙◌, ◌≤◌, ◌<◌, ℕ, arith, Bool, true, false, length, refl, sym, ap, ap₂, subst, List, [], ◌∷◌}
+use Rattle.std.proofs.Common.{Option, Some, None, append-nil, append_assoc, codes}
+use Rattle.std.specs.Prelude.{if◌then◌else◌, is_some, option_and_then, option_map}
+use Rattle.std.specs.Char.{digit_value}
+use Rattle.std.specs.Str.Parse.{digits_value, without_leading_plus}
+use Rattle.std.specs.List.{AllByRecursion}
+use Rattle.std.specs.Str.{bytes_eq}
+use Rattle.hrv_refusals.specs.Explanations.{is_explained}
+use Rattle.clap.proofs.ValueTestLemmas.{accepts-Accepts}
+use Rattle.clap.specs.Lexer.{usize_max}
+use Rattle.clap.specs.ValueTests.{accepts}
+use Rattle.clap.specs.Words.{Text}
+use Rattle.clap.specs.declared.builder.value_parser.ValueParser.TheVariants.{Unsigned}
+use Rattle.hrv_command_line.specs.CommandLine.{Asked, Assembles, Blames, Compiles, Debugs, Draws, Explains, Given, IsPlainWord, Lists, ListsAddresses, Maps}
+use Rattle.hrv_command_line.specs.CommandLine.{Renews, Replays, Resumes, Runs, TellsVersion, asked_of, choose, further, if_known, named, nothing_given, number_or, printed_in}
+use Rattle.hrv_command_line.specs.CommandLine.{read, text_of, with_choice, with_values}
+use Rattle.hrv_command_line.specs.Commands.{most_harts, most_turns}
+use Rattle.hrv_command_line.specs.declared.table.Kind.{Kind}
+use Rattle.hrv_command_line.specs.declared.table.Kind.TheVariants.{Flag, Harts, Turns, Word}
+use Rattle.hrv_command_line.proofs.Spelling.{chooses, gives, some_none}
+
+abbrev Choices : Type 0
+Choices = List (Text × Kind)
+
+-- ---- words that are read
+
+-- a plain word is a value
+value_on : (choices : Choices) (word : Text) (rest : List Text) (given : Given) → IsPlainWord word
+    → read choices None (word ∷ rest) given ≡ read choices None rest (with_values given (word ∷ []))
+unfolding read
+value_on choices word rest given is = ap (λ m. further (λ next more. read choices next rest more) m word rest given) (gives choices word is)
+
+-- or the text of an option
+text_on : (choices : Choices) (name word : Text) (rest : List Text) (given : Given) → IsPlainWord word
+    → read choices (Some name) (word ∷ rest) given
+    ≡ choose (λ more. read choices None rest more) (is_some (text_of name given.choices)) name word given
+unfolding read
+text_on choices name word rest given is = ap (λ m. further (λ next more. read choices next rest more) m word rest given) (chooses choices name word is)
+
+-- plain words are values
+all_on : (choices : Choices) (words : List Text) (given : Given) → AllByRecursion IsPlainWord words
+    → read choices None words given ≡ Some (with_values given words)
+unfolding read
+all_on choices [] given all = ap (λ vs. Some (record { values = vs; choices = given.choices })) (sym (append-nil given.values))
+all_on choices (word ∷ rest) given all =
+    value_on choices word rest given all.0 ∙ all_on choices rest (with_values given (word ∷ [])) all.1
+    ∙ ap (λ vs. Some (record { values = vs; choices = given.choices })) (append_assoc given.values (word ∷ []) rest)
+
+-- so are all words behind the mark
+marked_on : (choices : Choices) (words : List Text) → read choices None (codes "--" ∷ words) nothing_given ≡ Some (with_values nothing_given words)
+unfolding read
+marked_on choices words = refl
+
+-- what a command is asked for by what is read
+abbrev asks : Text → Option Given → Option Asked
+asks name given = option_and_then (asked_of name) given
+
+-- ---- commands without options
+
+pub plain_picture : (algorithm : Text) (inputs : List Text) → AllByRecursion IsPlainWord (algorithm ∷ inputs) → length inputs ≤ usize_max
+    → named (codes "picture" ∷ algorithm ∷ inputs) ≡ Some (Draws algorithm inputs)
+plain_picture algorithm inputs all few = ap (asks (codes "picture")) (all_on [] (algorithm ∷ inputs) nothing_given all)
+
+pub marked_picture : (algorithm : Text) (inputs : List Text) → length inputs ≤ usize_max
+    → named (codes "picture" ∷ codes "--" ∷ algorithm ∷ inputs) ≡ Some (Draws algorithm inputs)
+marked_picture algorithm inputs few = ap (asks (codes "picture")) (marked_on [] (algorithm ∷ inputs))
+
+pub plain_compile : (algorithm schedule image : Text) (inputs : List Text) → AllByRecursion IsPlainWord (algorithm ∷ schedule ∷ image ∷ inputs)
+    → length inputs ≤ usize_max
+    → named (codes "compile" ∷ algorithm ∷ schedule ∷ image ∷ inputs) ≡ Some (Compiles algorithm schedule image inputs)
+plain_compile algorithm schedule image inputs all few =
+    ap (asks (codes "compile")) (all_on [] (algorithm ∷ schedule ∷ image ∷ inputs) nothing_given all)
+
+pub marked_compile : (algorithm schedule image : Text) (inputs : List Text) → length inputs ≤ usize_max
+    → named (codes "compile" ∷ codes "--" ∷ algorithm ∷ schedule ∷ image ∷ inputs) ≡ Some (Compiles algorithm schedule image inputs)
+marked_compile algorithm schedule image inputs few = ap (asks (codes "compile")) (marked_on [] (algorithm ∷ schedule ∷ image ∷ inputs))
+
+pub plain_map : (a b : Text) → IsPlainWord a → IsPlainWord b → named (codes "map" ∷ a ∷ b ∷ []) ≡ Some (Maps a b)
+plain_map a b a_plain b_plain = ap (asks (codes "map")) (all_on [] (a ∷ b ∷ []) nothing_given (a_plain, (b_plain, tt)))
+
+pub marked_map : (a b : Text) → named (codes "map" ∷ codes "--" ∷ a ∷ b ∷ []) ≡ Some (Maps a b)
+marked_map a b = ap (asks (codes "map")) (marked_on [] (a ∷ b ∷ []))
+
+pub plain_replay : (a b : Text) → IsPlainWord a → IsPlainWord b → named (codes "replay" ∷ a ∷ b ∷ []) ≡ Some (Replays a b)
+plain_replay a b a_plain b_plain = ap (asks (codes "replay")) (all_on [] (a ∷ b ∷ []) nothing_given (a_plain, (b_plain, tt)))
+
+pub marked_replay : (a b : Text) → named (codes "replay" ∷ codes "--" ∷ a ∷ b ∷ []) ≡ Some (Replays a b)
+marked_replay a b = ap (asks (codes "replay")) (marked_on [] (a ∷ b ∷ []))
+
+pub plain_debug : (a b : Text) → IsPlainWord a → IsPlainWord b → named (codes "debug" ∷ a ∷ b ∷ []) ≡ Some (Debugs a b)
+plain_debug a b a_plain b_plain = ap (asks (codes "debug")) (all_on [] (a ∷ b ∷ []) nothing_given (a_plain, (b_plain, tt)))
+
+pub marked_debug : (a b : Text) → named (codes "debug" ∷ codes "--" ∷ a ∷ b ∷ []) ≡ Some (Debugs a b)
+marked_debug a b = ap (asks (codes "debug")) (marked_on [] (a ∷ b ∷ []))
+
+pub plain_asm : (a b : Text) → IsPlainWord a → IsPlainWord b → named (codes "asm" ∷ a ∷ b ∷ []) ≡ Some (Assembles a b)
+plain_asm a b a_plain b_plain = ap (asks (codes "asm")) (all_on [] (a ∷ b ∷ []) nothing_given (a_plain, (b_plain, tt)))
+
+pub marked_asm : (a b : Text) → named (codes "asm" ∷ codes "--" ∷ a ∷ b ∷ []) ≡ Some (Assembles a b)
+marked_asm a b = ap (asks (codes "asm")) (marked_on [] (a ∷ b ∷ []))
+
+pub plain_renew : (a b : Text) → IsPlainWord a → IsPlainWord b → named (codes "renew" ∷ a ∷ b ∷ []) ≡ Some (Renews a b)
+plain_renew a b a_plain b_plain = ap (asks (codes "renew")) (all_on [] (a ∷ b ∷ []) nothing_given (a_plain, (b_plain, tt)))
+
+pub marked_renew : (a b : Text) → named (codes "renew" ∷ codes "--" ∷ a ∷ b ∷ []) ≡ Some (Renews a b)
+marked_renew a b = ap (asks (codes "renew")) (marked_on [] (a ∷ b ∷ []))
+
+pub tells_version : named (codes "version" ∷ []) ≡ Some TellsVersion
+unfolding read
+tells_version = refl
+
+-- ---- explanations
+
+explained : (family code : Text) (b : Bool) → is_explained family code ≡ b → if_known (family, code) ≡ (if b then Some (Explains family code) else None)
+explained family code b is = ap (λ x. if x then Some (Explains family code) else None) is
+
+abbrev behind : Bool → Option (Text × Text) → Option (Text × Text) → Option Asked
+behind is_printed printed plain = option_and_then if_known (if is_printed then printed else plain)
+
+two_explained : (family code : Text) (b : Bool) → IsPlainWord family → IsPlainWord code → is_explained family code ≡ b
+    → bytes_eq family (codes "refused") ≡ false
+    → named (codes "explain" ∷ family ∷ code ∷ []) ≡ (if b then Some (Explains family code) else None)
+two_explained family code b family_plain code_plain is other =
+    ap (asks (codes "explain")) (all_on [] (family ∷ code ∷ []) nothing_given (family_plain, (code_plain, tt)))
+    ∙ ap (λ x. behind x (printed_in (code ∷ [])) (Some (family, code))) other ∙ explained family code b is
+
+pub explains_both : (family code : Text) → IsPlainWord family → IsPlainWord code → is_explained family code ≡ true
+    → bytes_eq family (codes "refused") ≡ false → named (codes "explain" ∷ family ∷ code ∷ []) ≡ Some (Explains family code)
+explains_both family code = two_explained family code true
+
+pub explains_no_other : (family code : Text) → IsPlainWord family → IsPlainWord code → is_explained family code ≡ false
+    → bytes_eq family (codes "refused") ≡ false → named (codes "explain" ∷ family ∷ code ∷ []) ≡ None
+explains_no_other family code = two_explained family code false
+
+pub explains_alone : (family : Text) → IsPlainWord family → is_explained family [] ≡ true → bytes_eq family (codes "refused") ≡ false
+    → named (codes "explain" ∷ family ∷ []) ≡ Some (Explains family [])
+explains_alone family family_plain is other =
+    ap (asks (codes "explain")) (all_on [] (family ∷ []) nothing_given (family_plain, tt))
+    ∙ ap (λ x. behind x None (Some (family, []))) other ∙ explained family [] true is
+
+pub explains_printed : (family code line : Text) → IsPlainWord family → IsPlainWord code → IsPlainWord line → is_explained family code ≡ true
+    → bytes_eq family (codes "file") ≡ false
+    → named (codes "explain" ∷ codes "refused" ∷ family ∷ code ∷ codes "line" ∷ line ∷ []) ≡ Some (Explains family code)
+explains_printed family code line family_plain code_plain line_plain is other =
+    let refused_plain : IsPlainWord (codes "refused") = λ e. absurd (omega (arith, e)) in
+    let line_word : IsPlainWord (codes "line") = λ e. absurd (omega (arith, e)) in
+    ap (asks (codes "explain")) (all_on [] (codes "refused" ∷ family ∷ code ∷ codes "line" ∷ line ∷ []) nothing_given
+    (refused_plain, (family_plain, (code_plain, (line_word, (line_plain, tt))))))
+    ∙ ap (λ x. behind x (Some (family, [])) (Some (family, code))) other ∙ explained family code true is
+
+pub explains_all : named (codes "explain" ∷ []) ≡ Some (Explains [] [])
+unfolding read
+explains_all = refl
+
+-- ---- listings
+
+abbrev listing : Choices
+listing = (codes "addresses", Flag) ∷ []
+
+pub plain_dis : (image : Text) → IsPlainWord image → named (codes "dis" ∷ image ∷ []) ≡ Some (Lists image)
+plain_dis image is = ap (asks (codes "dis")) (all_on listing (image ∷ []) nothing_given (is, tt))
+
+pub marked_dis : (image : Text) → named (codes "dis" ∷ codes "--" ∷ image ∷ []) ≡ Some (Lists image)
+marked_dis image = ap (asks (codes "dis")) (marked_on listing (image ∷ []))
+
+pub addresses_behind : (image : Text) → IsPlainWord image → named (codes "dis" ∷ image ∷ codes "--addresses" ∷ []) ≡ Some (ListsAddresses image)
+unfolding read
+addresses_behind image is = ap (asks (codes "dis")) (value_on listing image (codes "--addresses" ∷ []) nothing_given is)
+
+pub addresses_before : (image : Text) → IsPlainWord image → named (codes "dis" ∷ codes "--addresses" ∷ image ∷ []) ≡ Some (ListsAddresses image)
+unfolding read
+addresses_before image is =
+    ap (asks (codes "dis")) (value_on listing image [] (with_choice nothing_given (codes "addresses") []) is)
+
+-- ---- who wrote data
+
+abbrev blaming : Choices
+blaming = (codes "address", Word) ∷ (codes "turns", Flag) ∷ []
+
+files_on : (choices : Choices) (image log : Text) (rest : List Text) → IsPlainWord image → IsPlainWord log
+    → read choices None (image ∷ log ∷ rest) nothing_given ≡ read choices None rest (with_values nothing_given (image ∷ log ∷ []))
+files_on choices image log rest image_plain log_plain =
+    value_on choices image (log ∷ rest) nothing_given image_plain
+    ∙ value_on choices log rest (with_values nothing_given (image ∷ [])) log_plain
+
+pub plain_blame : (image log : Text) → IsPlainWord image → IsPlainWord log
+    → named (codes "blame" ∷ image ∷ log ∷ []) ≡ Some (Blames image log None None None false)
+plain_blame image log i l = ap (asks (codes "blame")) (all_on blaming (image ∷ log ∷ []) nothing_given (i, (l, tt)))
+
+pub turns_blame : (image log : Text) → IsPlainWord image → IsPlainWord log
+    → named (codes "blame" ∷ image ∷ log ∷ codes "--turns" ∷ []) ≡ Some (Blames image log None None None true)
+unfolding read
+turns_blame image log i l = ap (asks (codes "blame")) (files_on blaming image log (codes "--turns" ∷ []) i l)
+
+pub pixel_blame : (image log x y : Text) → IsPlainWord image → IsPlainWord log → IsPlainWord x → IsPlainWord y
+    → named (codes "blame" ∷ image ∷ log ∷ x ∷ y ∷ []) ≡ Some (Blames image log (Some x) (Some y) None false)
+pixel_blame image log x y i l x_plain y_plain =
+    ap (asks (codes "blame")) (all_on blaming (image ∷ log ∷ x ∷ y ∷ []) nothing_given (i, (l, (x_plain, (y_plain, tt)))))
+
+pub address_blame : (image log address : Text) → IsPlainWord image → IsPlainWord log → IsPlainWord address
+    → named (codes "blame" ∷ image ∷ log ∷ codes "--address" ∷ address ∷ []) ≡ Some (Blames image log None None (Some address) false)
+unfolding read
+address_blame image log address i l plain =
+    ap (asks (codes "blame")) (files_on blaming image log (codes "--address" ∷ address ∷ []) i l
+    ∙ text_on blaming (codes "address") address [] (with_values nothing_given (image ∷ log ∷ [])) plain)
+
+-- ---- runs
+
+abbrev running : Choices
+running = (codes "harts", Harts) ∷ (codes "turns", Turns) ∷ (codes "from", Word) ∷ []
+
+pub plain_run : (image log : Text) → IsPlainWord image → IsPlainWord log → named (codes "run" ∷ image ∷ log ∷ []) ≡ Some (Runs image log 1 most_turns)
+plain_run image log i l = ap (asks (codes "run")) (all_on running (image ∷ log ∷ []) nothing_given (i, (l, tt)))
+
+pub marked_run : (image log : Text) → named (codes "run" ∷ codes "--" ∷ image ∷ log ∷ []) ≡ Some (Runs image log 1 most_turns)
+marked_run image log = ap (asks (codes "run")) (marked_on running (image ∷ log ∷ []))
+
+pub resumed_run : (image log old : Text) → IsPlainWord image → IsPlainWord log → IsPlainWord old
+    → named (codes "run" ∷ image ∷ log ∷ codes "--from" ∷ old ∷ []) ≡ Some (Resumes image log old most_turns)
+unfolding read
+resumed_run image log old i l plain =
+    ap (asks (codes "run")) (files_on running image log (codes "--from" ∷ old ∷ []) i l
+    ∙ text_on running (codes "from") old [] (with_values nothing_given (image ∷ log ∷ [])) plain)
+
+-- a number's text is a plain word
+number_plain : (none most n : ℕ) (text : Text) → number_or none most (Some text) ≡ Some n → IsPlainWord text
+number_plain none most n [] e = tt
+number_plain none most n (byte ∷ []) e = tt
+number_plain none most n (byte ∷ next ∷ rest) e = λ hyphen. accepted hyphen (accepts false (Unsigned 1 most) (byte ∷ next ∷ rest)) refl e
+  where
+    accepted : byte ≡ 45 → (b : Bool) → accepts false (Unsigned 1 most) (byte ∷ next ∷ rest) ≡ b → (if b then Some (digits_value 10 (without_leading_plus (byte ∷ next ∷ rest))) else None) ≡ Some n → ⊥
+    accepted hyphen false is e = some_none e
+    accepted hyphen true is e =
+        let fits = accepts-Accepts false (Unsigned 1 most) (45 ∷ next ∷ rest) (subst (λ b. accepts false (Unsigned 1 most) (b ∷ next ∷ rest) ≡ true) hyphen is) in
+        let digit : digit_value 45 < 10 = fits.0.1.0 in
+        absurd (omega arith)
+
+pub options_run : (image log harts turns : Text) (h t : ℕ) → IsPlainWord image → IsPlainWord log → number_or 1 most_harts (Some harts) ≡ Some h
+    → number_or 1 most_turns (Some turns) ≡ Some t
+    → named (codes "run" ∷ image ∷ log ∷ codes "--harts" ∷ harts ∷ codes "--turns" ∷ turns ∷ []) ≡ Some (Runs image log h t)
+unfolding read
+options_run image log harts turns h t i l hs ts =
+    let given = with_values nothing_given (image ∷ log ∷ []) in
+    ap (asks (codes "run")) (files_on running image log (codes "--harts" ∷ harts ∷ codes "--turns" ∷ turns ∷ []) i l
+    ∙ text_on running (codes "harts") harts (codes "--turns" ∷ turns ∷ []) given (number_plain 1 most_harts h harts hs)
+    ∙ text_on running (codes "turns") turns [] (with_choice given (codes "harts") harts) (number_plain 1 most_turns t turns ts))
+    ∙ ap₂ (λ a b. option_and_then (λ x. option_map (λ y. Runs image log x y) b) a) hs ts

@@ -1,0 +1,28 @@
+-- Numbers of options.
+use Rattle.std.proofs.Common.{◌≡◌, ◌≤◌, ◌<◌, ◌^◌, ℕ, Bool, true, false, refl, ap, subst, Some, None}
+use Rattle.std.specs.Str.Parse.{IsNumeral, digits_value, without_leading_plus}
+use Rattle.clap.proofs.ValueTestLemmas.{Accepts-accepts, accepts-Accepts}
+use Rattle.clap.specs.ValueTests.{accepts}
+use Rattle.clap.specs.Words.{Text}
+use Rattle.clap.specs.declared.builder.value_parser.ValueParser.TheVariants.{Unsigned}
+use Rattle.hrv_command_line.specs.CommandLine.{number_or}
+
+abbrev IsRead : Text → Type 0
+IsRead text = IsNumeral 10 (without_leading_plus text) × (digits_value 10 (without_leading_plus text) < 2 ^ 64)
+
+-- a number within the limits is taken
+pub taken : (none most number : ℕ) (text : Text) → IsRead text → number ≡ digits_value 10 (without_leading_plus text) → 1 ≤ number → number ≤ most
+    → Some number ≡ number_or none most (Some text)
+taken none most number text read is some few =
+    let low = subst (λ n. 1 ≤ n) is some in
+    let high = subst (λ n. n ≤ most) is few in
+    let accepted : accepts false (Unsigned 1 most) text ≡ true = Accepts-accepts false (Unsigned 1 most) text (read.0, read.1, low, high) in
+    rw (accepted) (ap (λ n. Some n) is)
+
+-- what is no number isn't
+pub untaken : (none most : ℕ) (text : Text) → (IsRead text → ⊥) → None ≡ number_or none most (Some text)
+untaken none most text refused = go (accepts false (Unsigned 1 most) text) refl
+  where
+    go : (b : Bool) → accepts false (Unsigned 1 most) text ≡ b → None ≡ number_or none most (Some text)
+    go false is = rw (is) refl
+    go true is = let fits = accepts-Accepts false (Unsigned 1 most) text is in absurd (refused (fits.0, fits.1))
