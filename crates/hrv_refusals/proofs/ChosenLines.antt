@@ -3,7 +3,7 @@ use Rattle.std.proofs.Common.{◌≡◌, ◌∙◌, Bool, true, false, sym, ap, 
 use Rattle.std.specs.Prelude.{if◌then◌else◌}
 use Rattle.std.specs.List.{list_any}
 use Rattle.line_text.specs.Lines.{lines_of}
-use Rattle.hrv_refusals.specs.Explanations.{chooses, chosen, is_heading, is_indented, line_if}
+use Rattle.hrv_refusals.specs.Explanations.{chooses, chosen, families, is_family, is_heading, is_indented, line_if}
 
 pub none_among : (family code text : List ℕ) → text ≡ [] → false ≡ list_any (is_heading family code) (lines_of text)
 unfolding lines_of
@@ -40,3 +40,16 @@ below_heading is_chosen family code text line rest before now after split indent
     others ∙ ap (λ b. b ++ chosen is_chosen family code (lines_of rest)) one
     ∙ append_assoc before (line_if is_chosen line) (chosen is_chosen family code (lines_of rest))
     ∙ ap (λ more. before ++ more) (sym (chosen_by true is_chosen family code text line rest split indented))
+
+-- ---- families
+
+pub no_families : (text before : List ℕ) → text ≡ [] → before ≡ before ++ families (lines_of text)
+unfolding lines_of families
+no_families text before none = sym (ap (λ t. before ++ families (lines_of t)) none ∙ append-nil before)
+
+pub one_family : (text line rest before now after : List ℕ) → lines_of text ≡ line ∷ lines_of rest → now ≡ before ++ line_if (is_family line) line
+    → after ≡ now ++ families (lines_of rest) → after ≡ before ++ families (lines_of text)
+unfolding families
+one_family text line rest before now after split one others =
+    others ∙ ap (λ b. b ++ families (lines_of rest)) one ∙ append_assoc before (line_if (is_family line) line) (families (lines_of rest))
+    ∙ ap (λ ls. before ++ families ls) (sym split)

@@ -52,6 +52,20 @@ chosen is_chosen family code (line ∷ lines) =
     if is_indented line then line_if is_chosen line ++ chosen is_chosen family code lines
     else chosen (chooses family code line) family code lines
 
+-- the heading of a family alone: no blank (32) stands in it
+abbrev pub is_family : List ℕ → Bool
+is_family line = not (list_any (λ byte. byte == 32) line)
+
+-- all families, a line each
+unfoldable pub families : List (List ℕ) → List ℕ
+families [] = []
+families (line ∷ lines) = line_if (is_family line) line ++ families lines
+
 -- how the refusal is printed, what its family says, and each cause with what helps
+unfoldable pub refusal : List ℕ → List ℕ → List ℕ
+refusal family code = codes "refused " ++ name family code ++ newline ++ chosen false family code (lines_of REFUSALS)
+
+-- without a family and a code, all families
 unfoldable pub explanation : List ℕ → List ℕ → List ℕ
-explanation family code = codes "refused " ++ name family code ++ newline ++ chosen false family code (lines_of REFUSALS)
+explanation [] [] = families (lines_of REFUSALS)
+explanation family code = refusal family code

@@ -19,15 +19,51 @@ pub fn is_explained(family: &str, code: &str) -> bool
 }
 
 /// Appends what a refusal means: how it is printed, what its family says, and each cause with what helps, a line each.
+/// Without a family and a code it appends all families, a line each.
 #[tactic(auto, unfolding(crate::specs::Explanations::explanation))]
 pub fn push_explanation(out: &mut Vec<u8>, family: &str, code: &str) -> Result<(), AllocError>
     ensures { OnOk result (out.new.items ≡ out.old.items ++ spec.explanation family.now code.now) }
+{
+    if family.is_empty() && code.is_empty() {
+        push_families(out, &REFUSALS)
+    } else {
+        push_refusal(out, family, code)
+    }
+}
+
+/// Appends what the refusal of a family and a code means.
+#[tactic(auto, unfolding(crate::specs::Explanations::refusal))]
+fn push_refusal(out: &mut Vec<u8>, family: &str, code: &str) -> Result<(), AllocError>
+    ensures { OnOk result (out.new.items ≡ out.old.items ++ spec.refusal family.now code.now) }
 {
     out.extend_from_slice(b"refused ")?;
     push_name(out, family, code)?;
     out.push(b'\n')?;
     push_chosen(out, &REFUSALS, false, family, code)?;
     Ok(())
+}
+
+/// Appends the lines of a text that head a family.
+fn push_families(out: &mut Vec<u8>, text: &[u8]) -> Result<(), AllocError>
+    ensures { OnOk result (out.new.items ≡ out.old.items ++ spec.families (lines_of text.now)) }
+{
+    if text.is_empty() {
+        return Ok(());
+    }
+    let (line, rest) = first_line(text);
+    push_if(out, is_family(line), line)?;
+    push_families(out, rest)?;
+    Ok(())
+}
+
+/// Whether a line heads a family: no blank stands in it.
+fn is_family(line: &[u8]) -> bool
+    ensures { result ≡ spec.is_family line.now }
+{
+    match line {
+        [] => true,
+        [byte, line @ ..] => *byte != b' ' && is_family(line),
+    }
 }
 
 /// Whether one of the lines of a text is the heading of the refusal.
