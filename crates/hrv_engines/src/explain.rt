@@ -13,7 +13,8 @@ use std::alloc::Global;
 /// The version of the program, and the logic of the kit that proves it.
 pub const VERSION: [u8; 31] = *b"hrv 1.0\nlogic dac8208d650f15bf\n";
 
-/// Writes what the refusal of a family and a code means. The code is empty in a family that has none.
+/// Writes what the refusal of a family and a code means. The code is empty in a family that has none; without both it
+/// writes all families.
 pub fn explain_bytes<O: Sink>(
     alloc: Global,
     family: &str,
