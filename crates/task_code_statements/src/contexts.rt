@@ -15,25 +15,47 @@ use task_code_names::names::{Named, new_named};
 use task_code_runs::terms::has_term;
 use task_code_scalar::CodeFault;
 
+/// What the loops of a task hold in registers. Each way asks for fewer of them than the one before.
+#[derive(Clone, Copy, Debug, PartialEq, Eq)]
+pub enum Holding {
+    /// Pointers, and values that stay the same.
+    Pointers,
+    /// Each its variable first, so that any address can be made of variables, and then as above.
+    VariablesFirst,
+    /// Each its variable first, and no values that stay the same.
+    VariablesAndPointers,
+}
+
+impl Holding {
+    /// Whether each loop holds its variable first.
+    pub fn has_variables(self) -> bool {
+        self != Holding::Pointers
+    }
+
+    /// Whether values that stay the same in a loop get names.
+    pub fn has_names(self) -> bool {
+        self != Holding::VariablesAndPointers
+    }
+}
+
 /// Loop variables that are sums of others, numbers below which loop variables stay, and names.
 #[derive(Debug, Drop)]
 pub struct Context {
     pub known: Vec<Known>,
     pub bounds: Vec<Bound>,
     pub names: Vec<Named>,
-    /// Whether each loop holds its variable first, so that any address can be made of variables.
-    pub with_variables: bool,
+    pub holding: Holding,
 }
 
 /// Nothing is known.
-pub fn nothing_known(alloc: Global, with_variables: bool) -> Context
+pub fn nothing_known(alloc: Global, holding: Holding) -> Context
     ensures { IsEmpty result }
 {
     Context {
         known: Vec::new(alloc),
         bounds: Vec::new(alloc),
         names: Vec::new(alloc),
-        with_variables,
+        holding,
     }
 }
 
@@ -169,7 +191,7 @@ pub fn in_loop(alloc: Global, context: &Context, own: Bound) -> Result<Context, 
         known,
         bounds,
         names,
-        with_variables: context.with_variables,
+        holding: context.holding,
     })
 }
 
@@ -197,7 +219,7 @@ pub fn with_sum(
         known,
         bounds,
         names,
-        with_variables: context.with_variables,
+        holding: context.holding,
     })
 }
 
@@ -215,7 +237,7 @@ pub fn with_zero(alloc: Global, context: Context, counter: Counter) -> Result<Co
         known,
         bounds: context.bounds,
         names: context.names,
-        with_variables: context.with_variables,
+        holding: context.holding,
     })
 }
 
@@ -242,7 +264,7 @@ fn with_name(
         known,
         bounds,
         names,
-        with_variables: context.with_variables,
+        holding: context.holding,
     }))
 }
 
@@ -271,6 +293,6 @@ pub fn with_value(
         known: made.known,
         bounds,
         names: made.names,
-        with_variables: made.with_variables,
+        holding: made.holding,
     }))
 }

@@ -50,7 +50,7 @@ fn ready_loop(
     made: Boxed<Stmt>,
     named: &mut Vec<Expr>,
 ) -> Result<Stmt, CodeFault> {
-    if is_at_once(kind) || is_laid_out(kind, own.count) || context.with_variables {
+    if is_at_once(kind) || is_laid_out(kind, own.count) || !context.holding.has_names() {
         return Ok(Stmt::For(own.counter, own.count, kind, made));
     }
     let all = staying(alloc, context.bounds.as_slice(), made.get())?;
@@ -308,7 +308,7 @@ pub fn ready_to_stay(
     own: Bound,
     body: &Stmt,
 ) -> Result<Option<Guess>, CodeFault> {
-    if context.with_variables || !may_stay_in(alloc, own.counter, body)? {
+    if !context.holding.has_names() || !may_stay_in(alloc, own.counter, body)? {
         return Ok(None);
     }
     let inner = in_loop(alloc, context, own)?;

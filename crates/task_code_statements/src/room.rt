@@ -1,6 +1,6 @@
 //! How many registers a loop leaves to those inside, and which forms it holds. Guesses, of which nothing is promised.
 
-use crate::contexts::Context;
+use crate::contexts::{Context, Holding};
 use crate::guessing::{Guess, add_sums, ready_in};
 use crate::statements::is_laid_out;
 use crate::vectorizing::is_at_once;
@@ -19,6 +19,9 @@ use task_code_scalar::places::Places;
 const VARIABLE_REGISTERS: usize = 2;
 
 const POINTER_REGISTERS: usize = 4;
+
+/// How many registers a loop around the innermost one leaves to that.
+const INNERMOST_REGISTERS: usize = 6;
 
 /// Whether a loop's iterations come one behind the other.
 pub(crate) fn is_in_turn(kind: LoopKind, count: u32) -> bool {
@@ -48,18 +51,19 @@ fn left(scope: &[Held]) -> usize {
     usize::from(left_count(scope))
 }
 
-/// How many registers a loop leaves to so many loops inside: what each has good use for, as far as it has as much
-/// itself.
-pub(crate) fn reserve(scope: &[Held], inside: usize, with_variables: bool) -> usize {
-    let each = if with_variables {
-        VARIABLE_REGISTERS
-    } else {
-        POINTER_REGISTERS
-    };
-    let most = left(scope).saturating_sub(each);
-    let most = if most < inside { inside } else { most };
-    let wanted = inside.saturating_mul(each);
-    if wanted < most { wanted } else { most }
+/// How many registers a loop leaves to so many loops inside: the innermost ones, which run most often, are served first.
+/// Where loops hold their variables first, an outer one can do with its variable and a literal that is made anew.
+pub(crate) fn reserve(scope: &[Held], inside: usize, holding: Holding) -> usize {
+    if holding.has_variables() {
+        let most = left(scope).saturating_sub(VARIABLE_REGISTERS);
+        return match inside {
+            0 => 0,
+            1 => most.min(INNERMOST_REGISTERS),
+            _ => most,
+        };
+    }
+    let most = left(scope).saturating_sub(POINTER_REGISTERS).max(inside);
+    inside.saturating_mul(POINTER_REGISTERS).min(most)
 }
 
 /// Adds forms by other loop variables than the known ones.
@@ -91,7 +95,7 @@ pub(crate) fn wanted_by(
 ) -> Result<Vec<Form>, AllocError> {
     let bounds = context.bounds.as_slice();
     let mut wanted = Vec::new(alloc);
-    if context.with_variables {
+    if context.holding.has_variables() {
         let own = variable(alloc, counter)?;
         wanted.push(own)?;
     }

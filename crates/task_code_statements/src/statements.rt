@@ -174,7 +174,7 @@ fn begin_iterations(
         [] => wanted_in(alloc, site.places, inner, own.counter, iterations.body)?,
         [guess, ..] => wanted_by(alloc, site.places, inner, own.counter, guess)?,
     };
-    let reserved = reserve(site.scope, depth(iterations.body), inner.with_variables);
+    let reserved = reserve(site.scope, depth(iterations.body), inner.holding);
     let begun = begin(alloc, code, site.scope, own, wanted.as_slice(), reserved)?;
     Ok(begun)
 }

@@ -6,7 +6,7 @@ ghost use Rattle.task_code_statements.specs.Drawing as spec;
 ghost use Rattle.task_code_statements.specs.Drawing.{Begins, StaysMet};
 ghost use Rattle.task_code_statements.specs.Tasks.{AppendsTask, restored};
 
-use crate::contexts::{Context, in_loop, nothing_known, with_zero};
+use crate::contexts::{Context, Holding, in_loop, nothing_known, with_zero};
 use crate::mentions::mentioned_variables;
 use crate::stages::{Code, CodeStage, add_moved, no_stages};
 use crate::statements::emit_statement;
@@ -90,18 +90,18 @@ fn beginning(
     alloc: Global,
     counter: Option<Counter>,
     tasks: u32,
-    with_variables: bool,
+    holding: Holding,
 ) -> Result<Start, CodeFault>
     ensures { IfOk result (λ made. Begins counter tasks made.scope.items made.context) }
 {
     match counter {
         None => Ok(Start {
             scope: Vec::new(alloc),
-            context: nothing_known(alloc, with_variables),
+            context: nothing_known(alloc, holding),
         }),
         Some(counter) => {
             let scope = with_drawn(alloc, counter)?;
-            let outside = nothing_known(alloc, with_variables);
+            let outside = nothing_known(alloc, holding);
             let own = Bound {
                 counter,
                 count: tasks,
@@ -128,19 +128,19 @@ pub fn emit_restored(code: &mut Vec<u32>, ticket: u32, tasks: u32) -> Result<(),
     Ok(())
 }
 
-/// Appends the code of one task of a phase, in which loops hold their variables first, or as they need them.
+/// Appends the code of one task of a phase, in which loops hold what they are to hold.
 fn emit_words(
     alloc: Global,
     phase: &Phase,
     places: &Places,
     ticket: u32,
-    with_variables: bool,
+    holding: Holding,
     code: &mut Code,
 ) -> Result<(), CodeFault>
     requires { ticket + 4 < 2 ^ 32 }
     ensures { OnOk result (AppendsTask code.old.words.items code.new.words.items phase.now places.now ticket) }
 {
-    let begun = beginning(alloc, phase.counter, phase.tasks, with_variables)?;
+    let begun = beginning(alloc, phase.counter, phase.tasks, holding)?;
     let others = mentioned_variables(alloc, &phase.body)?;
     let context = with_zeros(alloc, begun.context, phase.counter, others.as_slice())?;
     let site = Site {
@@ -158,7 +158,7 @@ fn tried_words(
     phase: &Phase,
     places: &Places,
     ticket: u32,
-    with_variables: bool,
+    holding: Holding,
 ) -> Result<Option<Code>, AllocError>
     requires { ticket + 4 < 2 ^ 32 }
     ensures { IfOk result (λ found. IfSome found (λ made. AppendsTask [] made.words.items phase.now places.now
@@ -168,7 +168,7 @@ fn tried_words(
         words: Vec::new(alloc),
         stages: no_stages(alloc, &phase.body),
     };
-    match emit_words(alloc, phase, places, ticket, with_variables, &mut made) {
+    match emit_words(alloc, phase, places, ticket, holding, &mut made) {
         Ok(()) => Ok(Some(made)),
         Err(CodeFault::OutOfMemory(error)) => Err(error),
         Err(CodeFault::TooLong) => Ok(None),
@@ -176,8 +176,32 @@ fn tried_words(
     }
 }
 
+/// The words of one task of a phase, by the first of these ways in which there are some.
+fn first_words(
+    alloc: Global,
+    phase: &Phase,
+    places: &Places,
+    ticket: u32,
+    ways: &[Holding],
+) -> Result<Option<Code>, AllocError>
+    requires { ticket + 4 < 2 ^ 32 }
+    ensures { IfOk result (λ found. IfSome found (λ made. AppendsTask [] made.words.items phase.now places.now
+        ticket)) }
+{
+    match ways {
+        [] => Ok(None),
+        [first, others @ ..] => {
+            if let Some(made) = tried_words(alloc, phase, places, ticket, *first)? {
+                return Ok(Some(made));
+            }
+            let found = first_words(alloc, phase, places, ticket, others)?;
+            Ok(found)
+        }
+    }
+}
+
 /// Appends the code of one task of a phase, with forms in the registers that loops and expressions leave: pointers
-/// first, and where registers do not suffice for this, loop variables first.
+/// first, and where registers do not suffice for this, loop variables first, and last without names.
 ///
 /// It also adds which of the words it takes for the code of stages inside the phase; no clause speaks of that.
 ///
@@ -198,13 +222,12 @@ pub fn emit_task(
     requires { ticket + 4 < 2 ^ 32 }
     ensures { OnOk result (AppendsTask code.old.items code.new.items phase.now places.now ticket) }
 {
-    if let Some(made) = tried_words(alloc, phase, places, ticket, false)? {
-        let found = made.stages.list.as_slice();
-        add_moved(stages, found, code.len())?;
-        append(code, made.words.as_slice())?;
-        return Ok(());
-    }
-    match tried_words(alloc, phase, places, ticket, true)? {
+    let ways = [
+        Holding::Pointers,
+        Holding::VariablesFirst,
+        Holding::VariablesAndPointers,
+    ];
+    match first_words(alloc, phase, places, ticket, &ways)? {
         Some(made) => {
             let found = made.stages.list.as_slice();
             add_moved(stages, found, code.len())?;
