@@ -5,3 +5,4 @@ pub mod Nesting
 pub mod Rounds
 pub mod Runs
 pub mod Sizing
+pub mod Tests

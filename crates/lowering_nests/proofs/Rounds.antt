@@ -29,7 +29,7 @@ use Rattle.loop_ir.specs.declared.statements.Stmt.TheOpen as layer
 use Rattle.loop_ir.specs.declared.statements.Whole.{Whole}
 use Rattle.loop_ir.specs.Counters.{Values, same_counter, with}
 use Rattle.loop_ir.specs.Rounds.{Rounds, rounds, rounds_at, may_be_at_once, is_round_count, is_vectorized, everywhere, all_points, all_but, misses, are_apart}
-use Rattle.loop_ir.specs.Rounds.{all_step_up}
+use Rattle.loop_ir.specs.Rounds.{all_step_up, at_once_at}
 use Rattle.loop_ir.specs.Running.{whole_value}
 use Rattle.loop_ir.specs.Soundness.{every, is_sound}
 use Rattle.loop_ir.proofs.Rounds.{touches_are}
@@ -88,7 +88,8 @@ touches_none reads body earlier later =
 
 module _ (func : ℕ) (counts : loops.Values) (own : Loop) (body made : Stmt) (kind : LoopKind) (kind_is : is_vectorized kind ≡ is_vectorized_loop own)
     (count : ℕ) (count_is : count ≡ counts own.id) (few : count < 2 ^ 25)
-    (made_is : (reads : Reads) → rounds reads made ≡ rounds_at reads (layer.For (record { func = func; id = own.id }) count kind (rounds reads body))) where
+    (made_is : (reads : Reads) (values : Values) → may_be_at_once reads made values ≡ at_once_at (layer.For (record { func = func; id = own.id }) count kind
+    (rounds reads body)) values) where
   abbrev at : Values → ℕ → Values
   at values turn = with (record { func = func; id = own.id }) turn values
 
@@ -134,7 +135,7 @@ module _ (func : ℕ) (counts : loops.Values) (own : Loop) (body made : Stmt) (k
 
     looped : may_be_at_once reads made values ≡ true
     looped =
-        ap (λ (r : Rounds). r.may_be_at_once values) (made_is reads)
+        made_is reads values
         ∙ ap (λ (b : Bool). first_part b && every count (λ turn. may_be_at_once reads body (at values turn))) (kind_is ∙ refl)
         ∙ ap (λ (b : Bool). b && every count (λ turn. may_be_at_once reads body (at values turn))) (first_is (is_vectorized_loop own) refl)
         ∙ every_passes count (λ turn. may_be_at_once reads body (at values turn)) turned

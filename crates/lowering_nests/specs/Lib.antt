@@ -1,3 +1,4 @@
+pub mod Loops
 pub mod Nests
 pub mod Rounds
 pub mod Runs

@@ -8,13 +8,14 @@ ghost use Rattle.loop_ir.specs.Counters.{Values, with};
 ghost use Rattle.loop_ir.specs.Depths.{depth};
 ghost use Rattle.loop_ir.specs.Needs.{greatest_need};
 ghost use Rattle.loop_ir.specs.Sizes.{is_laid_out, loop_room, whole_size};
-ghost use Rattle.loop_ir.specs.Rounds.{is_vectorized, rounds, rounds_at};
+ghost use Rattle.loop_ir.specs.Rounds.{is_vectorized};
 ghost use Rattle.loop_ir.specs.Running.{run, turns};
-ghost use Rattle.loop_ir.specs.Runs.{is_about, is_about_at, runs, runs_at};
+ghost use Rattle.loop_ir.specs.Runs.{is_about};
 ghost use Rattle.loop_ir.specs.Soundness.{every, is_sound};
 ghost use Rattle.loop_ir.specs.Stores.{Trace, trace};
-ghost use Rattle.loop_ir.specs.declared.statements.Stmt.TheOpen as layer;
+ghost use Rattle.loop_ir.specs.declared.statements.LoopKind.TheVariants as kinds;
 ghost use Rattle.loop_ir.specs.declared.statements.Stmt.{Stmt};
+ghost use Rattle.lowering_nests.specs.Loops.{Loops, is_steady};
 ghost use Rattle.lowering_nests.specs.Nests.{AreFew, Repeats};
 ghost use Rattle.lowering_nests.specs.Rounds.{GoesAround, MayBeAround, MayBeAtOnce};
 ghost use Rattle.schedule_loops.specs.Runs.{is_vectorized_loop};
@@ -27,8 +28,9 @@ ghost use Rattle.schedule_loops.specs.Visits as counts;
 ghost use Rattle.schedule_loops.specs.Visits.{nest, upto};
 
 use crate::splits::extent_of;
-use loop_ir::expressions::Counter;
-use loop_ir::statements::{LoopKind, Stmt};
+use loop_ir::expressions::{Counter, same_counter};
+use loop_ir::parts::StmtParts;
+use loop_ir::statements::{LoopKind, Stmt, Whole};
 use schedule_lines::{Loop, Mark};
 use schedule_loops::LoopSizes;
 use sqlite_items::Boxed;
@@ -50,7 +52,63 @@ fn kind_of(own: &Loop) -> LoopKind
     }
 }
 
-/// A body in so many turns of a counter.
+/// Whether a split loop's value, and what it is made of, stay the same in all iterations of a loop.
+fn is_steady(counter: Counter, own: Counter, whole: Whole) -> bool
+    ensures { result ≡ is_steady counter own whole }
+{
+    !same_counter(whole.outer, counter)
+        && (!same_counter(whole.inner, counter) && !same_counter(own, counter))
+}
+
+/// A loop around a body.
+fn around(
+    alloc: Global,
+    counter: Counter,
+    count: u32,
+    kind: LoopKind,
+    body: Stmt,
+) -> Result<Stmt, AllocError>
+    ensures { IfOk result (Loops counter count kind body) }
+{
+    let body = Boxed::new(alloc, body)?;
+    Ok(Stmt::For(counter, count, kind, body))
+}
+
+/// A loop in turn around a body, behind those tests at the body's front that it doesn't change: they are made once, and
+/// not in each iteration.
+fn in_turn(alloc: Global, counter: Counter, count: u32, body: Stmt) -> Result<Stmt, AllocError>
+    ensures { IfOk result (Loops counter count kinds.Serial body) }
+{
+    match body.into_parts() {
+        StmtParts::Bind(own, whole, extent, inside) => {
+            if is_steady(counter, own, whole) {
+                let made = in_turn(alloc, counter, count, inside.into_inner())?;
+                let made = Boxed::new(alloc, made)?;
+                return Ok(Stmt::Bind(own, whole, extent, made));
+            }
+            let body = Stmt::Bind(own, whole, extent, inside);
+            let made = around(alloc, counter, count, LoopKind::Serial, body)?;
+            Ok(made)
+        }
+        StmtParts::Store(store) => {
+            let body = Stmt::Store(store);
+            let made = around(alloc, counter, count, LoopKind::Serial, body)?;
+            Ok(made)
+        }
+        StmtParts::Sequence(first, second) => {
+            let body = Stmt::Sequence(first, second);
+            let made = around(alloc, counter, count, LoopKind::Serial, body)?;
+            Ok(made)
+        }
+        StmtParts::For(own, times, kind, inside) => {
+            let body = Stmt::For(own, times, kind, inside);
+            let made = around(alloc, counter, count, LoopKind::Serial, body)?;
+            Ok(made)
+        }
+    }
+}
+
+/// A body in so many iterations of a loop.
 fn looped(
     alloc: Global,
     counter: Counter,
@@ -58,29 +116,18 @@ fn looped(
     kind: LoopKind,
     body: Stmt,
 ) -> Result<Stmt, AllocError>
-    ensures runs { IfOk result (λ made. (points : Points) (inputs : Planes) (values : Values) (funcs : Planes)
-        → run points inputs made values funcs ≡ turns count (λ turn. run points inputs body (with counter turn values))
-        funcs) }
-    ensures traces { IfOk result (λ made. (points : Points) (inputs : Planes) (place x y : ℕ) (values : Values)
-        (so_far : Trace)
-        → trace points inputs place x y made values so_far
-        ≡ turns count (λ turn. trace points inputs place x y body (with counter turn values)) so_far) }
-    ensures sound { IfOk result (λ made. (reads : Reads) (written : Points) (loaded : Point → Bool) (values : Values)
-        → is_sound reads written loaded made values
-        ≡ every count (λ turn. is_sound reads written loaded body (with counter turn values))) }
-    ensures depth { IfOk result (λ made. depth made ≡ suc (depth body)) }
-    ensures needs { IfOk result (λ made. greatest_need made ≡ greatest_need body) }
-    ensures sizes { IfOk result (λ made. whole_size made ≡ loop_room (is_laid_out kind) count (whole_size body)) }
-    ensures rounds { IfOk result (λ made. (reads : Reads) → rounds reads made
-        ≡ rounds_at reads (layer.For counter count kind (rounds reads body))) }
-    ensures about { IfOk result (λ made. (place : ℕ) → is_about place made
-        ≡ is_about_at place (layer.For counter count kind (is_about place body))) }
-    ensures in_runs { IfOk result (λ made. (reads : Reads) (place x y : ℕ) (expected : Values → Bool)
-        → runs reads place x y expected made
-        ≡ runs_at reads place x y expected (layer.For counter count kind (runs reads place x y expected body))) }
+    ensures { IfOk result (Loops counter count kind body) }
 {
-    let body = Boxed::new(alloc, body)?;
-    Ok(Stmt::For(counter, count, kind, body))
+    match kind {
+        LoopKind::Serial => {
+            let made = in_turn(alloc, counter, count, body)?;
+            Ok(made)
+        }
+        LoopKind::Unrolled | LoopKind::Vectorized => {
+            let made = around(alloc, counter, count, kind, body)?;
+            Ok(made)
+        }
+    }
 }
 
 /// A loop of the Func at a place around a body, in as many turns as its sizes say.

@@ -20,7 +20,7 @@ pub returns-clause-rounds : goal.returns-clause-rounds
 returns-clause-rounds c =
     goes_around c.args.func (loops.counts c.args.sizes.now.extents c.args.sizes.now.splits) c.args.own.now c.args.body c.in_ok-made.made c.kind_of-kind.result
     c.kind_of-kind.ensures.vectorized
-    c.extent_of-count.result c.extent_of-count.ensures.is c.extent_of-count.ensures.few c.in_ok-made.ensures.rounds
+    c.extent_of-count.result c.extent_of-count.ensures.is c.extent_of-count.ensures.few c.in_ok-made.ensures.at_once
 
 pub returns-clause-about : goal.returns-clause-about
 returns-clause-about c =
