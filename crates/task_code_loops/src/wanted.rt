@@ -389,7 +389,14 @@ fn gather(
         Stmt::Bind(counter, whole, extent, body) => {
             let mut inner = Vec::new(alloc);
             let along = along(*counter, whole, lanes);
-            gather(alloc, places, bounds, along, body.get(), &mut inner)?;
+            // Behind its test the split loop's value is below the extent.
+            let mut within = bounds.to_vec(alloc)?;
+            within.push(Bound {
+                counter: *counter,
+                count: *extent,
+            })?;
+            let all = within.as_slice();
+            gather(alloc, places, all, along, body.get(), &mut inner)?;
             let known = split_sum(alloc, *counter, whole)?;
             count_by_others(alloc, inner, known.as_slice(), found)?;
             count_tested(alloc, known.as_slice(), bounds, lanes, *extent, found)

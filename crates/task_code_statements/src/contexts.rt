@@ -20,21 +20,27 @@ use task_code_scalar::CodeFault;
 pub enum Holding {
     /// Pointers, and values that stay the same.
     Pointers,
-    /// Each its variable first, so that any address can be made of variables, and then as above.
-    VariablesFirst,
+    /// Loops around others their variables first, so that pointers of those inside can be made of them.
+    OuterVariables,
+    /// Each its variable first, so that any address can be made of variables.
+    Variables,
     /// Each its variable first, and no values that stay the same.
-    VariablesAndPointers,
+    VariablesWithoutNames,
 }
 
 impl Holding {
-    /// Whether each loop holds its variable first.
-    pub fn has_variables(self) -> bool {
-        self != Holding::Pointers
+    /// Whether a loop around so many others holds its variable first.
+    pub fn has_variable(self, inside: usize) -> bool {
+        match self {
+            Holding::Pointers => false,
+            Holding::OuterVariables => inside > 0,
+            Holding::Variables | Holding::VariablesWithoutNames => true,
+        }
     }
 
     /// Whether values that stay the same in a loop get names.
     pub fn has_names(self) -> bool {
-        self != Holding::VariablesAndPointers
+        self != Holding::VariablesWithoutNames
     }
 }
 

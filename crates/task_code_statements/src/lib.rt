@@ -27,10 +27,11 @@
 //! Guesses, of which nothing is promised:
 //!
 //! - `guessing`: what of a loop's body is worth a name, and `staying`: what of it stays the same in all iterations.
-//! - `room`: how many registers a loop leaves to those inside.
+//! - `room`: how many registers a loop leaves to those inside, and `costs`: how many turns code takes.
 #![tactic(auto)]
 
 mod contexts;
+mod costs;
 mod guards;
 mod guessing;
 mod lacking;

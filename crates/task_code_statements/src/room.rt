@@ -15,10 +15,10 @@ use task_code_registers::scopes::{Form, Held, left_count};
 use task_code_scalar::CodeFault;
 use task_code_scalar::places::Places;
 
-/// How many registers a loop has good use for: for its variable and its count, or for pointers and their ends.
-const VARIABLE_REGISTERS: usize = 2;
-
+/// How many registers a loop has good use for by pointers and their ends, and by its variable and its count.
 const POINTER_REGISTERS: usize = 4;
+
+const VARIABLE_REGISTERS: usize = 2;
 
 /// How many registers a loop around the innermost one leaves to that.
 const INNERMOST_REGISTERS: usize = 6;
@@ -51,19 +51,27 @@ fn left(scope: &[Held]) -> usize {
     usize::from(left_count(scope))
 }
 
-/// How many registers a loop leaves to so many loops inside: the innermost ones, which run most often, are served first.
-/// Where loops hold their variables first, an outer one can do with its variable and a literal that is made anew.
+/// How many registers a loop leaves to so many loops inside, of which each has use for so many, as far as it has as many
+/// itself.
+fn shares(free: usize, inside: usize, each: usize) -> usize {
+    let most = free.saturating_sub(each).max(inside);
+    inside.saturating_mul(each).min(most)
+}
+
+/// How many registers a loop leaves to so many loops inside. Where values get names and variables stand first, the
+/// innermost loops, which run most often, are served first: a loop around them can do with its variable, and a number
+/// that is made anew.
 pub(crate) fn reserve(scope: &[Held], inside: usize, holding: Holding) -> usize {
-    if holding.has_variables() {
-        let most = left(scope).saturating_sub(VARIABLE_REGISTERS);
-        return match inside {
+    let free = left(scope);
+    match holding {
+        Holding::Pointers => shares(free, inside, POINTER_REGISTERS),
+        Holding::VariablesWithoutNames => shares(free, inside, VARIABLE_REGISTERS),
+        Holding::OuterVariables | Holding::Variables => match inside {
             0 => 0,
-            1 => most.min(INNERMOST_REGISTERS),
-            _ => most,
-        };
+            1 => free.saturating_sub(1).min(INNERMOST_REGISTERS),
+            _ => free.saturating_sub(1),
+        },
     }
-    let most = left(scope).saturating_sub(POINTER_REGISTERS).max(inside);
-    inside.saturating_mul(POINTER_REGISTERS).min(most)
 }
 
 /// Adds forms by other loop variables than the known ones.
@@ -95,7 +103,7 @@ pub(crate) fn wanted_by(
 ) -> Result<Vec<Form>, AllocError> {
     let bounds = context.bounds.as_slice();
     let mut wanted = Vec::new(alloc);
-    if context.holding.has_variables() {
+    if context.holding.has_variable(depth(guess.body.get())) {
         let own = variable(alloc, counter)?;
         wanted.push(own)?;
     }

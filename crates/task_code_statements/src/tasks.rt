@@ -7,7 +7,9 @@ ghost use Rattle.task_code_statements.specs.Drawing.{Begins, StaysMet};
 ghost use Rattle.task_code_statements.specs.Tasks.{AppendsTask, restored};
 
 use crate::contexts::{Context, Holding, in_loop, nothing_known, with_zero};
+use crate::costs::guessed_turns;
 use crate::mentions::mentioned_variables;
+use crate::room::depth;
 use crate::stages::{Code, CodeStage, add_moved, no_stages};
 use crate::statements::emit_statement;
 use loop_ir::expressions::{Counter, same_counter};
@@ -31,6 +33,9 @@ const GATE: u8 = 14;
 const ONE: u8 = 15;
 
 const TASKS: u8 = 16;
+
+/// Under so many loops in one another registers may be better spent than on pointers.
+const MANY_LOOPS: usize = 3;
 
 /// What registers hold where a task begins, and what is known of its loop variable.
 #[derive(Debug, Drop)]
@@ -176,28 +181,64 @@ fn tried_words(
     }
 }
 
-/// The words of one task of a phase, by the first of these ways in which there are some.
-fn first_words(
+/// Whether code is guessed to take fewer turns than other code, or there is no other.
+fn is_faster(alloc: Global, code: &Option<Code>, other: &Option<Code>) -> Result<bool, AllocError> {
+    match (code, other) {
+        (Some(one), Some(two)) => {
+            let turns = guessed_turns(alloc, one.words.as_slice())?;
+            let others = guessed_turns(alloc, two.words.as_slice())?;
+            Ok(turns < others)
+        }
+        (Some(_), None) => Ok(true),
+        (None, _) => Ok(false),
+    }
+}
+
+/// The words of one task of a phase whose loops hold their variables first, where there are some: those that are guessed
+/// to take the fewest turns.
+fn words_by_variables(
     alloc: Global,
     phase: &Phase,
     places: &Places,
     ticket: u32,
-    ways: &[Holding],
 ) -> Result<Option<Code>, AllocError>
     requires { ticket + 4 < 2 ^ 32 }
     ensures { IfOk result (λ found. IfSome found (λ made. AppendsTask [] made.words.items phase.now places.now
         ticket)) }
 {
-    match ways {
-        [] => Ok(None),
-        [first, others @ ..] => {
-            if let Some(made) = tried_words(alloc, phase, places, ticket, *first)? {
-                return Ok(Some(made));
-            }
-            let found = first_words(alloc, phase, places, ticket, others)?;
-            Ok(found)
-        }
+    let outer = tried_words(alloc, phase, places, ticket, Holding::OuterVariables)?;
+    let all = tried_words(alloc, phase, places, ticket, Holding::Variables)?;
+    let plain = tried_words(alloc, phase, places, ticket, Holding::VariablesWithoutNames)?;
+    if !is_faster(alloc, &all, &outer)? && !is_faster(alloc, &plain, &outer)? {
+        return Ok(outer);
     }
+    if !is_faster(alloc, &plain, &all)? {
+        return Ok(all);
+    }
+    Ok(plain)
+}
+
+/// The words of one task of a phase, where there are some: those of pointers, or of variables where these don't fit, or
+/// are guessed to take fewer turns under many loops.
+fn words_of(
+    alloc: Global,
+    phase: &Phase,
+    places: &Places,
+    ticket: u32,
+) -> Result<Option<Code>, AllocError>
+    requires { ticket + 4 < 2 ^ 32 }
+    ensures { IfOk result (λ found. IfSome found (λ made. AppendsTask [] made.words.items phase.now places.now
+        ticket)) }
+{
+    let pointers = tried_words(alloc, phase, places, ticket, Holding::Pointers)?;
+    if pointers.is_some() && depth(&phase.body) < MANY_LOOPS {
+        return Ok(pointers);
+    }
+    let variables = words_by_variables(alloc, phase, places, ticket)?;
+    if is_faster(alloc, &variables, &pointers)? {
+        return Ok(variables);
+    }
+    Ok(pointers)
 }
 
 /// Appends the code of one task of a phase, with forms in the registers that loops and expressions leave: pointers
@@ -222,12 +263,7 @@ pub fn emit_task(
     requires { ticket + 4 < 2 ^ 32 }
     ensures { OnOk result (AppendsTask code.old.items code.new.items phase.now places.now ticket) }
 {
-    let ways = [
-        Holding::Pointers,
-        Holding::VariablesFirst,
-        Holding::VariablesAndPointers,
-    ];
-    match first_words(alloc, phase, places, ticket, &ways)? {
+    match words_of(alloc, phase, places, ticket)? {
         Some(made) => {
             let found = made.stages.list.as_slice();
             add_moved(stages, found, code.len())?;

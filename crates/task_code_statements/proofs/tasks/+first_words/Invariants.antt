@@ -1,5 +1,0 @@
-use Rattle.std.proofs.Common.{length}
-use Rattle.task_code_statements.proofs.tasks.+first_words.Given as goal
-
-abbrev pub decreases-first_words : goal.decreases-first_words
-decreases-first_words l = length l.ways.now

@@ -1,0 +1,50 @@
+//! How many turns code takes, guessed from its words. Nothing is promised of it.
+
+use std::alloc::{AllocError, Global};
+
+/// How many loops in one another are told apart; each is guessed to have 16 iterations.
+const MOST_DEPTH: u32 = 8;
+
+/// How many words a branch goes back, if a word is one that does.
+fn back(word: u32) -> Option<usize> {
+    let is_branch = word & 0x7f == 0x63;
+    let is_negative = word >> 31 == 1;
+    if !is_branch || !is_negative {
+        return None;
+    }
+    let low = (((word >> 7) & 1) << 11) | (((word >> 25) & 0x3f) << 5) | (((word >> 8) & 0xf) << 1);
+    Some((0x1000_u32.saturating_sub(low) / 4) as usize)
+}
+
+/// The place of the word that a branch at a place goes back to, if it does.
+fn loop_start(place: usize, word: u32) -> Option<usize> {
+    place.checked_sub(back(word)?)
+}
+
+/// How many turns words take, where each loop has so many iterations as is guessed.
+///
+/// # Errors
+///
+/// Memory ran out.
+pub(crate) fn guessed_turns(alloc: Global, words: &[u32]) -> Result<u64, AllocError> {
+    let mut begun: Vec<u32> = vec![in alloc; 0; words.len()]?;
+    for (place, word) in words.iter().enumerate() {
+        if let Some(start) = loop_start(place, *word) {
+            if let Some(count) = begun.get_mut(start) {
+                *count = count.saturating_add(1);
+            }
+        }
+    }
+    let mut depth: u32 = 0;
+    let mut turns: u64 = 0;
+    for (place, word) in words.iter().enumerate() {
+        if let Some(count) = begun.get(place) {
+            depth = depth.saturating_add(*count);
+        }
+        turns = turns.saturating_add(1 << (4 * depth.min(MOST_DEPTH)));
+        if loop_start(place, *word).is_some() {
+            depth = depth.saturating_sub(1);
+        }
+    }
+    Ok(turns)
+}
