@@ -11,7 +11,7 @@ use Rattle.lanes.specs.Words.{chosen_of}
 use Rattle.rv_insn.specs.declared.vector_operations.ElementWidth.TheVariants.{Bits32}
 use Rattle.rv_insn.specs.declared.outcomes.Trap.{Trap}
 use Rattle.memory.specs.Access.{Access, access_at, bytes_in, fault_of, first_fault, or_else, Kind, Reads, Word}
-use Rattle.vector_unit.specs.Vector.{Vectors, active_in, count, group, is_refused, is_unfit, width}
+use Rattle.vector_unit.specs.Vector.{Vectors, count, group, is_refused, is_unfit, width}
 use Rattle.vector_unit.specs.Accesses.{addresses_by, filled_from, loaded, offset, offsets_by, with_element_from}
 use Rattle.vector_unit.specs.declared.accesses.Spacing.{Spacing}
 use Rattle.vector_unit.specs.inner.Wholes.{IsWhole}

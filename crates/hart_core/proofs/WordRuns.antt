@@ -1,7 +1,7 @@
 -- Whole groups of words that lie one behind the other in data.
 use Rattle.std.proofs.Common.{◌≡◌, ℕ, zero, suc, ◌+◌, ◌*◌, ◌/◌, ◌%◌, ◌<◌, ◌≤◌, List, [], ◌∷◌, map, length, true, false, refl, sym, ◌∙◌, ap, arith}
-use Rattle.std.proofs.Common.{◌^◌, ◌&&◌, ◌==◌, ◌⊎◌, inl, inr, subst, Some}
-use Rattle.std.specs.Prelude.{IsTrue, slice_index, nat_lt, not, ◌||◌, replicate}
+use Rattle.std.proofs.Common.{◌&&◌, ◌==◌, ◌⊎◌, inl, inr, subst, Some}
+use Rattle.std.specs.Prelude.{IsTrue, slice_index, nat_lt, not, ◌||◌}
 use Rattle.std.proofs.lemmas.Bool.Decides.{nat_tests}
 use Rattle.rv_insn.specs.declared.vector_instructions.VectorInsn.TheVariants.{LoadElements, StoreElements}
 use Rattle.rv_insn.specs.declared.vector_instructions.Addressing.TheVariants as addressings
@@ -9,7 +9,7 @@ use Rattle.rv_insn.specs.declared.vector_operations.ElementWidth.TheVariants.{Bi
 use Rattle.std.specs.List.{range_with_len}
 use Rattle.memory.proofs.Putting.{length-put}
 use Rattle.hart_core.specs.VectorRows.{accesses_at}
-use Rattle.memory.specs.Access.{in_data, spread, touched, number_in, put_number, Access, access_at, Word}
+use Rattle.memory.specs.Access.{in_data, spread, touched, put_number, Access, access_at, Word}
 use Rattle.vector_unit.specs.Vector.{Vectors, has_vill, width, count, group, is_refused, is_unfit}
 use Rattle.vector_unit.specs.Accesses.{with_element_from}
 use Rattle.vector_unit.specs.declared.accesses.Spacing.TheVariants.{UnitStride}

@@ -1,4 +1,4 @@
-use Rattle.std.proofs.Common.{◌≡◌, ◌≤◌, ◌*◌, ◌∙◌, sym, true, length}
+use Rattle.std.proofs.Common.{◌≤◌, ◌*◌, ◌∙◌, sym, length}
 use Rattle.std.specs.Prelude.{IsTrue}
 use Rattle.memory.specs.Access.{in_data}
 use Rattle.vector_unit.specs.Vector.{count}

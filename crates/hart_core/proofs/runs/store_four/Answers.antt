@@ -1,4 +1,4 @@
-use Rattle.std.proofs.Common.{◌+◌, ◌*◌, length, arith, refl}
+use Rattle.std.proofs.Common.{◌+◌, length, arith, refl}
 use Rattle.vector_unit.specs.Vector.{element_from}
 use Rattle.hart_core.proofs.WordRuns.{length-words, lies_first, lies_part, stored-on}
 use Rattle.hart_core.proofs.runs.store_four.Goals as goal

@@ -1,4 +1,4 @@
-use Rattle.std.proofs.Common.{◌≡◌, ◌<◌, ◌≤◌, ◌∙◌, ap, sym, arith, length}
+use Rattle.std.proofs.Common.{◌<◌, ◌≤◌, ◌∙◌, ap, sym, arith}
 use Rattle.vector_unit.specs.Vector.{element_from, group}
 use Rattle.hart_core.specs.inner.Pieces.{words_put}
 use Rattle.hart_core.proofs.WordRuns.{count-four, count-two, count-one, lies-all}

@@ -1,4 +1,4 @@
-use Rattle.std.proofs.Common.{◌≡◌, ◌<◌, ◌≤◌, ◌+◌, ◌∙◌, refl, rules, arith, length}
+use Rattle.std.proofs.Common.{◌<◌, ◌+◌, ◌∙◌, refl, rules, arith, length}
 use Rattle.std.proofs.Math.ListN.{length-set}
 use Rattle.memory.specs.Access.{number_at}
 use Rattle.vector_unit.specs.Vector.{count}

@@ -1,4 +1,4 @@
-use Rattle.std.proofs.Common.{◌≡◌, ◌<◌, ◌≤◌, ◌∙◌, ap, sym, arith, length}
+use Rattle.std.proofs.Common.{◌<◌, ◌≤◌, ◌∙◌, ap, sym, arith}
 use Rattle.memory.specs.Access.{number_at}
 use Rattle.vector_unit.specs.Vector.{group}
 use Rattle.hart_core.specs.HartState.{vectors_of, with_vectors}

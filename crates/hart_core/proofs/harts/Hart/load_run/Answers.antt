@@ -1,9 +1,7 @@
 use Rattle.std.proofs.Common.{ap, ◌∙◌, length}
-use Rattle.memory.specs.Access.{Reads, first_fault, number_at}
+use Rattle.memory.specs.Access.{Reads, first_fault}
 use Rattle.rv_insn.specs.declared.vector_operations.ElementWidth.TheVariants.{Bits32}
-use Rattle.hart_core.specs.HartState.{register, vectors_of}
 use Rattle.hart_core.specs.VectorRows.{accesses_at}
-use Rattle.hart_core.specs.inner.Pieces.{IsRun}
 use Rattle.hart_core.proofs.Lying.{addresses-are, loaded-is, reads-free}
 use Rattle.hart_core.proofs.WordRuns.{is-load, run_piece}
 use Rattle.hart_core.proofs.harts.Hart.load_run.Goals as goal

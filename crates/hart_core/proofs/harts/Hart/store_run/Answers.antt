@@ -1,7 +1,6 @@
 use Rattle.std.proofs.Common.{ap, ◌∙◌, length}
 use Rattle.memory.specs.Access.{Writes, first_fault}
 use Rattle.rv_insn.specs.declared.vector_operations.ElementWidth.TheVariants.{Bits32}
-use Rattle.hart_core.specs.HartState.{register, vectors_of}
 use Rattle.hart_core.specs.VectorRows.{accesses_at}
 use Rattle.hart_core.proofs.Lying.{addresses-are, numbers-are, writes-free}
 use Rattle.hart_core.proofs.WordRuns.{is-store, run_piece}
