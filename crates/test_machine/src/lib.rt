@@ -3,7 +3,7 @@
 //! - [`memories`]: turns over a memory that covers text alone, and turns whose instruction is given.
 //! - [`machines`]: many turns at once.
 //! - [`vectors`]: a vector state that is set and read.
-//! - [`lanes`]: lanes at the corners of division, masked sums, and reductions.
+//! - [`lane_corners`]: lanes at the corners of division, masked sums, and reductions.
 //! - [`logs`]: logs that are made turn by turn, and looked up.
 //! - [`sessions`]: the debugger over 2 ^ 40 turns, and back to places that it keeps.
 //! - [`comparing`]: values compared.
@@ -12,7 +12,7 @@
 #[cfg(test)]
 mod comparing;
 #[cfg(test)]
-mod lanes;
+mod lane_corners;
 #[cfg(test)]
 mod logs;
 #[cfg(test)]
