@@ -1,6 +1,7 @@
 //! The state of one hart.
 
-ghost use Rattle.std.specs.Prelude.{◌≡◌, ◌<◌, ◌≤◌, ◌+◌, ◌*◌, ◌^◌, ◌&&◌, not, None, true, false, slice_index, OnOk, OnErr};
+ghost use Rattle.std.specs.Prelude.{◌≡◌, ◌<◌, ◌≤◌, ◌+◌, ◌*◌, ◌^◌, ◌&&◌};
+ghost use Rattle.std.specs.Prelude.{not, None, true, false, slice_index, OnOk, OnErr};
 ghost use Rattle.std.specs.Prelude.{IfOk, IfErr};
 ghost use Rattle.vector_unit.specs.Vector.{configured, has_vill, is_illegal_configuration};
 ghost use Rattle.vector_unit.specs.Vector.{bits_of, is_own, is_refused, vector_after, scalar_given, number_of};

@@ -1,5 +1,5 @@
-//! Loads and stores of whole groups of words that lie one behind the other in data: judged once, and moved a register at
-//! a time.
+//! Loads and stores of whole groups of words that lie one behind the other in data: judged once, and moved a register
+//! at a time.
 
 ghost use Rattle.std.specs.Prelude.{◌≡◌, ◌<◌, ◌≤◌, ◌+◌, ◌*◌, true, false, None, length, map};
 ghost use Rattle.rv_insn.specs.declared.vector_instructions.VectorInsn.TheVariants.{LoadElements, StoreElements};

@@ -1,7 +1,8 @@
 //! Loads of whole groups of words that need not lie one behind the other: each word is judged where it is read, and all
 //! are read before any is written.
 
-ghost use Rattle.std.specs.Prelude.{◌≡◌, ◌<◌, ◌≤◌, ◌*◌, ◌%◌, ℕ, true, false, replicate, IfErr, IfOk, None, OnErr, OnOk, Some};
+ghost use Rattle.std.specs.Prelude.{◌≡◌, ◌<◌, ◌≤◌, ◌*◌, ◌%◌, ℕ, true};
+ghost use Rattle.std.specs.Prelude.{false, replicate, IfErr, IfOk, None, OnErr, OnOk, Some};
 ghost use Rattle.std.specs.Prelude.{length, map, take};
 ghost use Rattle.rv_insn.specs.declared.vector_instructions.VectorInsn.TheVariants.{LoadElements};
 ghost use Rattle.rv_insn.specs.declared.vector_instructions.Addressing.TheVariants as addressings;
@@ -66,7 +67,8 @@ impl Hart {
         }
     }
 
-    /// Loads a whole group of words that lie so from a base on, or says which trap the first that can't be loaded makes.
+    /// Loads a whole group of words that lie so from a base on, or says which trap the first that can't be loaded
+    /// makes.
     #[inline(always)]
     fn load_words<M: Bytes>(
         &mut self,
@@ -93,8 +95,8 @@ impl Hart {
         Ok(())
     }
 
-    /// Loads a whole group of words that lie so many bytes apart as `rs2` says, or says which trap the first that can't be
-    /// loaded makes.
+    /// Loads a whole group of words that lie so many bytes apart as `rs2` says, or says which trap the first that can't
+    /// be loaded makes.
     #[inline(never)]
     pub(crate) fn load_strided<M: Bytes>(
         &mut self,

@@ -109,8 +109,8 @@ impl Hart {
         }
     }
 
-    /// Executes a load or store of any kind. It is a function of its own, so that those of whole groups of words need no
-    /// room.
+    /// Executes a load or store of any kind. It is a function of its own, so that those of whole groups of words need
+    /// no room.
     #[inline(never)]
     fn execute_access<M: Bytes>(
         &mut self,

@@ -62,8 +62,8 @@ pub fn dis_is_named()
 {}
 
 /// Which words name an explanation: `explain`, a family and a code, or a family alone, of a refusal that there is; with
-/// `refused` before them and the line of a text behind them, as a refusal is printed; or `explain` alone, which asks for
-/// all families. No family is `refused`.
+/// `refused` before them and the line of a text behind them, as a refusal is printed; or `explain` alone, which asks
+/// for all families. No family is `refused`.
 pub fn explain_is_named()
     ensures both { (family code : List ℕ) → IsPlainWord family → IsPlainWord code → is_explained family code ≡ true
         → bytes_eq family (codes "refused") ≡ false

@@ -3,7 +3,8 @@
 //! An engine is generic over both traits, so that its contract names the bytes that were read and written, and a test
 //! can hand in devices that fail.
 
-ghost use Rattle.std.specs.Prelude.{◌≡◌, ℕ, ◌+◌, ◌<◌, ◌≤◌, ◌^◌, true, List, [], ◌++◌, length, take, OnOk, OnErr, IfErr, IfOk};
+ghost use Rattle.std.specs.Prelude.{◌≡◌, ℕ, ◌+◌, ◌<◌, ◌≤◌, ◌^◌, true, List};
+ghost use Rattle.std.specs.Prelude.{[], ◌++◌, length, take, OnOk, OnErr, IfErr, IfOk};
 ghost use Rattle.hrv_engines.specs.Devices.{IsNoLog, front_of, image_bytes_of, log_bytes_of, most_image_bytes, sink_of};
 ghost use Rattle.hrv_engines.specs.declared.faults.Fault.TheVariants.{Memory};
 ghost use Rattle.hrv_engines.specs.Engine.{Reads, Writes, WritesEach};

@@ -7,7 +7,8 @@ ghost use Rattle.std.specs.Str.{IsUtf8};
 ghost use Rattle.std.specs.String.{string_bytes};
 ghost use Rattle.hrv_engines.specs.Devices.{most_algorithm_bytes, most_picture_bytes, text_of};
 ghost use Rattle.hrv_engines.specs.Engine.{Reads};
-ghost use Rattle.hrv_engines.specs.inner.Fronts.{Decides, IsLineTold, IsLongestText, IsReadSoFar, Keeps, KeepsOf, TookPiece, kept_text_of};
+ghost use Rattle.hrv_engines.specs.inner.Fronts.{Decides, IsLineTold, IsLongestText, IsReadSoFar};
+ghost use Rattle.hrv_engines.specs.inner.Fronts.{Keeps, KeepsOf, TookPiece, kept_text_of};
 ghost use Rattle.hrv_engines.specs.inner.Fronts as spec;
 ghost use Rattle.hrv_engines.specs.declared.texts.Extent.TheVariants.{Bytes, FirstLine};
 

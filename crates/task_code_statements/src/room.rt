@@ -51,8 +51,8 @@ fn left(scope: &[Held]) -> usize {
     usize::from(left_count(scope))
 }
 
-/// How many registers a loop leaves to so many loops inside, of which each has use for so many, as far as it has as many
-/// itself.
+/// How many registers a loop leaves to so many loops inside, of which each has use for so many, as far as it has as
+/// many itself.
 fn shares(free: usize, inside: usize, each: usize) -> usize {
     let most = free.saturating_sub(each).max(inside);
     inside.saturating_mul(each).min(most)

@@ -194,8 +194,8 @@ fn is_faster(alloc: Global, code: &Option<Code>, other: &Option<Code>) -> Result
     }
 }
 
-/// The words of one task of a phase whose loops hold their variables first, where there are some: those that are guessed
-/// to take the fewest turns.
+/// The words of one task of a phase whose loops hold their variables first, where there are some: those that are
+/// guessed to take the fewest turns.
 fn words_by_variables(
     alloc: Global,
     phase: &Phase,

@@ -100,8 +100,8 @@ fn kept_places(rt: HostRuntime) -> Result<(), Fail> {
     Ok(())
 }
 
-/// The last sixteen places are kept: a turn behind each of them costs one step, and one behind the place before them all
-/// that lead there from the start.
+/// The last sixteen places are kept: a turn behind each of them costs one step, and one behind the place before them
+/// all that lead there from the start.
 #[test]
 fn sixteen_places_are_kept(rt: HostRuntime) -> Result<(), Fail> {
     let alloc = rt.alloc();

@@ -48,8 +48,8 @@ impl Order {
     }
 }
 
-/// Appends a line for each order of tasks: whether the phases leave the wanted picture, as they do where each is run as a
-/// whole.
+/// Appends a line for each order of tasks: whether the phases leave the wanted picture, as they do where each is run as
+/// a whole.
 pub fn push_nests(
     alloc: Global,
     algorithm: &str,

@@ -255,10 +255,7 @@ impl VectorState {
         requires index { index < 4 }
         ensures { result ≡ element_from self.now 32 v (4 * part + index) }
     {
-        u32::read(
-            &self.registers[v.number() as usize + part],
-            index,
-        )
+        u32::read(&self.registers[v.number() as usize + part], index)
     }
 
     /// Writes a word of a register of a group.

@@ -3,7 +3,8 @@
 
 ghost use Rattle.std.specs.Prelude.{◌≡◌, ◌<◌, ◌%◌, true, false, [], ◌∷◌};
 ghost use Rattle.lanes.specs.Words.{zip_with};
-ghost use Rattle.vector_unit.specs.Vector.{group, has_vill, is_misplaced, of_group, of_immediate, of_scalar, width, with_bits};
+ghost use Rattle.vector_unit.specs.Vector.{group, has_vill, is_misplaced, of_group};
+ghost use Rattle.vector_unit.specs.Vector.{of_immediate, of_scalar, width, with_bits};
 ghost use Rattle.vector_unit.specs.Operands.{operand_elements};
 ghost use Rattle.vector_unit.specs.Operations as op;
 ghost use Rattle.vector_unit.specs.inner.Parts.{with_part_bits, with_parts_bits};
@@ -74,7 +75,13 @@ impl VectorState {
     /// Writes as bits where a comparison holds of the pairs of a whole group. All bits are made before any is written.
     #[tactic(auto, using(crate::proofs::Groups::compared_bits))]
     #[inline(never)]
-    fn compare_whole<T: WordOperand>(&mut self, operation: CompareVxOp, vd: VReg, vs2: VReg, other: T)
+    fn compare_whole<T: WordOperand>(
+        &mut self,
+        operation: CompareVxOp,
+        vd: VReg,
+        vs2: VReg,
+        other: T,
+    )
         requires whole { IsWhole self.old }
         requires vs2 { vs2 % group self.old ≡ 0 }
         requires other { T.IsPlaced other (group self.old) }

@@ -393,7 +393,13 @@ impl VectorState {
 
     /// Writes what a multiplication or division makes of each pair of two whole groups, if they are that.
     #[inline(always)]
-    pub(crate) fn multiply_groups(&mut self, operation: MultiplyOp, vd: VReg, vs2: VReg, vs1: VReg) -> bool
+    pub(crate) fn multiply_groups(
+        &mut self,
+        operation: MultiplyOp,
+        vd: VReg,
+        vs2: VReg,
+        vs1: VReg,
+    ) -> bool
         ensures configured { result ≡ true → has_vill self.old ≡ false }
         ensures placed { result ≡ true → is_misplaced self.old (vd ∷ vs2 ∷ vs1 ∷ []) ≡ false }
         ensures state { result ≡ true → self.new ≡ with_elements self.old vd true
@@ -409,7 +415,13 @@ impl VectorState {
 
     /// Writes what a multiplication or division makes of each word of a whole group and a number, if it is that.
     #[inline(always)]
-    pub(crate) fn multiply_numbers(&mut self, operation: MultiplyOp, vd: VReg, vs2: VReg, number: u32) -> bool
+    pub(crate) fn multiply_numbers(
+        &mut self,
+        operation: MultiplyOp,
+        vd: VReg,
+        vs2: VReg,
+        number: u32,
+    ) -> bool
         ensures configured { result ≡ true → has_vill self.old ≡ false }
         ensures placed { result ≡ true → is_misplaced self.old (vd ∷ vs2 ∷ []) ≡ false }
         ensures state { result ≡ true → self.new ≡ with_elements self.old vd true
