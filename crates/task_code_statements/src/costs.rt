@@ -1,4 +1,5 @@
-//! How many turns code takes, guessed from its words. Nothing is promised of it.
+//! How many turns code takes, and whether its innermost loops could hold more, guessed from its words. Nothing is
+//! promised of it.
 
 use std::alloc::{AllocError, Global};
 
@@ -21,12 +22,8 @@ fn loop_start(place: usize, word: u32) -> Option<usize> {
     place.checked_sub(back(word)?)
 }
 
-/// How many turns words take, where each loop has so many iterations as is guessed.
-///
-/// # Errors
-///
-/// Memory ran out.
-pub(crate) fn guessed_turns(alloc: Global, words: &[u32]) -> Result<u64, AllocError> {
+/// In how many loops each word stands.
+fn depths(alloc: Global, words: &[u32]) -> Result<Vec<u32>, AllocError> {
     let mut begun: Vec<u32> = vec![in alloc; 0; words.len()]?;
     for (place, word) in words.iter().enumerate() {
         if let Some(start) = loop_start(place, *word) {
@@ -36,15 +33,57 @@ pub(crate) fn guessed_turns(alloc: Global, words: &[u32]) -> Result<u64, AllocEr
         }
     }
     let mut depth: u32 = 0;
-    let mut turns: u64 = 0;
+    let mut found = Vec::new(alloc);
     for (place, word) in words.iter().enumerate() {
         if let Some(count) = begun.get(place) {
             depth = depth.saturating_add(*count);
         }
-        turns = turns.saturating_add(1 << (4 * depth.min(MOST_DEPTH)));
+        found.push(depth)?;
         if loop_start(place, *word).is_some() {
             depth = depth.saturating_sub(1);
         }
     }
+    Ok(found)
+}
+
+/// How many turns words take, where each loop has so many iterations as is guessed.
+///
+/// # Errors
+///
+/// Memory ran out.
+pub(crate) fn guessed_turns(alloc: Global, words: &[u32]) -> Result<u64, AllocError> {
+    let found = depths(alloc, words)?;
+    let mut turns: u64 = 0;
+    for depth in found.as_slice() {
+        turns = turns.saturating_add(1 << (4 * (*depth).min(MOST_DEPTH)));
+    }
     Ok(turns)
+}
+
+/// Whether a word makes what a register could hold: a number's upper bits, or a product.
+fn may_be_held(word: u32) -> bool {
+    match word & 0x7f {
+        0x37 => true,
+        0x33 => (word >> 12) & 7 == 0 && word >> 25 == 1,
+        _ => false,
+    }
+}
+
+/// Whether the innermost loops make what registers could hold.
+///
+/// # Errors
+///
+/// Memory ran out.
+pub(crate) fn may_hold_more(alloc: Global, words: &[u32]) -> Result<bool, AllocError> {
+    let found = depths(alloc, words)?;
+    let mut most = 0;
+    for depth in found.as_slice() {
+        most = most.max(*depth);
+    }
+    for (place, word) in words.iter().enumerate() {
+        if found.get(place) == Some(&most) && may_be_held(*word) {
+            return Ok(true);
+        }
+    }
+    Ok(false)
 }

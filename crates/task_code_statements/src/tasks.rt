@@ -7,7 +7,7 @@ ghost use Rattle.task_code_statements.specs.Drawing.{Begins, StaysMet};
 ghost use Rattle.task_code_statements.specs.Tasks.{AppendsTask, restored};
 
 use crate::contexts::{Context, Holding, in_loop, nothing_known, with_zero};
-use crate::costs::guessed_turns;
+use crate::costs::{guessed_turns, may_hold_more};
 use crate::mentions::mentioned_variables;
 use crate::room::depth;
 use crate::stages::{Code, CodeStage, add_moved, no_stages};
@@ -218,6 +218,19 @@ fn words_by_variables(
     Ok(plain)
 }
 
+/// Whether code stands under so many loops that registers may be better spent than it does.
+fn is_worth_more(alloc: Global, loops: usize, code: &Option<Code>) -> Result<bool, AllocError> {
+    match code {
+        None => Ok(true),
+        Some(own) => {
+            if loops < MANY_LOOPS {
+                return Ok(false);
+            }
+            may_hold_more(alloc, own.words.as_slice())
+        }
+    }
+}
+
 /// The words of one task of a phase, where there are some: those of pointers, or of variables where these don't fit, or
 /// are guessed to take fewer turns under many loops.
 fn words_of(
@@ -231,7 +244,7 @@ fn words_of(
         ticket)) }
 {
     let pointers = tried_words(alloc, phase, places, ticket, Holding::Pointers)?;
-    if pointers.is_some() && depth(&phase.body) < MANY_LOOPS {
+    if !is_worth_more(alloc, depth(&phase.body), &pointers)? {
         return Ok(pointers);
     }
     let variables = words_by_variables(alloc, phase, places, ticket)?;
