@@ -1,7 +1,7 @@
 //! The plain memory.
 
 ghost use Rattle.std.specs.Prelude.{◌≡◌, ◌≤◌, ◌+◌, ◌%◌, IsTrue, length, slice_index};
-ghost use Rattle.memory.specs.Access.{most_words, most_bytes, covers_load, data_start};
+ghost use Rattle.memory.specs.Access.{most_words, most_bytes, covers_load, data_start, in_text};
 ghost use Rattle.memory.specs.Access.{Word, number_in, put_number};
 
 use crate::bytes::{Bytes, DATA_START, TEXT_START};
@@ -58,6 +58,16 @@ impl Memory {
         &self.bytes
     }
 
+    /// Whether so many bytes from an address on are all text: apart, so that nothing of it is worked out for data.
+    #[cold]
+    #[inline(never)]
+    fn covers_text(&self, address: u32, count: u32) -> bool
+        ensures { result ≡ in_text (length self.now.text) address count }
+    {
+        let end = address as usize + count as usize;
+        address >= TEXT_START && end <= TEXT_START as usize + 4 * self.words.len()
+    }
+
     /// The word at an address of text that is a multiple of 4: apart, so that words of data are read in place.
     #[inline(never)]
     fn read_text_word(&self, address: u32) -> u32
@@ -107,9 +117,7 @@ impl Bytes for Memory {
 
     #[inline(always)]
     fn covers_load(&self, address: u32, count: u32) -> bool {
-        let end = address as usize + count as usize;
-        let in_text = address >= TEXT_START && end <= TEXT_START as usize + 4 * self.words.len();
-        self.covers_store(address, count) || in_text
+        self.covers_store(address, count) || self.covers_text(address, count)
     }
 
     #[inline(always)]
