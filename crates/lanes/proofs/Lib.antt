@@ -1,6 +1,7 @@
 pub mod Products
 pub mod Bytes
 pub mod Elements
+pub mod FourBits
 pub mod HighWords
 pub mod MaskBits
 pub mod MaskReadings

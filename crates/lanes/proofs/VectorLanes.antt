@@ -1,10 +1,11 @@
 -- Vectors of the processor, lane by lane.
 use Rattle.std.proofs.Common.{◌≡◌, ℕ, zero, suc, ◌+◌, ◌-◌, ◌/◌, ◌%◌, ◌^◌, ◌<◌, ◌≤◌, Bool, true, false, not, cond, nat_le, nat_lt, ◌==◌, List, [], ◌∷◌}
-use Rattle.std.proofs.Common.{if◌then◌else◌, map, take, length, get_or, replicate, refl, sym, ap, arith}
+use Rattle.std.proofs.Common.{if◌then◌else◌, map, take, length, get_or, replicate, refl, sym, ◌∙◌, ap, arith}
 use Rattle.std.proofs.Math.Nat.{mod-eq_of_lt, mod-lt, div-le_self}
 use Rattle.std.proofs.Math.ListN.{set}
 use Rattle.std.proofs.lemmas.List.{take_all}
-use lib.Lanes.{zip2, sel_l, top, Each2}
+use Rattle.std.proofs.lemmas.Simd.{mask_l-mod}
+use lib.Lanes.{zip2, sel_l, top, mask_l, Each2}
 use Rattle.lanes.specs.Words.{zip_with, merged}
 use Rattle.lanes.specs.Words as word
 
@@ -24,6 +25,15 @@ pub seen_tests : (f : ℕ → ℕ → Bool) (xs ys : List ℕ) → zip2 f xs ys 
 seen_tests f [] ys = refl
 seen_tests f (x ∷ xs) [] = refl
 seen_tests f (x ∷ xs) (y ∷ ys) = ap (λ zs. f x y ∷ zs) (seen_tests f xs ys)
+
+pub seen_words : (f : ℕ → ℕ → Bool) (xs ys : List ℕ) → zip_with f xs ys ≡ zip_with f (map id xs) (map id ys)
+seen_words f [] ys = refl
+seen_words f (x ∷ xs) [] = refl
+seen_words f (x ∷ xs) (y ∷ ys) = ap (λ zs. f x y ∷ zs) (seen_words f xs ys)
+
+pub tests_in_order : (f g : ℕ → ℕ → Bool) (s : ℕ → ℕ) (most : ℕ) → ((x y : ℕ) → x < most → y < most → f (s x) (s y) ≡ g x y)
+    → (xs ys : List ℕ) → ((i : ℕ) → get_or xs i 0 < most) → ((i : ℕ) → get_or ys i 0 < most) → zip2 f (map s xs) (map s ys) ≡ zip_with g xs ys
+tests_in_order f g s most h xs ys p q = tests_from_lanes f g s most h xs ys p q ∙ sym (seen_words g xs ys)
 
 -- the one that a test chooses
 pub firsts_chosen : (p : ℕ → Bool) (m : ℕ → ℕ → ℕ) (t : ℕ → ℕ → Bool) → ((x y : ℕ) → p (m x y) ≡ t x y)
@@ -213,3 +223,31 @@ arithmetic w x y p = go (nat_lt x (2 ^ (w - 1))) refl
     go false e =
         let same : 2 ^ w - 1 - x ≡ 2 ^ w - suc x = omega (arith, p) in
         rw (e, same) (omega (arith, fits (2 ^ w - suc x) (omega (arith, p))))
+
+-- ---- tests as the bits of a number
+
+pub test_bits : (m : ℕ → ℕ → ℕ) (t : ℕ → ℕ → Bool) → ((x y : ℕ) → top 31 (m x y) ≡ t x y)
+    → (xs ys : List ℕ) → length xs ≡ 4 → mask_l (map (top 31) (zip2 m xs ys)) % 2 ^ 64 ≡ mask_l (zip2 t xs ys)
+test_bits m t h xs ys a =
+    ap (λ bs. mask_l bs % 2 ^ 64) (tests xs ys) ∙ mask_l-mod (zip2 t xs ys) 64 (omega (arith, shorter xs ys, a))
+  where
+    tests : (xs ys : List ℕ) → map (top 31) (zip2 m xs ys) ≡ zip2 t xs ys
+    tests [] ys = refl
+    tests (x ∷ xs) [] = refl
+    tests (x ∷ xs) (y ∷ ys) = let head = h x y in let tail = tests xs ys in cc
+
+    shorter : (xs ys : List ℕ) → length (zip2 t xs ys) ≤ length xs
+    shorter [] ys = omega arith
+    shorter (x ∷ xs) [] = omega arith
+    shorter (x ∷ xs) (y ∷ ys) = omega (arith, shorter xs ys)
+
+-- ---- merges by the bits of a byte
+
+pub chosen_by : (p : ℕ → Bool) (m f : ℕ → ℕ → ℕ) (t : ℕ → Bool) (byte : ℕ) → ((x : ℕ) → p (m (f byte x) x) ≡ t x)
+    → (n : ℕ) (ps xs ys : List ℕ) → length ps ≡ n → sel_l (map p (zip2 m (zip2 f (replicate n byte) ps) ps)) xs ys ≡ sel_l (map t ps) xs ys
+chosen_by p m f t byte h zero [] xs ys a = refl
+chosen_by p m f t byte h (suc n) [] xs ys a = absurd (omega (arith, a))
+chosen_by p m f t byte h zero (q ∷ ps) xs ys a = absurd (omega (arith, a))
+chosen_by p m f t byte h (suc n) (q ∷ ps) [] ys a = refl
+chosen_by p m f t byte h (suc n) (q ∷ ps) (x ∷ xs) [] a = refl
+chosen_by p m f t byte h (suc n) (q ∷ ps) (x ∷ xs) (y ∷ ys) a = let head = h q in let tail = chosen_by p m f t byte h n ps xs ys (omega (arith, a)) in cc

@@ -21,6 +21,6 @@ mod registers;
 pub mod vectors;
 
 pub use crate::kinds::LaneKind;
-pub use crate::masks::{active, mask_bit, mask_bits, write_mask_bits};
+pub use crate::masks::{active, mask_bit, mask_bits, write_four_mask_bits, write_mask_bits};
 pub use crate::registers::Lanes;
 pub use crate::vectors::LaneKernels;

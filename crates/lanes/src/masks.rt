@@ -1,6 +1,7 @@
 //! Masks: which elements are active, and results that are written as bits of a register.
 
-ghost use Rattle.std.specs.Prelude.{◌≡◌, ◌+◌, ◌<◌, ◌≤◌};
+ghost use Rattle.std.specs.Prelude.{◌≡◌, ◌+◌, ◌*◌, ◌<◌, ◌≤◌, Bool, List, [], ◌∷◌, length, true};
+ghost use Rattle.std.specs.Simd.Lanes.{mask_l};
 ghost use Rattle.lanes.specs.Words.{mask_bit, mask_bits, active, with_bit, with_mask_bit, with_mask_bits_from};
 
 use crate::kernels::each_index;
@@ -49,6 +50,41 @@ pub fn write_mask_bits<const N: usize>(
             write_mask_bit(register, first + index, bits[index]);
         }
     }
+}
+
+/// Writes the four bits of a mask register from `part * 4` on, as a number spells them, the first one as its lowest bit,
+/// and keeps every other bit.
+#[inline(always)]
+pub fn write_four_mask_bits(register: &mut [u8; 16], part: usize, bits: u64)
+    requires { part < 32 }
+    ensures { (tests : List Bool) → length tests ≡ 4 → bits ≡ mask_l tests
+        → register.new ≡ with_mask_bits_from (part * 4) (true ∷ true ∷ true ∷ true ∷ []) tests register.old }
+{
+    let byte = register[part / 2];
+    let bits = (bits % 16) as u8;
+    if part % 2 == 0 {
+        register[part / 2] = with_low_bits(byte, bits);
+    } else {
+        register[part / 2] = with_high_bits(byte, bits);
+    }
+}
+
+// A byte whose lowest four bits are written, as a number spells them.
+#[inline(always)]
+fn with_low_bits(byte: u8, bits: u8) -> u8
+    ensures { (a b c d : Bool) → bits ≡ mask_l (a ∷ b ∷ c ∷ d ∷ [])
+        → result ≡ with_bit (with_bit (with_bit (with_bit byte 0 a) 1 b) 2 c) 3 d }
+{
+    byte & 0xF0 | bits
+}
+
+// The same of the highest four.
+#[inline(always)]
+fn with_high_bits(byte: u8, bits: u8) -> u8
+    ensures { (a b c d : Bool) → bits ≡ mask_l (a ∷ b ∷ c ∷ d ∷ [])
+        → result ≡ with_bit (with_bit (with_bit (with_bit byte 4 a) 5 b) 6 c) 7 d }
+{
+    byte & 0x0F | bits << 4
 }
 
 // Writes bit `index` of a mask register.
