@@ -262,3 +262,10 @@ compared_words state whole o vs2 other part bytes l =
     sym (ap (λ flags. bits (width state) flags (operand_part state other part)) (part_active_whole state whole part l)
     ∙ ap (bits (width state) (true ∷ true ∷ true ∷ true ∷ [])) (operand_words state whole other part)
     ∙ ap (λ w. bits w (true ∷ true ∷ true ∷ true ∷ []) (words_of state other part)) whole.words)
+
+pub compared_count : (state : Vectors) (f : ℕ → ℕ → Bool) (vs2 : ℕ) (other : Operand) (part : ℕ) → length (zip_with f (words_in state vs2 part) (words_of state other part)) ≡ 4
+unfolding elements
+compared_count state f vs2 (Register v) part = refl
+compared_count state f vs2 (Number n) part = refl
+compared_count state f vs2 (Immediate imm) part = refl
+compared_count state f vs2 (Amount amount) part = refl

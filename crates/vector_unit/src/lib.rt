@@ -27,6 +27,7 @@ mod whole_comparisons;
 mod whole_elements;
 mod whole_instructions;
 mod wholes;
+mod word_comparisons;
 
 pub use crate::accesses::Spacing;
 pub use crate::configuration::Asked;

@@ -13,7 +13,7 @@ ghost use Rattle.std.specs.List.{range_with_len};
 
 use crate::pair_operations::WordOperand;
 use crate::states::VectorState;
-use lanes::{Lanes, mask_bits};
+use lanes::Lanes;
 use rv_insn::VReg;
 
 /// The words that a whole group gets.
@@ -81,10 +81,10 @@ impl<T: WordOperand> WholeElements for Merged<T> {
 
     #[inline(always)]
     fn words(self, state: &VectorState, part: usize) -> Lanes<u32, 4> {
-        let chosen = mask_bits::<4>(part * 4, &state.registers[0]);
+        let new = self.other.words(state, part);
         state
             .words_at(self.vs2, part)
-            .merge(&self.other.words(state, part), &chosen)
+            .merge_by_mask(&new, part, &state.registers[0])
     }
 }
 
