@@ -52,8 +52,8 @@ pub fn write_mask_bits<const N: usize>(
     }
 }
 
-/// Writes the four bits of a mask register from `part * 4` on, as a number spells them, the first one as its lowest bit,
-/// and keeps every other bit.
+/// Writes the four bits of a mask register from `part * 4` on, as a number spells them, the first one as its lowest
+/// bit, and keeps every other bit.
 #[inline(always)]
 pub fn write_four_mask_bits(register: &mut [u8; 16], part: usize, bits: u64)
     requires { part < 32 }

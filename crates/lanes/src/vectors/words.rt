@@ -1,6 +1,7 @@
 //! Vectors of 4 elements of 32 bits.
 
-ghost use Rattle.std.specs.Prelude.{◌≡◌, ◌+◌, ◌-◌, ◌%◌, ◌==◌, not, if◌then◌else◌, map, nat_lt, length, ◌*◌, ◌<◌, bit_and};
+ghost use Rattle.std.specs.Prelude.{◌≡◌, ◌+◌, ◌-◌, ◌%◌, ◌==◌, not};
+ghost use Rattle.std.specs.Prelude.{if◌then◌else◌, map, nat_lt, length, ◌*◌, ◌<◌, bit_and};
 ghost use Rattle.std.specs.Simd.Lanes.{zip2, sel_l, mask_l};
 ghost use Rattle.lanes.specs.Words as word;
 ghost use Rattle.lanes.specs.Words.{zip_with, merged, mask_bits};
