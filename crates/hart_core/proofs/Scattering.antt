@@ -1,7 +1,7 @@
 -- Words that need not lie one behind the other: where they lie, which trap the first that can't be loaded makes, and what they leave.
 use Rattle.std.proofs.Common.{◌≡◌, ℕ, zero, suc, ◌+◌, ◌-◌, ◌*◌, ◌/◌, ◌%◌, ◌<◌, ◌≤◌, List, [], ◌∷◌, ◌++◌, map, take, length, true, false, refl, sym, ◌∙◌, ap}
-use Rattle.std.proofs.Common.{arith, None, Some, Option}
-use Rattle.std.specs.Prelude.{slice_index, slice_set, replicate, nat_lt, not, ◌||◌}
+use Rattle.std.proofs.Common.{arith, subst, None, Some, Option}
+use Rattle.std.specs.Prelude.{slice_index, slice_set, replicate, nat_lt, not, ◌||◌, Result, Ok, Err, IfErr, IsErrAnd}
 use Rattle.std.proofs.Common.{◌&&◌, ◌==◌, ◌⊎◌, inl, inr}
 use Rattle.std.specs.List.{range_with_len}
 use Rattle.std.proofs.lemmas.List.{map-append}
@@ -10,7 +10,7 @@ use Rattle.lanes.specs.Words as word
 use Rattle.lanes.specs.Words.{chosen_of}
 use Rattle.rv_insn.specs.declared.vector_operations.ElementWidth.TheVariants.{Bits32}
 use Rattle.rv_insn.specs.declared.outcomes.Trap.{Trap}
-use Rattle.memory.specs.Access.{Access, access_at, bytes_in, fault_of, first_fault, or_else, Kind, Reads, Word}
+use Rattle.memory.specs.Access.{Access, access_at, bytes_in, fault_of, first_fault, number_at, or_else, Kind, Reads, Word}
 use Rattle.vector_unit.specs.Vector.{Vectors, count, group, is_refused, is_unfit, width}
 use Rattle.vector_unit.specs.Accesses.{addresses_by, filled_from, loaded, offset, offsets_by, with_element_from}
 use Rattle.vector_unit.specs.declared.accesses.Spacing.{Spacing}
@@ -22,7 +22,7 @@ use Rattle.rv_insn.specs.declared.vector_instructions.VectorInsn.TheVariants.{Lo
 use Rattle.rv_insn.specs.declared.vector_instructions.Addressing.TheVariants as addressings
 use Rattle.hart_core.specs.HartState.{HartState, vectors_of, with_vectors}
 use Rattle.hart_core.specs.VectorRows.{accesses_at}
-use Rattle.hart_core.specs.inner.Pieces.{spots}
+use Rattle.hart_core.specs.inner.Pieces.{spots, AreRead}
 use Rattle.hart_core.proofs.Lying.{chosen-all}
 
 -- ---- lists
@@ -109,6 +109,22 @@ read-more f state spacing base i j words word_here e l so_far here =
     ∙ sym (ap (map f) (split (λ k. access_at Word (word.add 32 base (offset state spacing k))) 0 i 1 j (sym e))
     ∙ map-append f (spots state spacing base 0 i) (spots state spacing base (0 + i) 1)
     ∙ ap (λ k. map f (spots state spacing base 0 i) ++ map f (spots state spacing base k 1)) last)
+
+pub more-read : (text memory : List ℕ) (state : Vectors) (spacing : Spacing) (base i j : ℕ) (words : List ℕ) (word_here : ℕ) → j ≡ i + 1 → i < length words
+    → AreRead text memory state spacing base i words
+    → fault_of (length text) (length memory) Reads (word.add 32 base (offset state spacing i)) 4 ≡ None
+    → word_here ≡ number_at text memory (access_at Word (word.add 32 base (offset state spacing i)))
+    → AreRead text memory state spacing base j (slice_set words i word_here)
+more-read text memory state spacing base i j words word_here e l so_far fits here = record {
+  read = read-more (number_at text memory) state spacing base i j words word_here e l so_far.read here;
+  fits = none-more (length text) (length memory) state spacing base i j e so_far.fits fits;
+}
+
+-- the trap that ends it
+pub trap-passed : {T : Type 0} (result : Result T Trap) (fault : Option Trap) (trap : Trap) → IsErrAnd result (λ t. t ≡ trap) → fault ≡ Some trap
+    → IfErr result (λ t. fault ≡ Some t)
+trap-passed (Ok x) fault trap is e = absurd is
+trap-passed (Err t) fault trap is e = e ∙ ap (λ u. Some u) (sym is)
 
 fill-more : (v : ℕ) (state : Vectors) (i n : ℕ) (numbers : List ℕ) → n < length numbers
     → filled_from i state 32 v (replicate (suc n) true) numbers

@@ -1,15 +1,16 @@
 //! Loads of whole groups of words that need not lie one behind the other: each word is judged where it is read, and all
 //! are read before any is written.
 
-ghost use Rattle.std.specs.Prelude.{◌≡◌, ◌<◌, ◌≤◌, ◌*◌, ◌%◌, ℕ, true};
+ghost use Rattle.std.specs.Prelude.{◌≡◌, ◌<◌, ◌≤◌, ◌+◌, ◌*◌, ◌%◌, ℕ, true};
 ghost use Rattle.std.specs.Prelude.{false, replicate, IfErr, IfOk, None, OnErr, OnOk, Some};
 ghost use Rattle.std.specs.Prelude.{length, map, take};
 ghost use Rattle.rv_insn.specs.declared.vector_instructions.VectorInsn.TheVariants.{LoadElements};
 ghost use Rattle.rv_insn.specs.declared.vector_instructions.Addressing.TheVariants as addressings;
 ghost use Rattle.rv_insn.specs.declared.vector_operations.ElementWidth.TheVariants.{Bits32};
-ghost use Rattle.memory.specs.Access.{first_fault, number_at, Reads};
+ghost use Rattle.lanes.specs.Words as word;
+ghost use Rattle.memory.specs.Access.{access_at, fault_of, first_fault, number_at, Reads, Word};
 ghost use Rattle.vector_unit.specs.Vector.{count, group, has_vill, is_refused, width};
-ghost use Rattle.vector_unit.specs.Accesses.{addresses_by, filled_from, loaded, IsHeld};
+ghost use Rattle.vector_unit.specs.Accesses.{addresses_by, filled_from, loaded, offset, IsHeld};
 ghost use Rattle.vector_unit.specs.inner.Wholes.{IsWhole};
 ghost use Rattle.vector_unit.specs.declared.accesses.Spacing.TheVariants.{Indexed, Strided};
 ghost use Rattle.hart_core.specs.HartState.{register, vectors_of, with_vectors};
@@ -20,6 +21,29 @@ use crate::harts::Hart;
 use memory::{Bytes, read_u32};
 use rv_insn::{Reg, Trap, VReg};
 use vector_unit::{Spacing, VectorState};
+
+/// The word of a group that lies so from a base on, or the trap that it makes.
+#[inline(always)]
+fn read_word<M: Bytes>(
+    memory: &M,
+    state: &VectorState,
+    spacing: Spacing,
+    base: u32,
+    index: u32,
+) -> Result<u32, Trap>
+    requires whole { IsWhole state.now }
+    requires index { index < 64 }
+    requires held { IsHeld spacing index }
+    ensures fits { OnOk result (fault_of (length (M.text memory.now)) (length (M.memory memory.now)) Reads
+        (word.add 32 base (offset state.now spacing index)) 4 ≡ None) }
+    ensures number { IfOk result (λ number. number ≡ number_at (M.text memory.now) (M.memory memory.now)
+        (access_at Word (word.add 32 base (offset state.now spacing index)))) }
+    ensures err { IfErr result (λ trap. fault_of (length (M.text memory.now)) (length (M.memory memory.now)) Reads
+        (word.add 32 base (offset state.now spacing index)) 4 ≡ Some trap) }
+{
+    let address = base.wrapping_add(state.word_offset(spacing, index));
+    read_u32(memory, address)
+}
 
 /// The words of a whole group that lie so from a base on, or the trap of the first that can't be loaded.
 #[inline(always)]
@@ -39,9 +63,13 @@ fn read_words<M: Bytes>(
         (spots state.now spacing base 0 (count state.now)) ≡ Some trap) }
 {
     let mut words = [0; 16];
-    for index in 0..state.count() {
-        let address = base.wrapping_add(state.word_offset(spacing, index));
-        words[index as usize] = read_u32(memory, address)?;
+    for part in 0..state.count() / 4 {
+        let first = 4 * part;
+        let at = first as usize;
+        words[at] = read_word(memory, state, spacing, base, first)?;
+        words[at + 1] = read_word(memory, state, spacing, base, first + 1)?;
+        words[at + 2] = read_word(memory, state, spacing, base, first + 2)?;
+        words[at + 3] = read_word(memory, state, spacing, base, first + 3)?;
     }
     Ok(words)
 }

@@ -1,12 +1,12 @@
 -- Accesses to all elements of a group that lie one behind the other in data: the words of private functions, which a reader need
 -- not believe.
-use Rattle.std.specs.Prelude.{◌≡◌, ◌<◌, ◌≤◌, ℕ, zero, suc, ◌+◌, ◌*◌, ◌%◌, ◌^◌, Bool, true, false, IsTrue, List, [], ◌∷◌, map, replicate}
+use Rattle.std.specs.Prelude.{◌≡◌, ◌<◌, ◌≤◌, ℕ, zero, suc, ◌+◌, ◌*◌, ◌%◌, ◌^◌, Bool, true, false, IsTrue, List, [], ◌∷◌, map, replicate, take, length, None}
 use Rattle.std.specs.List.{range_with_len}
 use Rattle.rv_insn.specs.declared.vector_instructions.VectorInsn.{VectorInsn}
 use Rattle.rv_insn.specs.declared.vector_instructions.VectorInsn.TheVariants as v
 use Rattle.rv_insn.specs.declared.vector_operations.ElementWidth.{ElementWidth}
 use Rattle.rv_insn.specs.declared.vector_operations.ElementWidth.TheVariants as widths
-use Rattle.memory.specs.Access.{in_data, put, spread, touched, Access, Word, access_at, bytes_in}
+use Rattle.memory.specs.Access.{in_data, put, spread, touched, Access, Reads, Word, access_at, bytes_in, first_fault, number_at}
 use Rattle.lanes.specs.Words as word
 use Rattle.vector_unit.specs.Vector.{Vectors, count, group, has_vill, width, active_in}
 use Rattle.vector_unit.specs.declared.accesses.Spacing.{Spacing}
@@ -67,3 +67,8 @@ is_access insn = false
 -- the accesses to so many words from one on that lie so from a base on
 abbrev pub spots : Vectors → Spacing → ℕ → ℕ → ℕ → List Access
 spots state spacing base i n = map (λ k. access_at Word (word.add 32 base (offset state spacing k))) (range_with_len i n)
+
+-- the first words are those of as many elements, none of which makes a trap
+pub record AreRead (text memory : List ℕ) (state : Vectors) (spacing : Spacing) (base n : ℕ) (words : List ℕ) : Type 0 where
+  pub read : take n words ≡ map (number_at text memory) (spots state spacing base 0 n)
+  pub fits : first_fault (length text) (length memory) Reads (spots state spacing base 0 n) ≡ None
