@@ -1,6 +1,6 @@
 -- Words that need not lie one behind the other: where they lie, which trap the first that can't be loaded makes, and what they leave.
 use Rattle.std.proofs.Common.{◌≡◌, ℕ, zero, suc, ◌+◌, ◌-◌, ◌*◌, ◌/◌, ◌%◌, ◌<◌, ◌≤◌, List, [], ◌∷◌, ◌++◌, map, take, length, true, false, refl, sym, ◌∙◌, ap}
-use Rattle.std.proofs.Common.{arith, subst, None, Some, Option}
+use Rattle.std.proofs.Common.{arith, None, Some, Option}
 use Rattle.std.specs.Prelude.{slice_index, slice_set, replicate, nat_lt, not, ◌||◌, Result, Ok, Err, IfErr, IsErrAnd}
 use Rattle.std.proofs.Common.{◌&&◌, ◌==◌, ◌⊎◌, inl, inr}
 use Rattle.std.specs.List.{range_with_len}

@@ -1,4 +1,4 @@
-use Rattle.std.proofs.Common.{◌≡◌, ◌<◌, ◌+◌, ◌*◌, ◌/◌, ◌∙◌, refl, rules, arith, ap, length, None}
+use Rattle.std.proofs.Common.{◌≡◌, ◌<◌, ◌+◌, ◌*◌, ◌/◌, ◌∙◌, refl, arith, ap, length, None}
 use Rattle.std.specs.Prelude.{slice_set}
 use Rattle.std.proofs.Math.ListN.{length-set}
 use Rattle.memory.specs.Access.{Reads, first_fault}
@@ -117,11 +117,11 @@ loop-part-preserved g c =
     let long2 : length words2 ≡ 16 = length-set words1 (i + 1) c.in_ok-words-2.field-0 ∙ long1 in
     let long3 : length words3 ≡ 16 = length-set words2 (i + 2) c.in_ok-words-3.field-0 ∙ long2 in
     let read1 = more-read text memory state spacing base i (i + 1) words0 c.in_ok-words.field-0 refl (omega (arith, long0, room)) c.loop-part.invariant.read
-        c.in_ok-words.ensures.fits c.in_ok-words.ensures.number in
+    c.in_ok-words.ensures.fits c.in_ok-words.ensures.number in
     let read2 = more-read text memory state spacing base (i + 1) (i + 2) words1 c.in_ok-words-2.field-0 (omega arith) (omega (arith, long1, room)) read1
-        c.in_ok-words-2.ensures.fits c.in_ok-words-2.ensures.number in
+    c.in_ok-words-2.ensures.fits c.in_ok-words-2.ensures.number in
     let read3 = more-read text memory state spacing base (i + 2) (i + 3) words2 c.in_ok-words-3.field-0 (omega arith) (omega (arith, long2, room)) read2
-        c.in_ok-words-3.ensures.fits c.in_ok-words-3.ensures.number in
+    c.in_ok-words-3.ensures.fits c.in_ok-words-3.ensures.number in
     record {
       end = ap (λ n. n / 4) end;
       long = length-set words3 (i + 3) c.in_ok-words-4.field-0 ∙ long3;
