@@ -7,7 +7,8 @@ ghost use Rattle.halide_pipeline.specs.declared.environments.Environment.{Enviro
 ghost use Rattle.picture.specs.inner.Evaluation.{inputs_of, earlier_of, stage_in, AreTables};
 ghost use Rattle.picture.specs.inner.PixelRows.{one_more, IsRowOf, StoresEverywhere};
 
-use crate::lines::{Along, Line, Own, shared_row};
+use crate::line_values::shared_row;
+use crate::lines::{Along, Line, Own};
 use crate::lookups::{has_boxes, known_box};
 use crate::plain::stage;
 use crate::points::{at_point, at_reduction, points};
@@ -127,11 +128,11 @@ fn is_quick(tables: &[Table], own: usize, update: &Update, y: u32) -> bool
     reads_tables(tables, own, &update.right) && stores_everywhere(update, y)
 }
 
-/// Whether the last part of a Func's definition is computed for all pixels of a row at once, or is known of boxes. That
-/// is done once where there are updates: behind it a table has the pixels.
-pub(crate) fn is_func_quick(scene: &Scene, own: usize, func: &Func, y: u32) -> bool {
+/// Whether the last update of a Func is run along rows of pixels, or is known of boxes. That is done once: behind it a
+/// table has the pixels.
+fn is_last_quick(scene: &Scene, own: usize, func: &Func, y: u32) -> bool {
     match func.updates.as_slice().last() {
-        None => reads_tables(scene.tables, own, &func.pure),
+        None => false,
         Some(update) => {
             scene.tables.len() <= own
                 && (is_quick(scene.tables, own, update, y)
@@ -306,4 +307,31 @@ pub(crate) fn stage_pixels(
     }
     let pixels = stages_one_by_one(scene, own, func, updates, stretch)?;
     Ok(pixels)
+}
+
+/// Pixels of a Func, where the last part of its definition is computed for all of them at once.
+pub(crate) fn pixels_at_once(
+    scene: &Scene,
+    own: usize,
+    func: &Func,
+    stretch: Stretch,
+) -> Result<Option<Vec<u32>>, AllocError>
+    requires tables { AreTables scene.now }
+    requires is { slice_get scene.now.funcs.now own ≡ Some func.now }
+    requires narrow { stretch.width < 2 ^ 32 }
+    ensures { IfOk result (λ found. IfSome found (λ pixels. IsRowOf (spec.stage own func.now (inputs_of scene.now)
+        (earlier_of scene.now own) (length func.now.updates)) stretch pixels.items)) }
+{
+    if func.updates.is_empty() {
+        if !reads_tables(scene.tables, own, &func.pure) {
+            return Ok(None);
+        }
+        let pixels = pure_pixels(scene, own, func, stretch)?;
+        return Ok(pixels);
+    }
+    if !is_last_quick(scene, own, func, stretch.y) {
+        return Ok(None);
+    }
+    let pixels = stage_pixels(scene, own, func, func.updates.len(), stretch)?;
+    Ok(Some(pixels))
 }

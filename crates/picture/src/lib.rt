@@ -19,6 +19,7 @@ mod evaluation;
 pub mod faults;
 mod in_place;
 mod keeping;
+mod line_values;
 mod lines;
 mod lookups;
 mod memos;

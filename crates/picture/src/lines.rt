@@ -1,4 +1,5 @@
-//! Expressions along lines: points one beside the other, at which they are computed at once.
+//! Lines: points one beside the other, at which expressions are computed at once. What each kind of expression makes of
+//! the rows of its parts.
 
 ghost use Rattle.std.specs.Prelude.{◌≡◌, ◌==◌, ◌<◌, ◌^◌, ℕ, IfOk, IfSome, cond, length};
 ghost use Rattle.halide_pipeline.specs.Pixel as spec;
@@ -10,7 +11,7 @@ ghost use Rattle.picture_rows.specs.Rows.{AreValues, HasLength, IsRow, value_at}
 use crate::lookups::pixel_in;
 use crate::row_reads::{read_row, table_window};
 use crate::scenes::{Scene, Table};
-use halide_pipeline::{Environment, Expr, Operation, Source, Variable};
+use halide_pipeline::{Environment, Operation, Source, Variable};
 use picture_rows::Row;
 use std::alloc::{AllocError, Global};
 
@@ -46,7 +47,7 @@ pub(crate) struct Line<'a> {
 }
 
 /// What a variable stands for along a line.
-fn variable_along(variable: Variable, start: Environment, along: Along) -> Row
+pub(crate) fn variable_along(variable: Variable, start: Environment, along: Along) -> Row
     ensures { (width : ℕ) → IsRow width (λ at. spec.variable (line_point along start at) variable) result }
 {
     match variable {
@@ -179,7 +180,7 @@ fn own_read(alloc: Global, line: Line, x: &Row, y: &Row) -> Result<Option<Row>, 
 }
 
 /// What reads of a source answer along a line; none where they are of the own Func, and that isn't known there.
-fn shared_read(
+pub(crate) fn shared_read(
     scene: &Scene,
     own: usize,
     line: Line,
@@ -211,7 +212,7 @@ fn shared_read(
 }
 
 /// What an operation makes of two sides along a line, where both are known.
-fn shared_both(
+pub(crate) fn shared_both(
     alloc: Global,
     line: Line,
     operation: Operation,
@@ -236,7 +237,7 @@ fn shared_both(
 }
 
 /// Quotients along a line, where the numbers are known.
-fn shared_quotients(
+pub(crate) fn shared_quotients(
     alloc: Global,
     line: Line,
     a: Option<Row>,
@@ -255,7 +256,7 @@ fn shared_quotients(
 }
 
 /// Remainders along a line, where the numbers are known.
-fn shared_remainders(
+pub(crate) fn shared_remainders(
     alloc: Global,
     line: Line,
     a: Option<Row>,
@@ -274,7 +275,7 @@ fn shared_remainders(
 }
 
 /// One of two sides at each point of a line, where both are known and what they are chosen by is.
-fn shared_choice(
+pub(crate) fn shared_choice(
     alloc: Global,
     line: Line,
     condition: Option<Row>,
@@ -301,78 +302,4 @@ fn shared_choice(
     };
     let row = a.chosen(alloc, condition, b, line.width)?;
     Ok(Some(row))
-}
-
-/// The values of an expression along a line; none where it reads the own Func and that isn't known there.
-#[tactic(auto, unfolding(halide_pipeline::specs::Pixel::value))]
-pub(crate) fn shared_row(
-    scene: &Scene,
-    own: usize,
-    line: Line,
-    expr: &Expr,
-) -> Result<Option<Row>, AllocError>
-    requires tables { AreTables scene.now }
-    requires line { IsLine line }
-    requires narrow { line.width < 2 ^ 32 }
-    ensures len { IfOk result (λ found. IfSome found (HasLength line.entry.width)) }
-    ensures values { IfOk result (λ found. IfSome found (IsShared line.entry
-        (λ plane at. spec.value (reads_with scene.now own plane) (line_point line.entry.along line.entry.start at)
-        expr.now))) }
-{
-    match expr {
-        Expr::Number(number) => Ok(Some(Row::Same(*number))),
-        Expr::Variable(own_variable) => {
-            Ok(Some(variable_along(*own_variable, line.start, line.along)))
-        }
-        Expr::Binary(operation, a, b) => {
-            let a = shared_row(scene, own, line, a.get())?;
-            let b = shared_row(scene, own, line, b.get())?;
-            shared_both(scene.alloc, line, *operation, a, b)
-        }
-        Expr::Divide(a, divisor) => {
-            let a = shared_row(scene, own, line, a.get())?;
-            shared_quotients(scene.alloc, line, a, *divisor)
-        }
-        Expr::Remainder(a, divisor) => {
-            let a = shared_row(scene, own, line, a.get())?;
-            shared_remainders(scene.alloc, line, a, *divisor)
-        }
-        Expr::Select(condition, a, b) => {
-            let condition = shared_row(scene, own, line, condition.get())?;
-            let a = shared_row(scene, own, line, a.get())?;
-            let b = shared_row(scene, own, line, b.get())?;
-            shared_choice(scene.alloc, line, condition, a, b)
-        }
-        Expr::Call1(source, x) => {
-            let x = shared_row(scene, own, line, x.get())?;
-            shared_read(scene, own, line, *source, x, Some(Row::Same(0)))
-        }
-        Expr::Call2(source, x, y) => {
-            let x = shared_row(scene, own, line, x.get())?;
-            let y = shared_row(scene, own, line, y.get())?;
-            shared_read(scene, own, line, *source, x, y)
-        }
-    }
-}
-
-/// The values along a line of an index that may not be written, which is 0 then.
-pub(crate) fn index_row(
-    scene: &Scene,
-    own: usize,
-    line: Line,
-    index: &Option<Expr>,
-) -> Result<Option<Row>, AllocError>
-    requires tables { AreTables scene.now }
-    requires line { IsLine line }
-    requires narrow { line.width < 2 ^ 32 }
-    ensures { IfOk result (λ found. IfSome found (IsShared line.entry (λ plane at. spec.index_value
-        (reads_with scene.now own plane) (line_point line.entry.along line.entry.start at) index.now))) }
-{
-    match index {
-        None => Ok(Some(Row::Same(0))),
-        Some(index) => {
-            let row = shared_row(scene, own, line, index)?;
-            Ok(row)
-        }
-    }
 }

@@ -5,7 +5,7 @@ ghost use Rattle.halide_pipeline.specs.Words as word;
 ghost use Rattle.picture.specs.inner.Evaluation.{plane_of, AreTables};
 ghost use Rattle.picture_rows.specs.Rows.{AreValues};
 
-use crate::in_place::{Stretch, is_func_quick, stage_pixels};
+use crate::in_place::{Stretch, pixels_at_once};
 use crate::lookups::func_at;
 use crate::plain::pixel;
 use crate::row_reads::{table_at, table_window};
@@ -81,10 +81,8 @@ fn pixel_stretch(
     }
     if width >= FEW
         && let Some(func) = func_at(scene.funcs, place)
-        && is_func_quick(scene, place, func, y)
+        && let Some(pixels) = pixels_at_once(scene, place, func, Stretch { left, y, width })?
     {
-        let stretch = Stretch { left, y, width };
-        let pixels = stage_pixels(scene, place, func, func.updates.len(), stretch)?;
         return Ok(pixels);
     }
     let pixels = pixels_one_by_one(scene, place, left, y, width)?;

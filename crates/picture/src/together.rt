@@ -11,7 +11,8 @@ ghost use Rattle.picture_rows.specs.Rows.{HasLength};
 
 use crate::boxes::Bounds;
 use crate::in_place::{Stretch, is_first, is_second, stage_pixels};
-use crate::lines::{Along, Line, Own, index_row, shared_row};
+use crate::line_values::{index_row, shared_row};
+use crate::lines::{Along, Line, Own};
 use crate::points::{at_reduction, is_forward, points};
 use crate::scenes::{Pass, Scene, Table};
 use halide_pipeline::{Expr, Update, words};

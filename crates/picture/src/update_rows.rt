@@ -9,7 +9,8 @@ ghost use Rattle.picture.specs.inner.Lines.{reads_with, reduction_line, row_poin
 ghost use Rattle.picture.specs.inner.UpdateRows.{AreIndices, IsRight, IsUpdateRow};
 ghost use Rattle.picture_rows.specs.Rows.{HasLength, value_at};
 
-use crate::lines::{Along, Line, Own, index_row, is_own, shared_row};
+use crate::line_values::{index_row, shared_row};
+use crate::lines::{Along, Line, Own, is_own};
 use crate::scenes::Scene;
 use halide_pipeline::{Environment, Expr, Operation, Update};
 use picture_rows::Row;

@@ -1,11 +1,12 @@
 -- Expressions along lines. Nothing here is to be believed: the contract of `evaluate` doesn't speak of it.
 -- This project's own.
 use Rattle.std.specs.Prelude.{◌≡◌, ℕ, ◌<◌, Bool, false, ◌==◌, length}
+use Rattle.halide_pipeline.specs.declared.expressions.Expr.{Expr}
 use Rattle.halide_pipeline.specs.declared.expressions.Source.{Source}
 use Rattle.halide_pipeline.specs.declared.expressions.Source.TheVariants as sources
 use Rattle.halide_pipeline.specs.declared.environments.Environment.{Environment}
 use Rattle.halide_pipeline.specs.Words as word
-use Rattle.halide_pipeline.specs.Pixel.{Plane, Reads, reads_of, with_plane}
+use Rattle.halide_pipeline.specs.Pixel.{Plane, Reads, reads_of, value, with_plane}
 use Rattle.picture.specs.declared.lines.Along.{Along}
 use Rattle.picture.specs.declared.lines.Along.TheVariants as alongs
 use Rattle.picture.specs.declared.lines.Line.{Line}
@@ -70,6 +71,10 @@ Fits line plane = Knows line.width line.start line.own plane
 -- reads, where the own Func answers by this plane
 abbrev pub reads_with : Scene → ℕ → Plane → Reads
 reads_with scene own plane = reads_of (inputs_of scene) (with_plane own plane (earlier_of scene own))
+
+-- the value of an expression at a point of a line, where the own Func answers by this plane
+abbrev pub value_along : Scene → ℕ → Line → Expr → Plane → ℕ → ℕ
+value_along scene own line expr plane at = value (reads_with scene own plane) (line_point line.along line.start at) expr
 
 abbrev pub is_own : ℕ → Source → Bool
 is_own own (sources.Input place) = false

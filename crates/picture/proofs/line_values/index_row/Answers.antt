@@ -1,5 +1,5 @@
 use Rattle.picture.proofs.AlongLines.{index-some}
-use Rattle.picture.proofs.lines.index_row.Goals as goal
+use Rattle.picture.proofs.line_values.index_row.Goals as goal
 
 pub returns-in_ok-row-in-Some : goal.returns-in_ok-row-in-Some
 returns-in_ok-row-in-Some c = index-some c.args.scene.now c.args.own c.args.line c.args.index.now c.in-Some.index c.in_ok-row-in-Some.row c.in-Some.is
